@@ -1,11 +1,15 @@
-ghost use Rattle.std.specs.Prelude.{◌≡◌, ◌&&◌, not, IsTrue, Ok, Err, MatchResult};
-ghost use Rattle.std.specs.Str.{chars};
-ghost use Rattle.cc_base.specs.Names.{is_letter, is_letter_or_digit, has_name_form, is_reserved, spells_name, IsName};
+ghost use Rattle.std.specs.Prelude.{◌≡◌, ◌↔◌, false, Some, IfOk, IsErrOf, encode_utf8_all};
+ghost use Rattle.std.specs.Str.{chars, bytes_eq};
+ghost use Rattle.std.specs.Char.{is_ascii_alphabetic, is_ascii_alphanumeric};
+ghost use Rattle.std.specs.List.{list_all, list_any};
+ghost use Rattle.std.specs.Cmp.{partial_equiv_from_equiv};
+ghost use Rattle.std.specs.Cmp.Lexicographic.{nat_list_eq_equiv};
+ghost use Rattle.cc_base.specs.Names.{first_passes, is_reserved, spells_name};
 
 use std::alloc::{AllocError, Global};
 use std::fmt;
 use std::marker::Model;
-use std::string::RcStr;
+use std::rc::RcStr;
 
 /// The words of the language, which name nothing.
 pub const RESERVED_WORDS: [&str; 27] = [
@@ -14,43 +18,39 @@ pub const RESERVED_WORDS: [&str; 27] = [
     "Counter", "Exit", "Box",
 ];
 
-/// A letter of ASCII.
-pub fn is_letter(character: char) -> bool
-    ensures { result ≡ is_letter character }
+fn first_is_letter(text: &str) -> bool
+    ensures { result ≡ first_passes is_ascii_alphabetic (chars text.now) }
 {
-    character.is_ascii_alphabetic()
-}
-
-/// A letter or a digit of ASCII.
-pub fn is_letter_or_digit(character: char) -> bool
-    ensures { result ≡ is_letter_or_digit character }
-{
-    character.is_ascii_alphanumeric()
-}
-
-/// Whether the text is a letter and then letters and digits.
-fn has_name_form(text: &str) -> bool
-    ensures { result ≡ has_name_form (chars text.now) }
-{
-    let mut characters = text.chars();
-    match characters.next() {
-        Some(first) => is_letter(first) && characters.all(is_letter_or_digit),
+    match text.chars().next() {
+        Some(first) => first.is_ascii_alphabetic(),
         None => false,
     }
+}
+
+fn all_are_letters_or_digits(text: &str) -> bool
+    ensures { result ≡ list_all is_ascii_alphanumeric (chars text.now) }
+{
+    text.chars().all(|character| character.is_ascii_alphanumeric())
+}
+
+fn is_among(words: &[&str], text: &str) -> bool
+    ensures { result ≡ list_any (λ word. bytes_eq word.now text.now) words.now }
+{
+    words.iter().any(|word| *word == text)
 }
 
 /// Whether the text is one of the reserved words.
 pub fn is_reserved(text: &str) -> bool
     ensures { result ≡ is_reserved (chars text.now) }
 {
-    RESERVED_WORDS.iter().any(|word| *word == text)
+    is_among(&RESERVED_WORDS, text)
 }
 
 /// Whether the text is a name: a letter, then letters and digits, and no reserved word.
 pub fn is_name(text: &str) -> bool
     ensures { result ≡ spells_name (chars text.now) }
 {
-    has_name_form(text) && !is_reserved(text)
+    first_is_letter(text) && all_are_letters_or_digits(text) && !is_reserved(text)
 }
 
 /// Why a text gives no `Name`.
@@ -84,7 +84,8 @@ impl Model for Name {
 impl Name {
     /// The name that the text is, refused exactly where it is none.
     pub fn read(alloc: Global, text: &str) -> Result<Name, NameError>
-        ensures { NameOf result (chars text.now) }
+        ensures ok { IfOk result (λ name. name ≡ chars text.now) }
+        ensures refused { IsErrOf result NameError.NotAName ↔ (spells_name (chars text.now) ≡ false) }
     {
         if !is_name(text) {
             return Err(NameError::NotAName);
@@ -97,8 +98,42 @@ impl Name {
 
     /// The name as text.
     pub fn as_str(&self) -> &str
-        ensures { chars result.now ≡ self.now }
+        ensures bytes { result.now ≡ encode_utf8_all self.now }
+        ensures characters { chars result.now ≡ self.now }
     {
         self.text.as_str()
     }
+}
+
+/// The text of the name.
+impl fmt::Display for Name {
+    ghost output = { λ name. Some (encode_utf8_all name) };
+
+    fn fmt<W: fmt::Write>(&self, f: &mut fmt::Formatter<W>) -> fmt::Result {
+        f.write_str(self.as_str())
+    }
+}
+
+/// A clone shares the text.
+impl Clone for Name {
+    ghost is_clone = { λ name copy. copy ≡ name };
+
+    fn clone(&self) -> Result<Name, AllocError> {
+        let text = self.text.clone()?;
+        Ok(Name { text })
+    }
+}
+
+impl PartialEq for Name {
+    ghost eq = { λ a b. bytes_eq a b };
+
+    ghost laws = { partial_equiv_from_equiv nat_list_eq_equiv };
+
+    fn eq(&self, other: &Name) -> bool {
+        self.as_str() == other.as_str()
+    }
+}
+
+impl Eq for Name {
+    ghost laws = { nat_list_eq_equiv };
 }

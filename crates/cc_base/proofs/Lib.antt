@@ -1,0 +1,2 @@
+mod ReservedWords
+mod NameTexts
