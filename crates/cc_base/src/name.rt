@@ -14,8 +14,8 @@ use std::rc::RcStr;
 /// The words of the language, which name nothing.
 pub const RESERVED_WORDS: [&str; 27] = [
     "import", "def", "rec", "fun", "val", "if", "then", "else", "box", "unbox", "boundary", "exit",
-    "repeat", "true", "false", "unit", "cap", "Unit", "Bool", "Int", "Str", "Any", "Console", "File",
-    "Counter", "Exit", "Box",
+    "repeat", "true", "false", "unit", "cap", "Unit", "Bool", "Int", "Str", "Any", "Console",
+    "File", "Counter", "Exit", "Box",
 ];
 
 fn first_is_letter(text: &str) -> bool
@@ -30,7 +30,8 @@ fn first_is_letter(text: &str) -> bool
 fn all_are_letters_or_digits(text: &str) -> bool
     ensures { result ≡ list_all is_ascii_alphanumeric (chars text.now) }
 {
-    text.chars().all(|character| character.is_ascii_alphanumeric())
+    text.chars()
+        .all(|character| character.is_ascii_alphanumeric())
 }
 
 fn is_among(words: &[&str], text: &str) -> bool
