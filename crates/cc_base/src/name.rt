@@ -1,10 +1,10 @@
-ghost use Rattle.std.specs.Prelude.{◌≡◌, ◌↔◌, false, Some, IfOk, IsErrOf, encode_utf8_all};
+ghost use Rattle.std.specs.Prelude.{◌≡◌, ◌↔◌, false, Some, IfOk, OnOk, IsErrOf, encode_utf8_all};
 ghost use Rattle.std.specs.Str.{chars, bytes_eq};
 ghost use Rattle.std.specs.Char.{is_ascii_alphabetic, is_ascii_alphanumeric};
 ghost use Rattle.std.specs.List.{list_all, list_any};
 ghost use Rattle.std.specs.Cmp.{partial_equiv_from_equiv};
 ghost use Rattle.std.specs.Cmp.Lexicographic.{nat_list_eq_equiv};
-ghost use Rattle.cc_base.specs.Names.{first_passes, is_reserved, spells_name};
+ghost use Rattle.cc_base.specs.Names.{first_passes, is_reserved, spells_name, IsName};
 
 use std::alloc::{AllocError, Global};
 use std::fmt;
@@ -86,6 +86,7 @@ impl Name {
     /// The name that the text is, refused exactly where it is none.
     pub fn read(alloc: Global, text: &str) -> Result<Name, NameError>
         ensures ok { IfOk result (λ name. name ≡ chars text.now) }
+        ensures named { OnOk result (IsName (chars text.now)) }
         ensures refused { IsErrOf result NameError.NotAName ↔ (spells_name (chars text.now) ≡ false) }
     {
         if !is_name(text) {

@@ -1,0 +1,185 @@
+-- Each step of reading gives what stands there, and what stands there is read.
+use Rattle.std.proofs.Common.{◌≡◌, ◌≢◌, ℕ, zero, suc, ◌+◌, ◌-◌, ◌*◌, ◌^◌, ◌<◌, ◌≤◌, ◌/◌, ◌%◌, Bool, true, false, ◌&&◌, ◌==◌, eqb, cond, List, [], ◌∷◌, ◌++◌, length, take, drop, get_or, Option, Some, None, refl, sym, ap, ◌∙◌, subst, inl, inr, ◌⊎◌, ⊎_elim, arith, rules, tests}
+use Rattle.std.specs.Prelude.{codes, encode_utf8_all, IsTrue}
+use Rattle.std.specs.Option.{option_map, option_and_then}
+use Rattle.std.specs.Str.{chars, is_utf8, bytes_eq, IsUtf8, IsAscii}
+use Rattle.std.specs.List.{list_all}
+use Rattle.std.specs.Char.{is_ascii_alphanumeric, is_ascii_alphabetic}
+use Rattle.std.specs.Fmt.{decimal}
+use Rattle.std.proofs.lemmas.Str.{IsUtf8-from_is_utf8, is_utf8-from_IsUtf8, encodes-chars, chars-IsAscii, encodes-IsAscii, IsUtf8-from_ascii}
+use Rattle.std.proofs.lemmas.Slice.Eq.{bytes_eq-Decides}
+use Rattle.std.proofs.lemmas.List.{take-append-drop, take_at, drop_at, length-append, at_drop_more, append_assoc, take_more, same_from_push}
+use Rattle.std.proofs.lemmas.Bool.Decides.{nat_tests, Decides-eqb}
+use Rattle.std.proofs.lemmas.Fmt.{decimal_by_steps}
+use Rattle.std.proofs.lemmas.Option.{some_pair_parts}
+use Rattle.cc_base.specs.Names.{spells_name, first_passes, is_reserved, IsName}
+use Rattle.cc_job.specs.Reading.{◌>>=◌, after_prefix, before_suffix, cut_at, name_of, first_of_both, text_before_check}
+
+-- a step that gave something
+pub some_from_bind : {A B : Type 0} (o : Option A) (f : A → Option B) (y : B) → (o >>= f) ≡ Some y → (x : A) × (o ≡ Some x) × (f x ≡ Some y)
+some_from_bind None f y h = cc
+some_from_bind (Some x) f y h = (x, refl, h)
+
+-- a test that passed
+pub passed : {A : Type 0} (b : Bool) (x y : A) → cond b (Some x) None ≡ Some y → (b ≡ true) × (x ≡ y)
+passed true x y h = (refl, cc)
+passed false x y h = cc
+
+pub both : (a b : Bool) → (a && b) ≡ true → (a ≡ true) × (b ≡ true)
+both true true h = (refl, refl)
+both true false h = cc
+both false b h = cc
+
+module _ (bytes prefix rest : List ℕ) where
+  pub after_prefix_gives : after_prefix bytes prefix ≡ Some rest → bytes ≡ prefix ++ rest
+  after_prefix_gives h =
+      let p = passed _ _ _ h in
+      let front = (bytes_eq-Decides (take (length prefix) bytes) prefix).0 p.0 in
+      sym (take-append-drop (length prefix) bytes) ∙ (ap (λ xs. xs ++ drop (length prefix) bytes) front ∙ ap (λ xs. prefix ++ xs) p.1)
+
+pub after_prefix-append : (prefix rest : List ℕ) → after_prefix (prefix ++ rest) prefix ≡ Some rest
+after_prefix-append prefix rest =
+    let same = (bytes_eq-Decides (take (length prefix) (prefix ++ rest)) prefix).1 (take_at prefix rest (length prefix) refl) in
+    rw (same, drop_at prefix rest (length prefix) refl)
+
+pub before_suffix_gives : (bytes suffix front : List ℕ) → before_suffix bytes suffix ≡ Some front → bytes ≡ front ++ suffix
+before_suffix_gives bytes suffix front h =
+    let n = length bytes - length suffix in
+    let p = passed _ _ _ h in
+    let back = (bytes_eq-Decides (drop n bytes) suffix).0 p.0 in
+    sym (take-append-drop n bytes) ∙ (ap (λ xs. take n bytes ++ xs) back ∙ ap (λ xs. xs ++ suffix) p.1)
+
+pub before_suffix-append : (front suffix : List ℕ) → before_suffix (front ++ suffix) suffix ≡ Some front
+before_suffix-append front suffix =
+    let n : length front ≡ length (front ++ suffix) - length suffix = omega (arith, length-append front suffix) in
+    let same = (bytes_eq-Decides (drop (length (front ++ suffix) - length suffix) (front ++ suffix)) suffix).1 (drop_at front suffix _ n) in
+    rw (same, take_at front suffix _ n)
+
+-- the list has no c
+abbrev pub Lacks : ℕ → List ℕ → Type 0
+Lacks c [] = Unit {0}
+Lacks c (b ∷ bs) = ((b == c) ≡ false) × Lacks c bs
+
+cut_cons : (c b : ℕ) (bs word rest : List ℕ) (test : Bool) (inner : Option (List ℕ × List ℕ)) → (b == c) ≡ test → ((w r : List ℕ) → inner ≡ Some (w, r) → bs ≡ w ++ c ∷ r) → cond {A = Option (List ℕ × List ℕ)} test (Some ([], bs)) (option_map (λ cut. (b ∷ cut.0, cut.1)) inner) ≡ Some (word, rest) → b ∷ bs ≡ word ++ c ∷ rest
+cut_cons c b bs word rest true inner t deeper h =
+    let same = (Decides-eqb b c).0 t in
+    let parts = some_pair_parts [] word bs rest h in
+    ap (λ x. x ∷ bs) same ∙ (ap (λ xs. c ∷ xs) parts.1 ∙ ap (λ w. w ++ c ∷ rest) parts.0)
+cut_cons c b bs word rest false None t deeper h = cc
+cut_cons c b bs word rest false (Some cut) t deeper h =
+    let parts = some_pair_parts (b ∷ cut.0) word cut.1 rest h in
+    ap (λ xs. b ∷ xs) (deeper cut.0 cut.1 refl) ∙ (ap (λ r. (b ∷ cut.0) ++ c ∷ r) parts.1 ∙ ap (λ w. w ++ c ∷ rest) parts.0)
+
+pub cut_at_gives : (c : ℕ) (bytes word rest : List ℕ) → cut_at c bytes ≡ Some (word, rest) → bytes ≡ word ++ c ∷ rest
+cut_at_gives c [] word rest h = cc
+cut_at_gives c (b ∷ bs) word rest h = cut_cons c b bs word rest (b == c) (cut_at c bs) refl (λ w r e. cut_at_gives c bs w r e) h
+
+pub cut_at-append : (c : ℕ) (word rest : List ℕ) → Lacks c word → cut_at c (word ++ c ∷ rest) ≡ Some (word, rest)
+cut_at-append c [] rest h = let same = (Decides-eqb c c).1 refl in rw same refl
+cut_at-append c (b ∷ word) rest h = rw (h.0, cut_at-append c word rest h.1) refl
+
+-- one turn of the search for c
+abbrev pub before_cut : List ℕ → Option (List ℕ × List ℕ) → Option (List ℕ × List ℕ)
+before_cut front cut = option_map (λ it. (front ++ it.0, it.1)) cut
+
+before_cut_more : (front : List ℕ) (b : ℕ) (cut : Option (List ℕ × List ℕ)) → before_cut front (option_map (λ it. (b ∷ it.0, it.1)) cut) ≡ before_cut (front ++ b ∷ []) cut
+before_cut_more front b None = refl
+before_cut_more front b (Some cut) = ap (λ xs. Some (xs, cut.1)) (sym (append_assoc front (b ∷ []) cut.0))
+
+pub cut_at_turn : (c : ℕ) (bytes : List ℕ) (i : ℕ) → i < length bytes → (get_or bytes i 0 == c) ≡ false → before_cut (take i bytes) (cut_at c (drop i bytes)) ≡ before_cut (take (i + 1) bytes) (cut_at c (drop (i + 1) bytes))
+cut_at_turn c bytes i inside other =
+    ap (before_cut (take i bytes)) (at_drop_more (cut_at c) bytes i 0 inside)
+    ∙ (rw (other, take_more bytes i 0 inside) (before_cut_more (take i bytes) (get_or bytes i 0) (cut_at c (drop (i + 1) bytes))))
+
+-- a name is ASCII, so its text is itself, and no separator stands in it
+alphanumeric_is_ascii : (c : ℕ) → is_ascii_alphanumeric c ≡ true → (c < 128) × ((c == 32) ≡ false) × ((c == 10) ≡ false)
+alphanumeric_is_ascii c h = (grind (arith, nat_tests), grind (arith, nat_tests), grind (arith, nat_tests))
+
+list_all-cons : (test : ℕ → Bool) (c : ℕ) (cs : List ℕ) → list_all test (c ∷ cs) ≡ true → (test c ≡ true) × (list_all test cs ≡ true)
+list_all-cons test c cs h = both (test c) (list_all test cs) h
+
+IsAscii-alphanumeric : (cs : List ℕ) → list_all is_ascii_alphanumeric cs ≡ true → IsAscii cs
+IsAscii-alphanumeric [] h zero = omega arith
+IsAscii-alphanumeric [] h (suc i) = omega arith
+IsAscii-alphanumeric (c ∷ cs) h zero = (alphanumeric_is_ascii c (list_all-cons is_ascii_alphanumeric c cs h).0).0
+IsAscii-alphanumeric (c ∷ cs) h (suc i) = IsAscii-alphanumeric cs (list_all-cons is_ascii_alphanumeric c cs h).1 i
+
+Lacks-alphanumeric : (cs : List ℕ) → list_all is_ascii_alphanumeric cs ≡ true → Lacks 32 cs
+Lacks-alphanumeric [] h = tt
+Lacks-alphanumeric (c ∷ cs) h = ((alphanumeric_is_ascii c (list_all-cons is_ascii_alphanumeric c cs h).0).1, Lacks-alphanumeric cs (list_all-cons is_ascii_alphanumeric c cs h).1)
+
+name_characters : (name : List ℕ) → IsName name → list_all is_ascii_alphanumeric name ≡ true
+name_characters name h = (both _ _ (both _ _ h).0).1
+
+pub encoded_name : (name : List ℕ) → IsName name → encode_utf8_all name ≡ name
+encoded_name name h = encodes-IsAscii name (IsAscii-alphanumeric name (name_characters name h))
+
+pub Lacks-name : (name : List ℕ) → IsName name → Lacks 32 (encode_utf8_all name)
+Lacks-name name h = rw (encoded_name name h) (Lacks-alphanumeric name (name_characters name h))
+
+pub name_of_gives : (word name : List ℕ) → name_of word ≡ Some name → IsName name × (word ≡ encode_utf8_all name)
+unfolding name_of
+name_of_gives word name h =
+    let p = passed _ _ _ h in
+    let tests = both _ _ p.0 in
+    (subst (λ cs. IsName cs) p.1 tests.1, sym (encodes-chars word (IsUtf8-from_is_utf8 word tests.0)) ∙ ap encode_utf8_all p.1)
+
+pub name_of-text : (word : List ℕ) → IsUtf8 word → IsName (chars word) → name_of word ≡ Some (chars word)
+unfolding name_of
+name_of-text word text named = rw (is_utf8-from_IsUtf8 word text, named) refl
+
+pub name_of-none : (word : List ℕ) → (IsUtf8 word → ⊥) → name_of word ≡ None
+unfolding name_of
+name_of-none word none = elim (is_utf8 word) as (λ b. (is_utf8 word ≡ b → cond (b && spells_name (chars word)) (Some (chars word)) None ≡ None)) [ true ↦ λ h. absurd (none (IsUtf8-from_is_utf8 word h)) | false ↦ λ h. refl ] refl
+
+pub name_of-encoded : (name : List ℕ) → IsName name → name_of (encode_utf8_all name) ≡ Some name
+name_of-encoded name h =
+    let ascii = IsAscii-alphanumeric name (name_characters name h) in
+    let same = chars-IsAscii name ascii in
+    rw (encoded_name name h) (name_of-text name (IsUtf8-from_ascii name ascii) (subst (λ cs. IsName cs) (sym same) h) ∙ ap Some same)
+
+Lacks-append : (c : ℕ) (xs ys : List ℕ) → Lacks c xs → Lacks c ys → Lacks c (xs ++ ys)
+Lacks-append c [] ys p q = q
+Lacks-append c (x ∷ xs) ys p q = (p.0, Lacks-append c xs ys p.1 q)
+
+not_line_feed : (d : ℕ) → ((48 + d) == 10) ≡ false
+not_line_feed d = grind (arith, nat_tests)
+
+pub Lacks-decimal : (n : ℕ) → n < 2 ^ 64 → Lacks 10 (decimal n)
+Lacks-decimal n small =
+    decimal_by_steps (λ n ds. Lacks 10 ds) (λ d h. (not_line_feed d, tt)) (λ n ds h p. Lacks-append 10 ds _ p (not_line_feed (n % 10), tt)) n small
+
+-- a job ends with its last line, with or without a line feed
+abbrev pub EndsWithCheck : List ℕ → List ℕ → Type 0
+EndsWithCheck bytes text = (bytes ≡ text ++ (codes "check" ++ 10 ∷ [])) ⊎ (bytes ≡ text ++ codes "check")
+
+pub text_before_check_gives : (bytes text : List ℕ) → text_before_check bytes ≡ Some text → EndsWithCheck bytes text
+unfolding text_before_check
+text_before_check_gives bytes text h =
+    choose (before_suffix bytes (codes "check" ++ 10 ∷ [])) refl h
+  where
+    choose : (o : Option (List ℕ)) → before_suffix bytes (codes "check" ++ 10 ∷ []) ≡ o → first_of_both o (before_suffix bytes (codes "check")) ≡ Some text → EndsWithCheck bytes text
+    choose (Some front) e h = inl (before_suffix_gives bytes (codes "check" ++ 10 ∷ []) text (e ∙ h))
+    choose None e h = inr (before_suffix_gives bytes (codes "check") text h)
+
+-- no text ends both ways
+one_ending : (xs ys : List ℕ) → xs ++ codes "check" ≡ ys ++ (codes "check" ++ 10 ∷ []) → ⊥
+one_ending xs ys h =
+    let left = append_assoc xs (codes "chec") (107 ∷ []) in
+    let right = append_assoc ys (codes "check") (10 ∷ []) in
+    let ends = same_from_push (xs ++ codes "chec") (ys ++ codes "check") 107 10 (left ∙ (h ∙ sym right)) in
+    absurd (clash ends.1)
+  where
+    clash : ◌≡◌ {A = ℕ} 107 10 → ⊥
+    clash e = omega arith
+
+pub text_before_check-append : (bytes text : List ℕ) → EndsWithCheck bytes text → text_before_check bytes ≡ Some text
+unfolding text_before_check
+text_before_check-append bytes text ends = ⊎_elim (λ e. at_line e) (λ e. at_end e (before_suffix bytes (codes "check" ++ 10 ∷ [])) refl) ends
+  where
+    at_line : bytes ≡ text ++ (codes "check" ++ 10 ∷ []) → first_of_both (before_suffix bytes (codes "check" ++ 10 ∷ [])) (before_suffix bytes (codes "check")) ≡ Some text
+    at_line e = ap (λ o. first_of_both o (before_suffix bytes (codes "check"))) (ap (λ bs. before_suffix bs (codes "check" ++ 10 ∷ [])) e ∙ before_suffix-append text (codes "check" ++ 10 ∷ []))
+
+    at_end : bytes ≡ text ++ codes "check" → (o : Option (List ℕ)) → before_suffix bytes (codes "check" ++ 10 ∷ []) ≡ o → first_of_both o (before_suffix bytes (codes "check")) ≡ Some text
+    at_end e (Some front) is = absurd (one_ending text front (sym e ∙ before_suffix_gives bytes (codes "check" ++ 10 ∷ []) front is))
+    at_end e None is = ap (λ bs. before_suffix bs (codes "check")) e ∙ before_suffix-append text (codes "check")
