@@ -1,0 +1,3 @@
+pub mod CallPlans
+pub mod Calls
+pub mod Wholes

@@ -1,0 +1,20 @@
+//! Sources and sinks of bytes that count their faults, and the reading and the writing of a whole text.
+//!
+//! A caller tells a fault from every other outcome by the count alone: it rises exactly where a call answers a fault.
+#![tactic(auto)]
+
+mod copy;
+mod memory;
+mod never;
+mod plan;
+mod standard;
+#[cfg(test)]
+mod tests;
+mod traits;
+mod whole;
+
+pub use memory::{MemSink, MemSource};
+pub use never::{NeverSink, NeverSource};
+pub use standard::{StdSink, StdSource};
+pub use traits::{Failed, Sink, Source, WriteError};
+pub use whole::{ReadAll, WriteAll, read_all, write_all};
