@@ -10,8 +10,7 @@ use Rattle.std.proofs.lemmas.Slice.Eq.{bytes_eq-Decides}
 use Rattle.std.proofs.lemmas.List.Sums.{count_by-le-length}
 use Rattle.cc_base.specs.Names.{IsName}
 use Rattle.cc_job.specs.declared.job.Job.{Job}
-use Rattle.cc_job.specs.declared.job.TheConstants.{TEXT_LIMIT}
-use Rattle.cc_job.specs.Job.{line, are_lines, line_count, device_line_text, put_line_text, front_text, IsJob, BytesHaveOneJob}
+use Rattle.cc_job.specs.Job.{text_limit, line, are_lines, line_count, device_line_text, put_line_text, front_text, IsJob, BytesHaveOneJob}
 use Rattle.cc_job.specs.Reading.{◌>>=◌, after_prefix, cut_at, name_of, device_line, put_line, text_before_check, is_text, job_of}
 use Rattle.cc_job.proofs.Steps.{some_from_bind, passed, both, after_prefix_gives, after_prefix-append, cut_at_gives, cut_at-append, name_of_gives, name_of-encoded, Lacks-name, Lacks, Lacks-decimal, EndsWithCheck, text_before_check_gives, text_before_check-append}
 
@@ -118,17 +117,17 @@ put_line-text name digits rest named lacks =
     ∙ ap (λ o. o >>= λ number. Some (name, number.0, number.1)) (cut_at-append 10 digits rest lacks)))
 
 -- what the test of a text says
-pub is_text_tells : (digits text : List ℕ) → is_text digits text ≡ true → (are_lines text ≡ true) × (length text ≤ TEXT_LIMIT) × (decimal (line_count text) ≡ digits)
+pub is_text_tells : (digits text : List ℕ) → is_text digits text ≡ true → (are_lines text ≡ true) × (length text ≤ text_limit) × (decimal (line_count text) ≡ digits)
 unfolding is_text
 is_text_tells digits text h =
-    let first = both (are_lines text && nat_le (length text) TEXT_LIMIT) (bytes_eq (decimal (line_count text)) digits) h in
-    let second = both (are_lines text) (nat_le (length text) TEXT_LIMIT) first.0 in
+    let first = both (are_lines text && nat_le (length text) text_limit) (bytes_eq (decimal (line_count text)) digits) h in
+    let second = both (are_lines text) (nat_le (length text) text_limit) first.0 in
     (second.0, grind (arith, nat_tests), (bytes_eq-Decides (decimal (line_count text)) digits).0 first.1)
 
-pub is_text-holds : (text : List ℕ) → are_lines text ≡ true → length text ≤ TEXT_LIMIT → is_text (decimal (line_count text)) text ≡ true
+pub is_text-holds : (text : List ℕ) → are_lines text ≡ true → length text ≤ text_limit → is_text (decimal (line_count text)) text ≡ true
 unfolding is_text
 is_text-holds text whole short =
-    let low : nat_le (length text) TEXT_LIMIT ≡ true = grind (arith, nat_tests) in
+    let low : nat_le (length text) text_limit ≡ true = grind (arith, nat_tests) in
     let same = (bytes_eq-Decides (decimal (line_count text)) (decimal (line_count text))).1 refl in
     rw (whole, low, same) refl
 

@@ -6,7 +6,10 @@ use Rattle.cc_base.specs.Names.{IsName}
 use Rattle.cc_job.specs.declared.job.Job.{Job}
 use Rattle.cc_job.specs.declared.job.JobError.{JobError}
 use Rattle.cc_job.specs.declared.job.JobError.TheVariants.{BadJob, NoMemory}
-use Rattle.cc_job.specs.declared.job.TheConstants.{TEXT_LIMIT}
+
+-- the greatest number of bytes of a module's text
+abbrev pub text_limit : ℕ
+text_limit = 4096
 
 -- a line is its bytes and a line feed
 abbrev pub line : List ℕ → List ℕ
@@ -36,7 +39,7 @@ pub record IsJob (bytes : List ℕ) (job : Job) : Type 0 where
   pub device_name : IsName job.device_name
   pub module_name : IsName job.module_name
   pub whole : IsTrue (are_lines job.text)
-  pub short : length job.text ≤ TEXT_LIMIT
+  pub short : length job.text ≤ text_limit
   pub spelled : (bytes ≡ front_text job ++ line (codes "check")) ⊎ (bytes ≡ front_text job ++ codes "check")
 
 -- what reading answers: the job, or, exactly where the bytes are none, that they are none

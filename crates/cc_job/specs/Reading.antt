@@ -5,8 +5,7 @@ use Rattle.std.specs.Str.{chars, is_utf8, bytes_eq}
 use Rattle.std.specs.Fmt.{decimal}
 use Rattle.cc_base.specs.Names.{spells_name}
 use Rattle.cc_job.specs.declared.job.Job.{Job}
-use Rattle.cc_job.specs.declared.job.TheConstants.{TEXT_LIMIT}
-use Rattle.cc_job.specs.Job.{are_lines, line_count}
+use Rattle.cc_job.specs.Job.{text_limit, are_lines, line_count}
 
 infixl 10 ◌>>=◌
 abbrev pub ◌>>=◌ : {A B : Type 0} → Option A → (A → Option B) → Option B
@@ -58,7 +57,7 @@ text_before_check bytes = first_of_both (before_suffix bytes (codes "check" ++ 1
 
 -- the text is whole lines, as many as the digits say, and no longer than the limit
 unfoldable pub is_text : List ℕ → List ℕ → Bool
-is_text digits text = are_lines text && nat_le (length text) TEXT_LIMIT && bytes_eq (decimal (line_count text)) digits
+is_text digits text = are_lines text && nat_le (length text) text_limit && bytes_eq (decimal (line_count text)) digits
 
 unfoldable pub job_of : List ℕ → Option Job
 job_of bytes = do

@@ -1,1 +1,2 @@
 pub mod Lexical
+pub mod Cutting

@@ -1,5 +1,5 @@
 -- The syntax trees of a module, without where they lie in memory.
-use Rattle.std.specs.Prelude.{ℕ, ◌+◌, ◌≤◌, max, Bool, true, false, ◌&&◌, nat_le, List, Option, Some, None}
+use Rattle.std.specs.Prelude.{ℕ, ◌+◌, max, Bool, ◌&&◌, nat_le, List, Option, Some, None}
 
 pub data TypeSyntax : Type 0 where
   UnitType : TypeSyntax

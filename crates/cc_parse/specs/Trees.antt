@@ -1,5 +1,5 @@
 -- The syntax that a tree of the program stands for.
-use Rattle.std.specs.Prelude.{List, Option, map}
+use Rattle.std.specs.Prelude.{List, map}
 use Rattle.std.specs.Option.{option_map}
 use Rattle.cc_parse.specs.declared.tree.TypeTree.{TypeTree}
 use Rattle.cc_parse.specs.declared.tree.TypeTree.TheVariants as types

@@ -1,0 +1,2 @@
+mod OutputFronts
+mod Exact

@@ -1,0 +1,4 @@
+pub mod Status
+pub mod Output
+pub mod Outcome
+pub mod Exactness

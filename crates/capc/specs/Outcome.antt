@@ -1,0 +1,81 @@
+-- What a call of the program may do: what is read and written, for each status.
+use Rattle.std.specs.Prelude.{◌≡◌, ℕ, ◌+◌, ◌<◌, ◌≤◌, Bool, true, false, ◌⊎◌, List, [], length, Option}
+use Rattle.std.specs.Io.KnownBytes.{Consumes, IsAtEnd, Keeps, Appends}
+use Rattle.cc_io.specs.Wholes.{TakesCount, AppendsFront}
+use Rattle.cc_job.specs.declared.job.Job.{Job}
+use Rattle.cc_job.specs.Job.{IsJob}
+use Rattle.cc_module.specs.Verdict.{verdict_of, is_refused}
+use Rattle.capc.specs.declared.status.Status.{Status}
+use Rattle.capc.specs.declared.status.Status.TheVariants as statuses
+use Rattle.capc.specs.Output.{output_of}
+
+-- the greatest number of bytes of a job
+abbrev pub job_limit : ℕ
+job_limit = 4194304
+
+-- the bytes that a source has left and those that a sink holds, where they tell them, and how often each failed
+pub record Ends : Type 0 where
+  pub left : Option (List ℕ)
+  pub read_faults : ℕ
+  pub written : Option (List ℕ)
+  pub write_faults : ℕ
+
+abbrev pub ends : Option (List ℕ) → ℕ → Option (List ℕ) → ℕ → Ends
+ends left read_faults written write_faults = record { left = left; read_faults = read_faults; written = written; write_faults = write_faults }
+
+-- so many bytes were taken from the source, and no read failed
+pub record TakesMany (P : ℕ → Type 0) (before after : Ends) : Type 0 where
+  pub taken : TakesCount P before.left after.left
+  pub no_fault : after.read_faults ≡ before.read_faults
+
+-- nothing was written, and no write failed
+pub record IsSilent (before after : Ends) : Type 0 where
+  pub kept : Keeps before.written after.written
+  pub no_fault : after.write_faults ≡ before.write_faults
+
+-- the bytes are all that the source had, within the limit, and no read failed
+pub record ReadsWhole (before after : Ends) (bytes : List ℕ) : Type 0 where
+  pub consumed : Consumes before.left after.left bytes
+  pub ended : IsAtEnd after.left
+  pub short : length bytes ≤ job_limit
+  pub no_fault : after.read_faults ≡ before.read_faults
+
+-- the source had the text of a job, whole
+pub record ReadsJob (before after : Ends) (job : Job) : Type 0 where
+  pub bytes : List ℕ
+  pub whole : ReadsWhole before after bytes
+  pub is_job : IsJob bytes job
+
+-- the job was read, and its whole output was written
+pub record IsCarriedOut (before after : Ends) (job : Job) : Type 0 where
+  pub read : ReadsJob before after job
+  pub written : Appends before.written after.written (output_of job)
+  pub no_fault : after.write_faults ≡ before.write_faults
+
+-- the job was read, and a front of its output was written
+pub record IsCutOff (before after : Ends) (job : Job) : Type 0 where
+  pub read : ReadsJob before after job
+  pub written : AppendsFront before.written after.written (output_of job)
+
+-- the source had bytes that are no job, and nothing was written
+pub record ReadsNoJob (before after : Ends) : Type 0 where
+  pub bytes : List ℕ
+  pub whole : ReadsWhole before after bytes
+  pub no_job : (job : Job) → IsJob bytes job → ⊥
+  pub silent : IsSilent before after
+
+-- the module of the job is refused
+abbrev pub has_refusal : Job → Bool
+has_refusal job = is_refused (verdict_of job.device_name job.text)
+
+-- what was read and written, for each status
+abbrev pub Outcome : Ends → Ends → Status → Type 0
+Outcome before after statuses.Clean = (job : Job) × IsCarriedOut before after job × (has_refusal job ≡ false)
+Outcome before after statuses.Refusals = (job : Job) × IsCarriedOut before after job × (has_refusal job ≡ true)
+Outcome before after (statuses.BadJob number) = (number ≡ 0) × ReadsNoJob before after
+Outcome before after statuses.ReadFault = (before.read_faults < after.read_faults) × TakesCount (λ n. n ≤ job_limit) before.left after.left × IsSilent before after
+Outcome before after statuses.WriteFault = (before.write_faults < after.write_faults) × ((job : Job) × IsCutOff before after job)
+Outcome before after statuses.NoMemory =
+    (TakesMany (λ n. n ≤ job_limit) before after × IsSilent before after) ⊎ ((after.write_faults ≡ before.write_faults) × ((job : Job) × IsCutOff before after job))
+Outcome before after statuses.BadWords = ⊥
+Outcome before after statuses.TooLong = TakesMany (λ n. n ≡ job_limit + 1) before after × IsSilent before after

@@ -1,0 +1,54 @@
+//! Checks and runs modules whose types tell which capabilities their values may hold.
+//!
+//! The program reads a job from standard input, carries it out, and writes one reply for each command.
+#![tactic(auto)]
+
+mod answers;
+pub mod laws;
+mod reply;
+mod run;
+mod status;
+#[cfg(test)]
+mod tests;
+
+ghost use Rattle.std.specs.Prelude.{◌≡◌, ◌<◌};
+
+use crate::run::capc;
+use crate::status::Status;
+use cc_base::steps::Steps;
+use cc_io::{StdSink, StdSource};
+use std::alloc::Global;
+use std::marker::Brand;
+use std::process::ExitCode;
+use std::sync::ledger::{Blank, Ledger};
+use std::{env, io};
+
+/// Carries out the job on standard input, with a counter of its own.
+fn run_standard<L: Ledger>(rt: &HostRuntime, words: &[String], blank: Blank) -> Status
+    requires name { blank.name ≡ L.name }
+    requires parts { blank.parts ≡ L.parts }
+    requires some { 0 < L.parts }
+{
+    let mut source = StdSource::new(rt.reader());
+    let mut sink = StdSink::new(io::writer(rt));
+    let mut steps = Steps::<L>::new(blank);
+    capc(rt.alloc(), words, &mut source, &mut sink, &mut steps)
+}
+
+/// The words after the program's name, where the system gives them as texts.
+fn words(rt: &HostRuntime) -> io::Result<Vec<String>> {
+    let mut words = Vec::new(rt.alloc());
+    for word in env::args(rt)?.skip(1) {
+        words.push(word)?;
+    }
+    Ok(words)
+}
+
+fn main(rt: HostRuntime) -> ExitCode {
+    let status = match words(&rt) {
+        Ok(words) => run_standard::<Brand>(&rt, words.as_slice(), Blank::new(1)),
+        Err(_) => Status::BadWords,
+    };
+    status.report(&rt);
+    ExitCode::from(status.number())
+}

@@ -1,0 +1,4 @@
+mod Words
+mod Spelling
+mod Fronts
+pub mod CuttingLaws

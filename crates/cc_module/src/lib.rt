@@ -1,0 +1,6 @@
+//! The verdict of a module's text.
+#![tactic(auto)]
+
+pub mod laws;
+mod scope;
+pub mod verdict;
