@@ -25,7 +25,7 @@ pub enum Lit {
 
 /// An operator on two numbers. The first three wrap, and the last two compare.
 #[derive(Clone, Copy, Debug, PartialEq, Eq)]
-pub enum Prim {
+pub enum Operator {
     Add,
     Sub,
     Mul,
