@@ -47,6 +47,7 @@ fn words(rt: &HostRuntime) -> io::Result<Vec<String>> {
 fn main(rt: HostRuntime) -> ExitCode {
     let status = match words(&rt) {
         Ok(words) => run_standard::<Brand>(&rt, words.as_slice(), Blank::new(1)),
+        Err(error) if error.kind() == io::ErrorKind::OutOfMemory => Status::NoMemory,
         Err(_) => Status::BadWords,
     };
     status.report(&rt);
