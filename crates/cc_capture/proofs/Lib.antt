@@ -1,0 +1,10 @@
+pub mod Equality
+pub mod Images
+pub mod Membership
+pub mod Merging
+pub mod Places
+pub mod RisingLists
+pub mod SetLists
+pub mod Sorting
+pub mod Unions
+pub mod Walks

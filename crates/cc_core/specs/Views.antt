@@ -1,0 +1,80 @@
+-- The plain trees that the program's values stand for. Places and sharing are left out.
+use Rattle.std.specs.Prelude.{List, map}
+use Rattle.std.specs.Rc.{rc_str_bytes}
+use Rattle.std.specs.Str.{chars}
+use Rattle.cc_base.specs.declared.literal.Lit.{Lit}
+use Rattle.cc_base.specs.declared.literal.Lit.TheVariants as literals
+use Rattle.cc_core.specs.declared.types.Shape.{Shape as DeclaredShape}
+use Rattle.cc_core.specs.declared.types.Shape.TheVariants as shapes
+use Rattle.cc_core.specs.declared.types.Ty.{Ty}
+use Rattle.cc_core.specs.declared.terms.Note.{Note as DeclaredNote}
+use Rattle.cc_core.specs.declared.terms.Note.TheVariants as notes
+use Rattle.cc_core.specs.declared.terms.Form.{Form}
+use Rattle.cc_core.specs.declared.terms.Form.TheVariants as forms
+use Rattle.cc_core.specs.declared.terms.Node.{Node}
+use Rattle.cc_core.specs.declared.context.Bind.{Bind as DeclaredBind}
+use Rattle.cc_core.specs.declared.context.Bind.TheVariants as binds
+use Rattle.cc_core.specs.Shapes.{Shape, BaseShape, AnyShape, TypeVariable, FunctionShape, TypeFunctionShape, BoxShape, ExitShape, CapturingType, capturing}
+use Rattle.cc_core.specs.Terms.{Literal, UnitLiteral, TruthLiteral, NumberLiteral, TextLiteral, Note, Absent, Written, Own, Term, VariableTerm, LiteralTerm, FunctionTerm, TypeFunctionTerm, BoxTerm, Application, TypeApplication, Unboxing, Let, Primitive, Conditional, Repetition, Operation, Boundary, Leave}
+use Rattle.cc_core.specs.Contexts.{Bind, TermEntry, TypeEntry, Context}
+
+-- the shape, with the types in it taken apart
+abbrev pub shape_of : DeclaredShape → Shape
+shape_of (shapes.Base base) = BaseShape base
+shape_of shapes.Any = AnyShape
+shape_of (shapes.TVar variable) = TypeVariable variable
+shape_of (shapes.Fun' p q takes c p' q' gives e) = FunctionShape (shape_of takes) c (shape_of gives) e
+shape_of (shapes.TFun' p bound q p' gives e) = TypeFunctionShape (shape_of bound) (shape_of gives) e
+shape_of (shapes.Boxed' p q content c) = BoxShape (shape_of content) c
+shape_of (shapes.Exit' p gives) = ExitShape (shape_of gives)
+
+-- the type
+abbrev pub type_of : Ty → CapturingType
+type_of type = capturing (shape_of type.shape.value) type.set
+
+-- the literal; a text by its code points
+abbrev pub literal_of : Lit → Literal
+literal_of literals.Unit = UnitLiteral
+literal_of (literals.Bool truth) = TruthLiteral truth
+literal_of (literals.Int number) = NumberLiteral number
+literal_of (literals.Str text) = TextLiteral (chars (rc_str_bytes text))
+
+-- what is written for a type
+abbrev pub note_of : DeclaredNote → Note
+note_of notes.Absent = Absent
+note_of (notes.Written type) = Written (shape_of type.value.shape.value) type.value.set
+note_of (notes.Own shape) = Own (shape_of shape.value)
+
+-- the term that a form is
+abbrev pub form_of : Form → Term
+form_of (forms.Var variable) = VariableTerm variable
+form_of (forms.Lit literal) = LiteralTerm (literal_of literal)
+form_of (forms.Fun' takes p body at first second) =
+    FunctionTerm (shape_of takes.value.shape.value) takes.value.set (form_of body)
+form_of (forms.TFun' bound p body at first second) = TypeFunctionTerm (shape_of bound.value) (form_of body)
+form_of (forms.Boxed content) = BoxTerm content
+form_of (forms.App function argument) = Application function argument
+form_of (forms.TApp function argument) = TypeApplication function (shape_of argument.value)
+form_of (forms.Unbox set box) = Unboxing set box
+form_of (forms.Let' note p right at first second q body at' first' second') =
+    Let (note_of note) (form_of right) (form_of body)
+form_of (forms.Prim operator left right) = Primitive operator left right
+form_of (forms.If' note test p positive at first second q negative at' first' second') =
+    Conditional (note_of note) test (form_of positive) (form_of negative)
+form_of (forms.Repeat count function) = Repetition count function
+form_of (forms.Operate operation receiver argument) = Operation operation receiver argument
+form_of (forms.Boundary' gives p body at first second) = Boundary (shape_of gives.value) (form_of body)
+form_of (forms.Leave gives exit value) = Leave (shape_of gives.value.shape.value) gives.value.set exit value
+
+-- the term at a node
+abbrev pub term_of : Node → Term
+term_of node = form_of node.form
+
+-- the entry of a context
+abbrev pub bind_of : DeclaredBind → Bind
+bind_of (binds.Var type) = TermEntry (shape_of type.shape.value) type.set
+bind_of (binds.TVar bound) = TypeEntry (shape_of bound.value)
+
+-- the context of a list of entries, the newest first
+abbrev pub context_of : List DeclaredBind → Context
+context_of entries = map bind_of entries

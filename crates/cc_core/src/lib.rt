@@ -1,0 +1,24 @@
+//! The core language: shapes and types with capture sets, terms, and contexts.
+#![tactic(auto)]
+
+pub mod acting;
+pub mod captured;
+pub mod context;
+mod copies;
+pub mod laws;
+pub mod same;
+pub mod sizes;
+pub mod subcapturing_laws;
+pub mod substitution;
+pub mod terms;
+pub mod types;
+pub mod wellformed;
+
+pub use cc_base::literal::{Base, Lit, Op, Operator};
+pub use cc_capture::{CapSet, Elem, Var};
+pub use context::{Bind, Ctx};
+pub use terms::{Checked, CoreDef, Form, Node, Note};
+pub use types::{Shape, Ty};
+
+#[cfg(test)]
+mod tests;

@@ -1,0 +1,105 @@
+//! Sizes of types. They take no memory, and stop at the greatest number.
+
+ghost use Rattle.std.specs.Prelude.{◌≡◌, ◌+◌, ◌-◌, ◌^◌, min, nat_eq};
+ghost use Rattle.cc_core.specs.Sizes as plain;
+ghost use Rattle.cc_core.specs.Depths.{depth_of};
+ghost use Rattle.cc_core.specs.Views.{shape_of, type_of};
+
+use crate::types::{Shape, Ty};
+use cc_capture::{CapSet, Var};
+
+fn set_size(set: &CapSet) -> u64
+    ensures { result ≡ plain.set_size set.now }
+{
+    set.len() as u64
+}
+
+/// The size of the shape, or the greatest number where that is less.
+#[cycle(sizes)]
+pub fn shape_size(shape: &Shape) -> u64
+    ensures { result ≡ min (plain.shape_size (shape_of shape.now)) (2 ^ 64 - 1) }
+{
+    match shape {
+        Shape::Base(_) => 1,
+        Shape::Any => 1,
+        Shape::TVar(_) => 1,
+        Shape::Fun(takes, gives) => 1u64.saturating_add(size(takes)).saturating_add(size(gives)),
+        Shape::TFun(bound, gives) => 1u64
+            .saturating_add(shape_size(bound))
+            .saturating_add(size(gives)),
+        Shape::Boxed(content) => 1u64.saturating_add(size(content)),
+        Shape::Exit(gives) => 1u64.saturating_add(shape_size(gives)),
+    }
+}
+
+/// The size of the type, or the greatest number where that is less.
+#[cycle(sizes)]
+pub fn size(ty: &Ty) -> u64
+    ensures { result ≡ min (plain.type_size (type_of ty.now)) (2 ^ 64 - 1) }
+{
+    shape_size(&ty.shape).saturating_add(set_size(&ty.set))
+}
+
+/// The size that the type has with the shape put for the outermost index, or the greatest number where that is less. Nothing
+/// is built for it.
+pub fn subst_size(ty: &Ty, by: &Shape) -> u64
+    ensures { result ≡ min (plain.size_with (shape_of by.now) (type_of ty.now)) (2 ^ 64 - 1) }
+{
+    type_size_with(shape_size(by), &Depth::Top, ty)
+}
+
+// How many binders are above, as a list of them, so that a walk of any depth takes no memory but its stack.
+#[derive(Drop)]
+enum Depth<'a> {
+    Top,
+    Under(&'a Depth<'a>),
+}
+
+// Whether the index counts the binders above.
+fn is_outermost(index: u32, depth: &Depth) -> bool
+    ensures { result ≡ nat_eq index (depth_of depth.now) }
+{
+    match depth {
+        Depth::Top => index == 0,
+        Depth::Under(outer) => index != 0 && is_outermost(index - 1, outer),
+    }
+}
+
+fn variable_size_with(size: u64, depth: &Depth, variable: Var) -> u64
+    ensures { result ≡ plain.counted_variable size (depth_of depth.now) variable }
+{
+    match variable {
+        Var::Bound(index) => { if is_outermost(index, depth) { size } else { 1 } }
+        Var::Free(_) => 1,
+    }
+}
+
+#[cycle(sizes_with)]
+fn shape_size_with(size: u64, depth: &Depth, shape: &Shape) -> u64
+    ensures { result ≡ min (plain.counted_shape size (depth_of depth.now) (shape_of shape.now)) (2 ^ 64 - 1) }
+{
+    match shape {
+        Shape::Base(_) => 1,
+        Shape::Any => 1,
+        Shape::TVar(variable) => variable_size_with(size, depth, *variable),
+        Shape::Fun(takes, gives) => {
+            let takes = type_size_with(size, depth, takes);
+            let gives = type_size_with(size, &Depth::Under(&*depth), gives);
+            1u64.saturating_add(takes).saturating_add(gives)
+        }
+        Shape::TFun(bound, gives) => {
+            let bound = shape_size_with(size, depth, bound);
+            let gives = type_size_with(size, &Depth::Under(&*depth), gives);
+            1u64.saturating_add(bound).saturating_add(gives)
+        }
+        Shape::Boxed(content) => 1u64.saturating_add(type_size_with(size, depth, content)),
+        Shape::Exit(gives) => 1u64.saturating_add(shape_size_with(size, depth, gives)),
+    }
+}
+
+#[cycle(sizes_with)]
+fn type_size_with(size: u64, depth: &Depth, ty: &Ty) -> u64
+    ensures { result ≡ min (plain.counted_shape size (depth_of depth.now) (shape_of ty.now.shape.value) + plain.set_size ty.now.set) (2 ^ 64 - 1) }
+{
+    shape_size_with(size, depth, &ty.shape).saturating_add(set_size(&ty.set))
+}

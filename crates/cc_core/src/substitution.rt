@@ -1,0 +1,66 @@
+//! Opening, substitution and renaming. What is put in is shared, and each call fails only for want of memory.
+
+ghost use Rattle.std.specs.Prelude.{◌≡◌, IfOk};
+ghost use Rattle.cc_core.specs.Traversal.{act_type, act_term};
+ghost use Rattle.cc_core.specs.Substitution.{putting, putting_shape, renaming, opened_type, opened_term};
+ghost use Rattle.cc_core.specs.Actions.{renamed_by};
+ghost use Rattle.cc_core.specs.Views.{shape_of, type_of, term_of};
+ghost use Rattle.cc_core.specs.Places.{places_of};
+
+use crate::acting::{self, Action};
+use crate::terms::Node;
+use crate::types::{Shape, Ty};
+use cc_capture::Var;
+use std::alloc::{AllocError, Global};
+use std::rc::Rc;
+
+/// What stood under one binder, with the free position in the place of that binder.
+pub fn instantiate(alloc: Global, ty: &Ty, position: u32) -> Result<Ty, AllocError>
+    ensures { IfOk result (λ t. type_of t ≡ opened_type position (type_of ty.now)) }
+{
+    subst_var(alloc, ty, Var::Free(position))
+}
+
+/// What stood under one binder, with the variable in the place of that binder.
+pub fn subst_var(alloc: Global, ty: &Ty, by: Var) -> Result<Ty, AllocError>
+    ensures { IfOk result (λ t. type_of t ≡ act_type (putting by) 0 (type_of ty.now)) }
+{
+    acting::act_type(alloc, &Action::Put(by), 0, ty)
+}
+
+/// What stood under the binder of a type variable, with the shape in the place of that variable.
+pub fn subst_type(alloc: Global, ty: &Ty, by: &Rc<Shape>) -> Result<Ty, AllocError>
+    ensures { IfOk result (λ t. type_of t ≡ act_type (putting_shape (shape_of by.now.value)) 0 (type_of ty.now)) }
+{
+    acting::act_type(alloc, &Action::PutShape(by), 0, ty)
+}
+
+/// The term that stood under one binder, with the free position in the place of that binder. The places stay.
+pub fn instantiate_term(
+    alloc: Global,
+    node: &Rc<Node>,
+    position: u32,
+) -> Result<Rc<Node>, AllocError>
+    ensures term { IfOk result (λ n. term_of n.value ≡ opened_term position (term_of node.now.value)) }
+    ensures places { IfOk result (λ n. places_of n.value ≡ places_of node.now.value) }
+{
+    acting::act_node(alloc, &Action::Put(Var::Free(position)), 0, node)
+}
+
+/// The term that stood under the binder of a type variable, with the shape in the place of that variable, also in the types
+/// that are written in the term. The places stay.
+pub fn subst_term(alloc: Global, node: &Rc<Node>, by: &Rc<Shape>) -> Result<Rc<Node>, AllocError>
+    ensures term { IfOk result (λ n. term_of n.value ≡ act_term (putting_shape (shape_of by.now.value)) 0 (term_of node.now.value)) }
+    ensures places { IfOk result (λ n. places_of n.value ≡ places_of node.now.value) }
+{
+    acting::act_node(alloc, &Action::PutShape(by), 0, node)
+}
+
+/// The term with each free position replaced by the one that the list has for it, also in the types that are written in the
+/// term. A position past the list stays, and so do the places.
+pub fn rename(alloc: Global, node: &Rc<Node>, to: &[u32]) -> Result<Rc<Node>, AllocError>
+    ensures term { IfOk result (λ n. term_of n.value ≡ act_term (renaming (renamed_by to.now)) 0 (term_of node.now.value)) }
+    ensures places { IfOk result (λ n. places_of n.value ≡ places_of node.now.value) }
+{
+    acting::act_node(alloc, &Action::Rename(to), 0, node)
+}
