@@ -1,5 +1,5 @@
 -- The laws of subcapturing, by induction on why an element is below a set.
-use Rattle.std.proofs.Common.{◌≡◌, ℕ, true, [], ◌∷◌, ◌++◌, length, Some, refl, sym, ap, ◌∙◌, subst, inl, inr}
+use Rattle.std.proofs.Common.{◌≡◌, ℕ, true, [], ◌∷◌, ◌++◌, length, Some, refl, sym, ap, ◌∙◌, subst, inl, inr, ◌⊎◌, ◌↔◌}
 use Rattle.cc_capture.specs.declared.var.Var.TheVariants.{Free}
 use Rattle.cc_capture.specs.declared.var.Elem.{Elem}
 use Rattle.cc_capture.specs.declared.var.Elem.TheVariants.{Var as Variable, Cap}
@@ -89,3 +89,32 @@ pub subcaptures_shorter : (context later : Context) (left right : Set) → is_we
     → SubcapturesSet (later ++ context) left right → SubcapturesSet context left right
 subcaptures_shorter context later left right formed known below e here =
     subcaptures_shorter_element (below e here) context later refl (IsKindedContext-from context formed) (IsKindedSet-from (kinds_of context) [] left known e here)
+
+-- by which rule an element is below a set
+below_cases : {context : Context} {e : Elem} {set : Set} → Subcaptures context e set
+    → Member e set ⊎ ((position : ℕ) × (shape : Shape) × (declared : Set) × (e ≡ Variable (Free position)) × (lookup context position ≡ Some (TermEntry shape declared)) × SubcapturesSet context declared set)
+below_cases (element here) = inl here
+below_cases (variable {position = position} {shape = shape} {declared = declared} there each) = inr (position, shape, declared, refl, there, each)
+
+pub subcaptures_variable : (context : Context) (position : ℕ) (shape : Shape) (declared set : Set) → lookup context position ≡ Some (TermEntry shape declared)
+    → Subcaptures context (Variable (Free position)) set ↔ (Member (Variable (Free position)) set ⊎ SubcapturesSet context declared set)
+subcaptures_variable context position shape declared set there = (
+  λ below. elim (below_cases below) as (λ _. Member (Variable (Free position)) set ⊎ SubcapturesSet context declared set) [
+    | inl here ↦ inl here
+    | inr (other, shape', declared', same, found, each) ↦
+        let at : other ≡ position = cc in
+        let both : Some (TermEntry shape' declared') ≡ Some (TermEntry shape declared) = sym found ∙ ap (lookup context) at ∙ there in
+        let is : declared' ≡ declared = cc in
+        inr (subst (λ d. SubcapturesSet context d set) is each)
+  ],
+  λ found. elim found as (λ _. Subcaptures context (Variable (Free position)) set) [ inl here ↦ element here | inr each ↦ variable there each ],
+)
+
+pub subcaptures_other : (context : Context) (e : Elem) (set : Set)
+    → ((position : ℕ) (shape : Shape) (declared : Set) → e ≡ Variable (Free position) → lookup context position ≡ Some (TermEntry shape declared) → ⊥)
+    → Subcaptures context e set → Member e set
+subcaptures_other context e set none below =
+    elim (below_cases below) as (λ _. Member e set) [
+      | inl here ↦ here
+      | inr (position, shape, declared, same, found, each) ↦ absurd (none position shape declared same found)
+    ]

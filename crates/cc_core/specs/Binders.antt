@@ -6,6 +6,7 @@ use Rattle.cc_core.specs.declared.wellformed.Passed.{Passed}
 use Rattle.cc_core.specs.declared.wellformed.Passed.TheVariants as passing
 use Rattle.cc_core.specs.WellFormed.{Kind, TermKind, TypeKind}
 
+-- the kind that a value stands for
 abbrev pub plain_kind : DeclaredKind → Kind
 plain_kind kinds.Term = TermKind
 plain_kind kinds.Shape = TypeKind

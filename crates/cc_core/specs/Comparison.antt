@@ -29,6 +29,7 @@ same_shape (BoxShape content c) (BoxShape content' c') = same_shape content cont
 same_shape (ExitShape gives) (ExitShape gives') = same_shape gives gives'
 same_shape _ _ = false
 
+-- whether two types have the same shape and the same set
 abbrev pub same_type : CapturingType → CapturingType → Bool
 same_type left right = same_shape left.shape right.shape && same_set left.set right.set
 

@@ -11,13 +11,11 @@ pub mod Occurrences
 pub mod Places
 pub mod Shapes
 pub mod Sizes
-pub mod Stores
 pub mod Subcapturing
 pub mod SubcapturingLaws
 pub mod Substitution
 pub mod Subtyping
 pub mod Terms
 pub mod Traversal
-pub mod Typing
 pub mod Views
 pub mod WellFormed

@@ -1,5 +1,5 @@
 -- The laws of subcapturing.
-use Rattle.std.specs.Prelude.{◌≡◌, ℕ, ◌∷◌, ◌++◌, Some}
+use Rattle.std.specs.Prelude.{◌≡◌, ◌↔◌, ◌⊎◌, ℕ, ◌∷◌, ◌++◌, Some}
 use Rattle.cc_capture.specs.declared.var.Var.TheVariants.{Free}
 use Rattle.cc_capture.specs.declared.var.Elem.{Elem}
 use Rattle.cc_capture.specs.declared.var.Elem.TheVariants.{Var as Variable, Cap}
@@ -44,9 +44,16 @@ abbrev pub CapIsBelowNoOther : Type 0
 CapIsBelowNoOther =
     (context : Context) (left right : Set) → SubcapturesSet context left right → Member Cap left → Member Cap right
 
--- a variable is below each set above its declared one
-abbrev pub VariablesSubcaptureTheirSets : Type 0
-VariablesSubcaptureTheirSets =
+-- a variable is below exactly the sets that have it, and those that its declared set is below
+abbrev pub SubcapturingOfVariables : Type 0
+SubcapturingOfVariables =
     (context : Context) (position : ℕ) (shape : Shape) (declared set : Set)
-    → lookup context position ≡ Some (TermEntry shape declared) → SubcapturesSet context declared set
-    → Subcaptures context (Variable (Free position)) set
+    → lookup context position ≡ Some (TermEntry shape declared)
+    → Subcaptures context (Variable (Free position)) set ↔ (Member (Variable (Free position)) set ⊎ SubcapturesSet context declared set)
+
+-- what is no variable with a declared set is below the sets that have it alone
+abbrev pub SubcapturingOfOthers : Type 0
+SubcapturingOfOthers =
+    (context : Context) (e : Elem) (set : Set)
+    → ((position : ℕ) (shape : Shape) (declared : Set) → e ≡ Variable (Free position) → lookup context position ≡ Some (TermEntry shape declared) → ⊥)
+    → Subcaptures context e set → Member e set

@@ -1,4 +1,5 @@
-//! One way through shapes and terms: opening, substitution and renaming are its instances.
+//! One way through shapes and terms: opening, substitution and renaming are its instances. Each call fails only for want of
+//! memory, as which more than 2^32 - 1 binders above one place count.
 
 ghost use Rattle.std.specs.Prelude.{◌≡◌, ◌+◌, IfOk, OnOk, option_map};
 ghost use Rattle.cc_capture.specs.Sets.{union};
@@ -79,7 +80,7 @@ fn act_set(alloc: Global, action: &Action, depth: u32, set: &CapSet) -> Result<C
     Ok(acted)
 }
 
-// The depth under one binder more. No value is so deep that the depth does not fit.
+// The depth under one binder more.
 fn under(depth: u32) -> Result<u32, AllocError>
     ensures { IfOk result (λ d. d ≡ depth + 1) }
 {

@@ -120,3 +120,16 @@ impl Ctx {
         self.len
     }
 }
+
+/// A clone is the same context and shares its entries. It fails only for want of memory.
+impl Clone for Ctx {
+    ghost is_clone = { λ context copy. copy ≡ context };
+
+    fn clone(&self) -> Result<Ctx, AllocError> {
+        let head = share(&self.head)?;
+        Ok(Ctx {
+            head,
+            len: self.len,
+        })
+    }
+}

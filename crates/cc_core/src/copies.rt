@@ -63,7 +63,7 @@ impl Clone for Bind {
     }
 }
 
-/// The same literal. A text is shared.
+/// The same literal. A text is shared. Fails only for want of memory.
 pub fn copy_literal(literal: &Lit) -> Result<Lit, AllocError>
     ensures { IfOk result (λ copy. literal_of copy ≡ literal_of literal.now) }
 {

@@ -6,7 +6,6 @@ pub fn subcapturing_is_an_order()
     ensures reflexive { law.SubcapturingIsReflexive }
     ensures transitive { law.SubcapturingIsTransitive }
     ensures subsets { law.SubsetsSubcapture }
-    ensures variables { law.VariablesSubcaptureTheirSets }
 {}
 
 /// What becomes of it where entries are added, made smaller, or taken away.
@@ -14,6 +13,12 @@ pub fn subcapturing_in_other_contexts()
     ensures weakens { law.SubcapturingWeakens }
     ensures narrows { law.SubcapturingNarrows }
     ensures strengthens { law.SubcapturingStrengthens }
+{}
+
+/// What an element is below.
+pub fn subcapturing_of_elements()
+    ensures variables { law.SubcapturingOfVariables }
+    ensures others { law.SubcapturingOfOthers }
 {}
 
 /// The universal capability is hidden by no set without it.

@@ -1,8 +1,8 @@
-//! Opening, substitution and renaming. What is put in is shared, and each call fails only for want of memory.
+//! Opening, substitution and renaming. What is put in is shared. Each call fails only for want of memory, as which more than
+//! 2^32 - 1 binders above one place count.
 
 ghost use Rattle.std.specs.Prelude.{◌≡◌, IfOk};
-ghost use Rattle.cc_core.specs.Traversal.{act_type, act_term};
-ghost use Rattle.cc_core.specs.Substitution.{putting, putting_shape, renaming, opened_type, opened_term};
+ghost use Rattle.cc_core.specs.Substitution.{opened_type, opened_term, replaced_type, replaced_type_by_shape, replaced_term_by_shape, renamed_term};
 ghost use Rattle.cc_core.specs.Actions.{renamed_by};
 ghost use Rattle.cc_core.specs.Views.{shape_of, type_of, term_of};
 ghost use Rattle.cc_core.specs.Places.{places_of};
@@ -23,14 +23,14 @@ pub fn instantiate(alloc: Global, ty: &Ty, position: u32) -> Result<Ty, AllocErr
 
 /// What stood under one binder, with the variable in the place of that binder.
 pub fn subst_var(alloc: Global, ty: &Ty, by: Var) -> Result<Ty, AllocError>
-    ensures { IfOk result (λ t. type_of t ≡ act_type (putting by) 0 (type_of ty.now)) }
+    ensures { IfOk result (λ t. type_of t ≡ replaced_type by (type_of ty.now)) }
 {
     acting::act_type(alloc, &Action::Put(by), 0, ty)
 }
 
 /// What stood under the binder of a type variable, with the shape in the place of that variable.
 pub fn subst_type(alloc: Global, ty: &Ty, by: &Rc<Shape>) -> Result<Ty, AllocError>
-    ensures { IfOk result (λ t. type_of t ≡ act_type (putting_shape (shape_of by.now.value)) 0 (type_of ty.now)) }
+    ensures { IfOk result (λ t. type_of t ≡ replaced_type_by_shape (shape_of by.now.value) (type_of ty.now)) }
 {
     acting::act_type(alloc, &Action::PutShape(by), 0, ty)
 }
@@ -50,7 +50,7 @@ pub fn instantiate_term(
 /// The term that stood under the binder of a type variable, with the shape in the place of that variable, also in the types
 /// that are written in the term. The places stay.
 pub fn subst_term(alloc: Global, node: &Rc<Node>, by: &Rc<Shape>) -> Result<Rc<Node>, AllocError>
-    ensures term { IfOk result (λ n. term_of n.value ≡ act_term (putting_shape (shape_of by.now.value)) 0 (term_of node.now.value)) }
+    ensures term { IfOk result (λ n. term_of n.value ≡ replaced_term_by_shape (shape_of by.now.value) (term_of node.now.value)) }
     ensures places { IfOk result (λ n. places_of n.value ≡ places_of node.now.value) }
 {
     acting::act_node(alloc, &Action::PutShape(by), 0, node)
@@ -59,7 +59,7 @@ pub fn subst_term(alloc: Global, node: &Rc<Node>, by: &Rc<Shape>) -> Result<Rc<N
 /// The term with each free position replaced by the one that the list has for it, also in the types that are written in the
 /// term. A position past the list stays, and so do the places.
 pub fn rename(alloc: Global, node: &Rc<Node>, to: &[u32]) -> Result<Rc<Node>, AllocError>
-    ensures term { IfOk result (λ n. term_of n.value ≡ act_term (renaming (renamed_by to.now)) 0 (term_of node.now.value)) }
+    ensures term { IfOk result (λ n. term_of n.value ≡ renamed_term (renamed_by to.now) (term_of node.now.value)) }
     ensures places { IfOk result (λ n. places_of n.value ≡ places_of node.now.value) }
 {
     acting::act_node(alloc, &Action::Rename(to), 0, node)

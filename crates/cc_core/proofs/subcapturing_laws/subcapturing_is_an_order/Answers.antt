@@ -1,4 +1,3 @@
-use Rattle.cc_core.specs.Subcapturing.{variable}
 use Rattle.cc_core.proofs.SubcapturingLemmas.{subcaptures_reflexive, subcaptures_transitive, subcaptures_subset}
 use Rattle.cc_core.proofs.subcapturing_laws.subcapturing_is_an_order.Goals as goal
 
@@ -8,5 +7,4 @@ returns c =
       reflexive = subcaptures_reflexive;
       transitive = subcaptures_transitive;
       subsets = subcaptures_subset;
-      variables = λ context position shape declared set there below. variable there below;
     }
