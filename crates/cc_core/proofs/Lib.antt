@@ -6,6 +6,8 @@ pub mod CapturedKinds
 pub mod Comparisons
 pub mod Conditions
 pub mod ContextEntries
+pub mod DerivationComparisons
+pub mod DerivationTypings
 pub mod FreeActions
 pub mod FreshOpenings
 pub mod KindFacts

@@ -4,6 +4,9 @@ pub mod Captured
 pub mod Comparison
 pub mod Contexts
 pub mod Depths
+pub mod DerivationExamples
+pub mod DerivationLaws
+pub mod Derivations
 pub mod Entries
 pub mod Examples
 pub mod Laws
@@ -11,11 +14,13 @@ pub mod Occurrences
 pub mod Places
 pub mod Shapes
 pub mod Sizes
+pub mod Stores
 pub mod Subcapturing
 pub mod SubcapturingLaws
 pub mod Substitution
 pub mod Subtyping
 pub mod Terms
 pub mod Traversal
+pub mod Typing
 pub mod Views
 pub mod WellFormed

@@ -9,9 +9,11 @@ use Rattle.cc_core.specs.Contexts.{TermEntry, Context, lookup}
 use Rattle.cc_core.specs.WellFormed.{IsWellFormedSet, IsWellFormedContext}
 use Rattle.cc_core.specs.Subcapturing.{Subcaptures, SubcapturesSet}
 
+-- a set is below itself
 abbrev pub SubcapturingIsReflexive : Type 0
 SubcapturingIsReflexive = (context : Context) (set : Set) → SubcapturesSet context set set
 
+-- what is below a set is below each set above that one
 abbrev pub SubcapturingIsTransitive : Type 0
 SubcapturingIsTransitive =
     (context : Context) (left middle right : Set) → SubcapturesSet context left middle → SubcapturesSet context middle right → SubcapturesSet context left right

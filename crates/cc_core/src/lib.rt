@@ -5,6 +5,7 @@ pub mod acting;
 pub mod captured;
 pub mod context;
 mod copies;
+pub mod derivation_laws;
 pub mod laws;
 pub mod same;
 pub mod sizes;

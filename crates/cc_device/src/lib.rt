@@ -1,0 +1,4 @@
+//! Devices: their states, what each operation does to one, and the events of a run.
+#![tactic(auto)]
+
+pub use cc_base::literal::Op;

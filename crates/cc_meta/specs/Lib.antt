@@ -1,0 +1,13 @@
+pub mod AvoidanceLaws
+pub mod ContextMapLaws
+pub mod ContextMaps
+pub mod ExampleRuns
+pub mod Examples
+pub mod ExposingLaws
+pub mod Machine
+pub mod Reach
+pub mod Runs
+pub mod SoundRuns
+pub mod Soundness
+pub mod SubtypingLaws
+pub mod TypingLaws

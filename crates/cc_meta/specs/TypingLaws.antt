@@ -1,0 +1,69 @@
+-- The laws of typing.
+use Rattle.std.specs.Prelude.{zero, length, [], ◌∷◌, ◌++◌, IsTrue}
+use Rattle.cc_capture.specs.declared.var.Var.{Var}
+use Rattle.cc_capture.specs.Sets.{Set}
+use Rattle.cc_core.specs.Shapes.{Shape, FunctionShape, BoxShape, CapturingType, capturing}
+use Rattle.cc_core.specs.Terms.{Term, VariableTerm, FunctionTerm, BoxTerm}
+use Rattle.cc_core.specs.Contexts.{TermEntry, TypeEntry, Context, entry_of}
+use Rattle.cc_core.specs.Traversal.{act_type, act_term}
+use Rattle.cc_core.specs.Substitution.{putting, putting_shape, opened_type, opened_term}
+use Rattle.cc_core.specs.WellFormed.{TermKind, TypeKind, kinds_of, is_well_formed_term, is_well_formed_type, IsWellFormedContext, IsWellFormedShape}
+use Rattle.cc_core.specs.Captured.{is_value, captured_variables}
+use Rattle.cc_core.specs.Subcapturing.{SubcapturesSet}
+use Rattle.cc_core.specs.Subtyping.{Subtypes, SubtypesType}
+use Rattle.cc_core.specs.Typing.{HasType}
+
+-- what is typed stays so when entries are added
+abbrev pub TypingWeakens : Type 0
+TypingWeakens =
+    (context added : Context) (term : Term) (type : CapturingType)
+    → IsWellFormedContext (added ++ context) → HasType context term type → HasType (added ++ context) term type
+
+-- what is typed stays so where the newest variable has a smaller type
+abbrev pub TypingNarrows : Type 0
+TypingNarrows =
+    (context : Context) (wide narrow type : CapturingType) (term : Term)
+    → SubtypesType context narrow wide → IsWellFormedContext (entry_of narrow ∷ context)
+    → HasType (entry_of wide ∷ context) term type → HasType (entry_of narrow ∷ context) term type
+
+-- A body has its type with each variable that has the type of its binder.
+abbrev pub VariablesSubstitute : Type 0
+VariablesSubstitute =
+    (context : Context) (takes type : CapturingType) (body : Term) (variable : Var)
+    → IsTrue (is_well_formed_term (kinds_of context) (TermKind ∷ []) body)
+    → IsTrue (is_well_formed_type (kinds_of context) (TermKind ∷ []) type)
+    → HasType (entry_of takes ∷ context) (opened_term (length context) body) (opened_type (length context) type)
+    → HasType context (VariableTerm variable) takes
+    → HasType context (act_term (putting variable) zero body) (act_type (putting variable) zero type)
+
+-- A body has its type with each shape below the bound of its binder.
+abbrev pub ShapesSubstitute : Type 0
+ShapesSubstitute =
+    (context : Context) (bound shape : Shape) (type : CapturingType) (body : Term)
+    → IsTrue (is_well_formed_term (kinds_of context) (TypeKind ∷ []) body)
+    → IsTrue (is_well_formed_type (kinds_of context) (TypeKind ∷ []) type)
+    → HasType (TypeEntry bound ∷ context) (opened_term (length context) body) (opened_type (length context) type)
+    → IsWellFormedShape context shape → Subtypes context shape bound
+    → HasType context (act_term (putting_shape shape) zero body) (act_type (putting_shape shape) zero type)
+
+-- a value captures no more than the set of its type
+abbrev pub ValuesCaptureTheirSets : Type 0
+ValuesCaptureTheirSets =
+    (context : Context) (value : Term) (type : CapturingType)
+    → IsTrue (is_value value) → HasType context value type → SubcapturesSet context (captured_variables value) type.set
+
+-- A function has a type that is no more than its parameter and a type of its body, and no set smaller than what it captures.
+abbrev pub FunctionsInvert : Type 0
+FunctionsInvert =
+    (context : Context) (takes : Shape) (c : Set) (body : Term) (type : CapturingType)
+    → HasType context (FunctionTerm takes c body) type
+    → (gives : Shape) × (e : Set)
+    × HasType (TermEntry takes c ∷ context) (opened_term (length context) body) (opened_type (length context) (capturing gives e))
+    × SubtypesType context (capturing (FunctionShape takes c gives e) (captured_variables (FunctionTerm takes c body))) type
+
+-- A box has a type that is no more than a box of a type of its content.
+abbrev pub BoxesInvert : Type 0
+BoxesInvert =
+    (context : Context) (content : Var) (type : CapturingType)
+    → HasType context (BoxTerm content) type
+    → (held : CapturingType) × HasType context (VariableTerm content) held × Subtypes context (BoxShape held.shape held.set) type.shape

@@ -1,0 +1,18 @@
+//! The laws of typing. The functions do nothing.
+ghost use Rattle.cc_meta.specs.TypingLaws as law;
+
+/// Typing is kept in longer contexts, where a variable's type becomes smaller, and where variables and shapes are put for
+/// the variable of a binder.
+pub fn typing_goes_along()
+    ensures weakening { law.TypingWeakens }
+    ensures narrowing { law.TypingNarrows }
+    ensures variable { law.VariablesSubstitute }
+    ensures shape { law.ShapesSubstitute }
+{}
+
+/// What values capture, and what boxes and functions are made of.
+pub fn inversion()
+    ensures captured { law.ValuesCaptureTheirSets }
+    ensures functions { law.FunctionsInvert }
+    ensures boxes { law.BoxesInvert }
+{}

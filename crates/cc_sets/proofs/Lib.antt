@@ -1,0 +1,2 @@
+pub mod ComputedExamples
+pub mod ShapeEquality

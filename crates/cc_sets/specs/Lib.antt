@@ -1,0 +1,4 @@
+pub mod Avoidance
+pub mod Comparison
+pub mod Examples
+pub mod Exposing
