@@ -8,6 +8,7 @@ pub mod ContextMapInstances
 pub mod ContextMapping
 pub mod DirectSubtyping
 pub mod Endings
+pub mod Erasure
 pub mod ExposingShapes
 pub mod Extensions
 pub mod FormedContexts

@@ -1,6 +1,7 @@
 -- Runs of sound states.
-use Rattle.std.proofs.Common.{◌≡◌, ℕ, zero, suc, Bool, true, false, cond, List, [], ◌∷◌, Option, Some, None, inl, inr, ◌⊎◌, refl, sym, ap, ◌∙◌, subst}
-use Rattle.std.specs.Prelude.{ℤ, slice_get, slice_set}
+use Rattle.std.proofs.Common.{◌≡◌, ◌<◌, ◌≤◌, ◌+◌, arith, ℕ, zero, suc, Bool, true, false, cond, List, [], ◌∷◌, Option, Some, None, inl, inr, ◌⊎◌, refl, sym, ap, ◌∙◌, subst}
+use Rattle.std.specs.List.{range_with_len}
+use Rattle.std.specs.Prelude.{filter, ℤ, slice_get, slice_set}
 use Rattle.std.specs.Option.{option_map}
 use Rattle.std.proofs.lemmas.Bool.{cases_eq}
 use Rattle.cc_base.specs.declared.literal.Base.{Base}
@@ -15,7 +16,7 @@ use Rattle.cc_core.specs.Terms.{Literal, UnitLiteral, TruthLiteral, NumberLitera
 use Rattle.cc_core.specs.Contexts.{lookup}
 use Rattle.cc_core.specs.Captured.{captured_variables, variable_set}
 use Rattle.cc_core.specs.Typing.{base_of, base_operated, base_taken, base_answered}
-use Rattle.cc_core.specs.Stores.{Cell, ValueCell, DeviceCell, LabelCell, Store}
+use Rattle.cc_core.specs.Stores.{Cell, ValueCell, DeviceCell, LabelCell, Store, is_permitted}
 use Rattle.cc_device.specs.Devices.{DeviceState, Console, File, Counter, base_of_device, Answer, answer_of, read_at, Devices, replying, reply_of, operate}
 use Rattle.cc_device.specs.Events.{Event, Operated, Follows, operated, FollowsAll, no_event, then_event, literal_shown}
 use Rattle.cc_meta.specs.Machine.{Configuration, configured, Outcome, Stuck, Final, Next, Ask, is_taken, step}
@@ -298,20 +299,47 @@ by_cap : (set : Set) (n : ℕ) → (b : Bool) → contains Cap set ≡ b → (b 
 by_cap set n true e otherwise = refl
 by_cap set n false e otherwise = otherwise refl
 
+-- what a test gives stays listed, and the numbers below a count are listed
+listed_where_true : (test : ℕ → Bool) (xs : List ℕ) (n : ℕ) → IsListed n xs → test n ≡ true → IsListed n (filter test xs)
+listed_where_true test [] n h e = h
+listed_where_true test (x ∷ xs) n h e =
+    elim (test x) as (λ b. test x ≡ b → IsListed n (cond b (x ∷ filter test xs) (filter test xs))) [
+      | true ↦ λ _. elim h as (λ _. IsListed n (x ∷ filter test xs)) [ inl same ↦ inl same | inr later ↦ inr (listed_where_true test xs n later e) ]
+      | false ↦ λ no. elim h as (λ _. IsListed n (filter test xs)) [
+        | inl same ↦ absurd (let clash : true ≡ false = sym e ∙ ap test same ∙ no in cc)
+        | inr later ↦ listed_where_true test xs n later e
+      ]
+    ] refl
+
+listed_in_range : (count from n : ℕ) → from ≤ n → n < from + count → IsListed n (range_with_len from count)
+listed_in_range zero from n low high = absurd (omega arith)
+listed_in_range (suc count) from n low high =
+    elim (cases_eq n from) as (λ _. IsListed n (from ∷ range_with_len (from + 1) count)) [
+      | inl same ↦ inl same
+      | inr other ↦ inr (listed_in_range count (from + 1) n (let l : from + 1 ≤ n = omega arith in l) (let l : n < from + 1 + count = omega arith in l))
+    ]
+
+reached_cell : {st : Store} {p n : ℕ} {b : Base} → Reaches st p (DeviceCell n b) → (q : ℕ) × (lookup st q ≡ Some (DeviceCell n b))
+reached_cell (here {position = q} there end) = (q, there)
+reached_cell (through there m rest) = reached_cell rest
+
 pub entries_keep_their_authority : EntriesKeepTheirAuthority
-entries_keep_their_authority store context entry unit shape set devices sound stored at_entry at_unit first names fuel device operation literal among_events =
+entries_keep_their_authority store context entry unit count shape set devices sound stored at_entry at_unit first names fuel device operation literal among_events =
     let state : State = record { configuration = configured store [] 0 (Application (Free entry) (Free unit)); devices = devices } in
     let reached = operated_devices_are_reached state (run fuel state).last (run fuel state).events sound (runs_are_steps fuel state) device operation literal among_events in
-    by_cap set device (contains Cap set) refl
+    let cell = reached_cell reached.2 in
+    let below : device < 0 + count = (let less = (first cell.0 device (base_operated operation) cell.1).1 in omega arith) in
+    listed_where_true (is_permitted set) (range_with_len 0 count) device (listed_in_range count 0 device (let l : 0 ≤ device = omega arith in l) below)
+    (by_cap set device (contains Cap set) refl
     (λ no_cap. elim (set_reaches-either (union (variable_set (Free entry)) (variable_set (Free unit))) empty reached) as (λ _. cond (contains Cap set) true (contains (Variable (Free device)) set) ≡ true) [
       | inl r ↦ elim (set_reaches-either (variable_set (Free entry)) (variable_set (Free unit)) r) as (λ _. cond (contains Cap set) true (contains (Variable (Free device)) set) ≡ true) [
         | inl e ↦
             let by = declared_reach (store_typed_from stored) entry shape set (DeviceCell device (base_operated operation)) at_entry (λ cap. let clash : true ≡ false = sym cap ∙ no_cap in cc) (variable_reaches e) in
             let named = names by.0 by.1 in
             let is : named.0 ≡ device = device_reached by.2 device named.0 (base_operated operation) named.1 refl named.2 in
-            let position : by.0 ≡ device = first by.0 named.0 named.1 named.2 ∙ is in
+            let position : by.0 ≡ device = (first by.0 named.0 named.1 named.2).0 ∙ is in
             permitted_by set device (subst (λ p. Member (Variable (Free p)) set) position by.1) (contains Cap set)
         | inr u ↦ absurd (literal_reaches_nothing (variable_reaches u) UnitLiteral at_unit)
       ]
       | inr none_reached ↦ absurd (set_reaches-none none_reached)
-    ])
+    ]))

@@ -1,3 +1,4 @@
+pub mod Alike
 pub mod AvoidanceLaws
 pub mod ContextMapLaws
 pub mod ContextMaps

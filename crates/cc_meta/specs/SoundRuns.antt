@@ -1,5 +1,5 @@
 -- What holds of whole runs of well-typed programs.
-use Rattle.std.specs.Prelude.{◌≡◌, ◌≢◌, ◌⊎◌, ℕ, List, [], ◌∷◌, Some, IsTrue, slice_get}
+use Rattle.std.specs.Prelude.{◌≡◌, ◌≢◌, ◌⊎◌, ◌<◌, ℕ, List, [], ◌∷◌, Some, slice_get}
 use Rattle.cc_base.specs.declared.literal.Base.{Base}
 use Rattle.cc_base.specs.declared.literal.Op.{Op}
 use Rattle.cc_capture.specs.declared.var.Var.TheVariants.{Free}
@@ -9,13 +9,13 @@ use Rattle.cc_core.specs.Shapes.{Shape, CapturingType}
 use Rattle.cc_core.specs.Terms.{Literal, UnitLiteral, Term, LiteralTerm, Application}
 use Rattle.cc_core.specs.Contexts.{TermEntry, Context, lookup}
 use Rattle.cc_core.specs.Typing.{base_operated, HasType}
-use Rattle.cc_core.specs.Stores.{ValueCell, DeviceCell, Store, HasStoreTyping, is_permitted}
+use Rattle.cc_core.specs.Stores.{ValueCell, DeviceCell, Store, HasStoreTyping, authority}
 use Rattle.cc_device.specs.Devices.{DeviceState, base_of_device, Devices}
 use Rattle.cc_device.specs.Events.{Event, Operated, FollowsAll, IsWellScoped}
 use Rattle.cc_meta.specs.Machine.{configured}
 use Rattle.cc_meta.specs.Reach.{SetReaches, captured_set}
 use Rattle.cc_meta.specs.Runs.{State, IsStuck, move, Leads, IsStopped, run}
-use Rattle.cc_meta.specs.Soundness.{labels_in, scopes_of, IsSound, ReachesNoNewDevice}
+use Rattle.cc_meta.specs.Soundness.{labels_in, scopes_of, IsListed, IsSound, ReachesNoNewDevice}
 
 -- each device cell has a device of its shape
 abbrev pub FitsDevices : Store → Devices → Type 0
@@ -79,9 +79,10 @@ abbrev pub EventsAreWellScoped : Type 0
 EventsAreWellScoped =
     (fuel : ℕ) (state : State) → IsSoundState state → scopes_of state.configuration.stack ≡ [] → IsWellScoped (run fuel state).events
 
--- devices stand at the first positions, each at its number
-abbrev pub DevicesStandFirst : Store → Type 0
-DevicesStandFirst store = (position number : ℕ) (base : Base) → lookup store position ≡ Some (DeviceCell number base) → position ≡ number
+-- so many devices stand at the first positions, each at its number
+abbrev pub DevicesStandFirst : Store → ℕ → Type 0
+DevicesStandFirst store count =
+    (position number : ℕ) (base : Base) → lookup store position ≡ Some (DeviceCell number base) → (position ≡ number) × (number < count)
 
 -- the set names devices, and perhaps the universal capability, but no other variable
 abbrev pub NamesDevices : Store → Set → Type 0
@@ -89,16 +90,17 @@ NamesDevices store set =
     (position : ℕ) → Member (Variable (Free position)) set
     → (number : ℕ) × (base : Base) × (lookup store position ≡ Some (DeviceCell number base))
 
--- The entry of a program, a function that is applied to unit, operates no device but those that its set gives leave to use.
+-- The entry of a program, which is applied to unit, operates only devices of its authority: those that its declared set gives
+-- leave to use.
 abbrev pub EntriesKeepTheirAuthority : Type 0
 EntriesKeepTheirAuthority =
-    (store : Store) (context : Context) (entry unit : ℕ) (shape : Shape) (set : Set) (devices : Devices)
+    (store : Store) (context : Context) (entry unit count : ℕ) (shape : Shape) (set : Set) (devices : Devices)
     → IsSoundState (record { configuration = configured store [] 0 (Application (Free entry) (Free unit)); devices = devices })
     → HasStoreTyping store context
     → lookup context entry ≡ Some (TermEntry shape set)
     → lookup store unit ≡ Some (ValueCell (LiteralTerm UnitLiteral))
-    → DevicesStandFirst store
+    → DevicesStandFirst store count
     → NamesDevices store set
     → (fuel device : ℕ) (operation : Op) (literal : Literal)
     → IsAmong (Operated device operation literal) (run fuel (record { configuration = configured store [] 0 (Application (Free entry) (Free unit)); devices = devices })).events
-    → IsTrue (is_permitted set device)
+    → IsListed device (authority count set)

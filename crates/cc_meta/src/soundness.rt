@@ -1,4 +1,5 @@
 //! Soundness of runs. The functions do nothing.
+ghost use Rattle.cc_meta.specs.Alike as alike;
 ghost use Rattle.cc_meta.specs.Soundness as steps;
 ghost use Rattle.cc_meta.specs.SoundRuns as runs;
 ghost use Rattle.cc_meta.specs.ExampleRuns as example;
@@ -35,4 +36,10 @@ pub fn scopes_are_kept()
 pub fn worked_runs()
     ensures boundaries { example.NestedBoundariesRun }
     ensures boxes { example.BoxesPassRun }
+{}
+
+/// No type or shape that is written in a term decides a step, or what is captured.
+pub fn annotations_decide_nothing()
+    ensures captured { alike.AlikeCaptureTheSame }
+    ensures steps { alike.AlikeStepAlike }
 {}
