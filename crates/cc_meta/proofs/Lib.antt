@@ -2,7 +2,6 @@ pub mod AnswerRows
 pub mod Avoiding
 pub mod AvoidingPlaces
 pub mod CanonicalForms
-pub mod CapturedActions
 pub mod ComparisonLemmas
 pub mod ContextMapInstances
 pub mod ContextMapping
@@ -17,6 +16,7 @@ pub mod InternalConversions
 pub mod InternalTyping
 pub mod Invariant
 pub mod KindedContexts
+pub mod PutCaptures
 pub mod ReachLemmas
 pub mod RunTheorems
 pub mod ScopeRows

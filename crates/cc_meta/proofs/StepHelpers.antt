@@ -26,7 +26,7 @@ use Rattle.cc_meta.specs.Machine.{Stack, configured}
 use Rattle.cc_meta.specs.Reach.{IsEnd, Reaches, here, through, SetReaches, captured_by_stack}
 use Rattle.cc_meta.specs.Soundness.{labels_in, countdown, scopes_of, IsListed, IsFalling, FramesReachScopes, FitsScopes, OperatesNoDevice}
 use Rattle.cc_meta.proofs.DirectSubtyping.{SubtypesDirectly, alike, under_any, through_bound, functions, type_functions, boxes}
-use Rattle.cc_meta.proofs.CapturedActions.{captured_when_put}
+use Rattle.cc_meta.proofs.PutCaptures.{captured_when_put}
 use Rattle.cc_meta.proofs.FreeMaps.{lookup_cases}
 use Rattle.cc_meta.proofs.InternalTyping.{HasVariable, exact_literal, Typed, widened, captured_kinded, kinded_without_binder}
 use Rattle.cc_meta.proofs.StoreTyping.{StoreTyped, store_length}

@@ -21,7 +21,7 @@ use Rattle.cc_core.proofs.KindFacts.{IsKindedSet, IsKinded}
 use Rattle.cc_meta.specs.Machine.{LetFrame, Stack, Configuration, configured, put_in, let_step, apply_step, type_apply_step, unbox_step, literal_in, result_of, primitive_step, conditional_step, repetition_step}
 use Rattle.cc_meta.specs.Reach.{through, SetReaches, captured_by_stack}
 use Rattle.cc_meta.proofs.DirectSubtyping.{SubtypesDirectly}
-use Rattle.cc_meta.proofs.CapturedActions.{free_outside, captured_when_shape_put}
+use Rattle.cc_meta.proofs.PutCaptures.{free_outside, captured_when_shape_put}
 use Rattle.cc_meta.proofs.FormedContexts.{IsKindedContext, IsKinded-added, IsKindedSet-added}
 use Rattle.cc_meta.proofs.FreeMaps.{as_is, more, subcaptures-kept, subtypes-kept}
 use Rattle.cc_meta.proofs.InternalTyping.{HasVariable, exact_application, exact_type_application, exact_unboxing, exact_let, exact_primitive, exact_conditional, exact_repetition, Typed, widened, captured_kinded, put_kinded, put_kinded_set, shape_put_kinded, shape_put_kinded_set}

@@ -28,7 +28,7 @@ use Rattle.cc_core.proofs.FreshOpenings.{fresh_opening_term}
 use Rattle.cc_core.proofs.KindFacts.{IsKindedSet, IsKinded, IsKindedTerm}
 use Rattle.cc_core.proofs.KindedActions.{IsKindedTerm-act, IsKindedTerm-meets}
 use Rattle.cc_meta.proofs.DirectSubtyping.{SubtypesDirectly, alike, direct_transitive}
-use Rattle.cc_meta.proofs.CapturedActions.{captured_variables-act, freely-KeepsCaptures}
+use Rattle.cc_core.proofs.CapturedActions.{captured_variables-act, freely-PassesBinders}
 use Rattle.cc_meta.proofs.FormedContexts.{IsKindedEntry, IsKindedContext, length-kinds_of, kinded_single, entry_kinded, kinds_below}
 use Rattle.cc_meta.proofs.FreeMaps.{as_is, Maps, maps_kinds, map_kinded, map_kinded_at0, map_kinded_set, map_level, map_element, map_subcaptures, agree_shape, agree_set, maps_under, opened_map, opened_map_set, map_subtypes}
 use Rattle.cc_meta.proofs.InternalTyping.{HasVariable, TypedExactly, exact_variable, exact_literal, exact_function, exact_type_function, exact_application, exact_type_application, exact_box, exact_unboxing, exact_let, exact_primitive, exact_conditional, exact_repetition, exact_operation, exact_operation_alone, exact_boundary, exact_leave, Typed, widened, exactly_kinded}
@@ -156,7 +156,7 @@ mutual
       let under = maps_under g d to shapes maps formed (TermEntry takes c) entry in
       let body' = map_typed typed (TermEntry (act (freely to shapes) 0 takes) (act_set (freely to shapes) 0 c) ∷ d) (overridden to (length g) (length d)) (overridden shapes (length g) (TypeVariable (Free (length d)))) under (entry, formed) in
       exactly_below
-      (exactly_is refl (captured_variables-act (freely to shapes) (freely-KeepsCaptures to shapes) 0 (FunctionTerm takes c body))
+      (exactly_is refl (captured_variables-act (freely to shapes) (freely-PassesBinders to shapes) 0 (FunctionTerm takes c body))
       (exact_function (map_kinded g d to shapes maps (TermKind ∷ []) 1 gives kg) (map_kinded_set g d to shapes maps (TermKind ∷ []) e ke)
       (typed_is (opened_term_map g d to shapes maps formed TermKind body k.2) (opened_map g d to shapes maps formed (TermEntry takes c) entry TermKind gives kg) (opened_map_set g d to shapes maps formed (TermEntry takes c) entry TermKind e ke) body')))
   map_exactly (exact_type_function {g = g} {bound = bound} {gives = gives} {e = e} {body = body} kg ke typed) d to shapes maps formed k =
@@ -164,7 +164,7 @@ mutual
       let under = maps_under g d to shapes maps formed (TypeEntry bound) entry in
       let body' = map_typed typed (TypeEntry (act (freely to shapes) 0 bound) ∷ d) (overridden to (length g) (length d)) (overridden shapes (length g) (TypeVariable (Free (length d)))) under (entry, formed) in
       exactly_below
-      (exactly_is refl (captured_variables-act (freely to shapes) (freely-KeepsCaptures to shapes) 0 (TypeFunctionTerm bound body))
+      (exactly_is refl (captured_variables-act (freely to shapes) (freely-PassesBinders to shapes) 0 (TypeFunctionTerm bound body))
       (exact_type_function (map_kinded g d to shapes maps (TypeKind ∷ []) 1 gives kg) (map_kinded_set g d to shapes maps (TypeKind ∷ []) e ke)
       (typed_is (opened_term_map g d to shapes maps formed TypeKind body k.1) (opened_map g d to shapes maps formed (TypeEntry bound) entry TypeKind gives kg) (opened_map_set g d to shapes maps formed (TypeEntry bound) entry TypeKind e ke) body')))
   map_exactly (exact_application {g = g} {function = v} {argument = w} {takes = takes} {gives = gives} {c = c} {e = e} function argument) d to shapes maps formed k =

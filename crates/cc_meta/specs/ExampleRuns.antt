@@ -1,17 +1,18 @@
--- Two programs, and their runs as the definitions give them.
-use Rattle.std.specs.Prelude.{◌≡◌, ℕ, ◌+◌, pos, [], ◌∷◌, Some}
+-- Small programs, and their runs as the definitions give them.
+use Rattle.std.specs.Prelude.{◌≡◌, ℕ, ◌+◌, pos, [], ◌∷◌, Option, Some, None}
 use Rattle.cc_base.specs.declared.literal.Base.TheVariants as bases
 use Rattle.cc_base.specs.declared.literal.Operator.TheVariants as operators
 use Rattle.cc_base.specs.declared.literal.Op.TheVariants as operations
 use Rattle.cc_capture.specs.declared.var.Var.TheVariants.{Bound, Free}
 use Rattle.cc_capture.specs.Sets.{empty}
-use Rattle.cc_core.specs.Shapes.{Shape, BaseShape, AnyShape, TypeVariable, FunctionShape, BoxShape}
-use Rattle.cc_core.specs.Terms.{UnitLiteral, NumberLiteral, Absent, Term, VariableTerm, LiteralTerm, FunctionTerm, TypeFunctionTerm, BoxTerm, Application, TypeApplication, Unboxing, Let, Primitive, Operation, Boundary, Leave}
+use Rattle.cc_core.specs.Shapes.{Shape, BaseShape, AnyShape, TypeVariable, FunctionShape, BoxShape, capturing}
+use Rattle.cc_core.specs.Terms.{Literal, UnitLiteral, NumberLiteral, Absent, Term, VariableTerm, LiteralTerm, FunctionTerm, TypeFunctionTerm, BoxTerm, Application, TypeApplication, Unboxing, Let, Primitive, Operation, Boundary, Leave}
 use Rattle.cc_core.specs.Captured.{variable_set}
-use Rattle.cc_core.specs.Stores.{ValueCell, DeviceCell, Store}
+use Rattle.cc_core.specs.Stores.{ValueCell, DeviceCell, Store, cell_at}
+use Rattle.cc_core.specs.Typing.{HasType}
 use Rattle.cc_device.specs.Devices.{Devices, Console, Counter}
 use Rattle.cc_device.specs.Events.{Operated, Entered, Exited}
-use Rattle.cc_meta.specs.Machine.{configured}
+use Rattle.cc_meta.specs.Machine.{Configuration, configured, literal_in}
 use Rattle.cc_meta.specs.Runs.{State, run, Done}
 
 abbrev number : ℕ → Term
@@ -34,6 +35,16 @@ started entry store = record {
   devices = two_devices;
 }
 
+-- the literal that a term stands for
+abbrev answered_by : Store → Term → Option Literal
+answered_by store (VariableTerm variable) = literal_in (cell_at store variable)
+answered_by store (LiteralTerm literal) = Some literal
+answered_by store _ = None
+
+-- the literal that a final configuration answers with
+abbrev literal_answered : Configuration → Option Literal
+literal_answered configuration = answered_by configuration.store configuration.term
+
 -- An exit of the outer one of two boundaries:
 --   fun (u: Unit) => val r = boundary [Int] a => val s = boundary [Int] b => exit [Int] (a, 4); s + 100; out.print(r)
 abbrev leaves_both : Term
@@ -55,6 +66,7 @@ NestedBoundariesRun =
     ((run 9 nested_boundaries).events ≡ Entered 0 ∷ Entered 1 ∷ Exited 0 ∷ Operated 0 operations.Print (NumberLiteral (pos 4)) ∷ [])
     × ((run 9 nested_boundaries).ending ≡ Done)
     × ((run 9 nested_boundaries).steps ≡ 9)
+    × (literal_answered (run 9 nested_boundaries).last.configuration ≡ Some UnitLiteral)
 
 abbrev prints_it : Shape
 prints_it = FunctionShape whole_numbers empty whole_numbers empty
@@ -86,3 +98,12 @@ BoxesPassRun =
     ((run 16 boxes_pass).events ≡ Operated 0 operations.Print (NumberLiteral (pos 3)) ∷ [])
     × ((run 16 boxes_pass).ending ≡ Done)
     × ((run 16 boxes_pass).steps ≡ 16)
+    × (literal_answered (run 16 boxes_pass).last.configuration ≡ Some (NumberLiteral (pos 3)))
+
+-- A boundary that is left at once: boundary [Unit] z => exit [Unit] (z, unit)
+abbrev pub leaves_at_once : Term
+leaves_at_once = Boundary (BaseShape bases.Unit) (Let Absent (LiteralTerm UnitLiteral) (Leave (BaseShape bases.Unit) empty (Bound 1) (Bound 0)))
+
+-- it gives unit, and captures nothing
+abbrev pub LeavingAtOnceIsTyped : Type 0
+LeavingAtOnceIsTyped = HasType [] leaves_at_once (capturing (BaseShape bases.Unit) empty)

@@ -32,10 +32,11 @@ pub fn scopes_are_kept()
     ensures well_scoped { runs.EventsAreWellScoped }
 {}
 
-/// The runs of two programs, by computation.
+/// The runs of two programs, by computation, and the type of a third.
 pub fn worked_runs()
     ensures boundaries { example.NestedBoundariesRun }
     ensures boxes { example.BoxesPassRun }
+    ensures typed { example.LeavingAtOnceIsTyped }
 {}
 
 /// No type or shape that is written in a term decides a step, or what is captured.

@@ -1,4 +1,4 @@
-use Rattle.cc_meta.proofs.WorkedRuns.{nested_boundaries_run, boxes_pass_run}
+use Rattle.cc_meta.proofs.WorkedRuns.{nested_boundaries_run, boxes_pass_run, leaving_at_once_is_typed}
 use Rattle.cc_meta.proofs.soundness.worked_runs.Goals as goal
 
 pub returns : goal.returns
@@ -6,4 +6,5 @@ returns c =
     record {
       boundaries = nested_boundaries_run;
       boxes = boxes_pass_run;
+      typed = leaving_at_once_is_typed;
     }
