@@ -6,6 +6,8 @@ pub mod avoidance_laws;
 pub mod context_map_laws;
 pub mod examples;
 pub mod exposing_laws;
+pub mod inversion_laws;
+pub mod mapped_typing_laws;
 pub mod soundness;
 pub mod subtyping_laws;
 pub mod typing_laws;
