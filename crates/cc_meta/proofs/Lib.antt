@@ -15,7 +15,9 @@ pub mod FreeMaps
 pub mod InternalConversions
 pub mod InternalTyping
 pub mod Invariant
+pub mod Inversions
 pub mod KindedContexts
+pub mod MappedTyping
 pub mod PutCaptures
 pub mod ReachLemmas
 pub mod RunTheorems

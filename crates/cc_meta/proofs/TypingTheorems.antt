@@ -1,29 +1,25 @@
 -- The laws of typing, from those of typing by form.
-use Rattle.std.proofs.Common.{◌≡◌, ℕ, true, List, [], ◌∷◌, ◌++◌, length, Some, inl, inr, refl, ap, ◌∙◌, subst}
+use Rattle.std.proofs.Common.{◌≡◌, ℕ, true, List, [], ◌∷◌, ◌++◌, Some, inl, inr, refl, ap, ◌∙◌, subst}
 use Rattle.std.proofs.lemmas.Bool.{and_parts}
-use Rattle.cc_capture.specs.declared.var.Var.{Var}
 use Rattle.cc_capture.specs.declared.var.Var.TheVariants.{Free}
 use Rattle.cc_capture.specs.declared.var.Elem.TheVariants.{Var as Variable}
 use Rattle.cc_capture.specs.Sets.{Set}
-use Rattle.cc_core.specs.Shapes.{Shape, FunctionShape, BoxShape, CapturingType, capturing}
-use Rattle.cc_core.specs.Terms.{Term, FunctionTerm, BoxTerm}
+use Rattle.cc_core.specs.Shapes.{Shape, CapturingType}
 use Rattle.cc_core.specs.Contexts.{Bind, TermEntry, TypeEntry, Context, lookup}
 use Rattle.cc_core.specs.Traversal.{act, act_set}
-use Rattle.cc_core.specs.Substitution.{opened, opened_set, opened_term, freely}
+use Rattle.cc_core.specs.Substitution.{freely}
 use Rattle.cc_core.specs.WellFormed.{Kind, TermKind, TypeKind, kinds_of, is_well_formed_shape, is_well_formed_set, is_well_formed_type}
-use Rattle.cc_core.specs.Captured.{captured_variables}
 use Rattle.cc_core.specs.Subcapturing.{Subcaptures, variable, SubcapturesSet}
 use Rattle.cc_core.proofs.Lookups.{lookup-newest}
 use Rattle.cc_core.proofs.KindFacts.{IsKindedSet, IsKinded, IsKinded-from, IsKindedSet-from, IsKindedTerm-from}
-use Rattle.cc_meta.specs.TypingLaws.{TypingWeakens, TypingNarrows, VariablesSubstitute, ShapesSubstitute, ValuesCaptureTheirSets, FunctionsInvert, BoxesInvert}
-use Rattle.cc_meta.proofs.DirectSubtyping.{SubtypesDirectly, through_bound, direct_from, direct_to}
+use Rattle.cc_meta.specs.TypingLaws.{TypingWeakens, TypingNarrows, VariablesSubstitute, ShapesSubstitute, ValuesCaptureTheirSets}
+use Rattle.cc_meta.proofs.DirectSubtyping.{SubtypesDirectly, through_bound, direct_from}
 use Rattle.cc_meta.proofs.FormedContexts.{IsKindedContext, IsKindedContext-from, kind_of_entry}
 use Rattle.cc_meta.proofs.FreeMaps.{Longer, as_is, more, longer-tail, lookup-kept, lookup_cases, still, still_set, still_term, same_position, same_variable, Maps, EntryBelow, subtypes-kept, subcaptures-kept}
 use Rattle.cc_core.proofs.SubcapturingLemmas.{subcaptures_transitive}
 use Rattle.cc_meta.proofs.DirectSubtyping.{direct_transitive}
-use Rattle.cc_meta.proofs.InternalTyping.{HasVariable, exact_function, exact_box, Typed, widened}
 use Rattle.cc_meta.proofs.TypingMaps.{typed_is, typed_kinded_term, map_typed}
-use Rattle.cc_meta.proofs.TypingLemmas.{typed_longer, variable_typed, has_variable_typed, body_typed, type_body_typed, answer_captures}
+use Rattle.cc_meta.proofs.TypingLemmas.{typed_longer, variable_typed, body_typed, type_body_typed, answer_captures}
 use Rattle.cc_meta.proofs.InternalConversions.{typed_from, type_from}
 
 longer_by : (added g : Context) → Longer g (added ++ g)
@@ -118,26 +114,3 @@ typing_narrows g wide narrow type t less formed' h =
 
 pub values_capture_their_sets : ValuesCaptureTheirSets
 values_capture_their_sets g v type isv h = answer_captures (typed_from h) isv
-
-invert_function : {g : Context} {takes : Shape} {c : Set} {body : Term} {s : Shape} {d : Set} → IsKindedContext g → Typed g (FunctionTerm takes c body) s d
-    → (gives : Shape) × (e : Set) × Typed (TermEntry takes c ∷ g) (opened_term (length g) body) (opened (length g) gives) (opened_set (length g) e)
-    × SubcapturesSet g (captured_variables (FunctionTerm takes c body)) d × SubtypesDirectly g (FunctionShape takes c gives e) s
-invert_function formed (widened kt (exact_function {gives = gives} {e = e} kg ke typed) captures below ks kc) = (gives, e, typed, captures, below)
-
-pub functions_invert : FunctionsInvert
-functions_invert g takes c body type h =
-    let formed = IsKindedContext-from g h.context_formed in
-    let typed = typed_from h in
-    let parts = invert_function formed typed in
-    let k = typed_kinded_term typed in
-    (parts.0, parts.1, type_from ((k.0, k.1), formed) (typed_kinded_term parts.2) parts.2, (parts.3, direct_to parts.4))
-
-invert_box : {g : Context} {v : Var} {s : Shape} {d : Set} → Typed g (BoxTerm v) s d → (held : Shape) × (c : Set) × HasVariable g v held c × SubtypesDirectly g (BoxShape held c) s
-invert_box (widened kt (exact_box {s = held} {c = c} has no_cap) captures below ks kc) = (held, c, has, below)
-
-pub boxes_invert : BoxesInvert
-boxes_invert g v type h =
-    let formed = IsKindedContext-from g h.context_formed in
-    let parts = invert_box (typed_from h) in
-    let typed = has_variable_typed parts.2 in
-    (capturing parts.0 parts.1, type_from formed (typed_kinded_term typed) typed, direct_to parts.3)

@@ -5,7 +5,9 @@ pub mod ContextMaps
 pub mod ExampleRuns
 pub mod Examples
 pub mod ExposingLaws
+pub mod Inversion
 pub mod Machine
+pub mod MappedTyping
 pub mod Reach
 pub mod Runs
 pub mod SoundRuns

@@ -1,10 +1,9 @@
 -- The laws of typing.
 use Rattle.std.specs.Prelude.{zero, length, [], ◌∷◌, ◌++◌, IsTrue}
 use Rattle.cc_capture.specs.declared.var.Var.{Var}
-use Rattle.cc_capture.specs.Sets.{Set}
-use Rattle.cc_core.specs.Shapes.{Shape, FunctionShape, BoxShape, CapturingType, capturing}
-use Rattle.cc_core.specs.Terms.{Term, VariableTerm, FunctionTerm, BoxTerm}
-use Rattle.cc_core.specs.Contexts.{TermEntry, TypeEntry, Context, entry_of}
+use Rattle.cc_core.specs.Shapes.{Shape, CapturingType}
+use Rattle.cc_core.specs.Terms.{Term, VariableTerm}
+use Rattle.cc_core.specs.Contexts.{TypeEntry, Context, entry_of}
 use Rattle.cc_core.specs.Traversal.{act_type, act_term}
 use Rattle.cc_core.specs.Substitution.{putting, putting_shape, opened_type, opened_term}
 use Rattle.cc_core.specs.WellFormed.{TermKind, TypeKind, kinds_of, is_well_formed_term, is_well_formed_type, IsWellFormedContext, IsWellFormedShape}
@@ -51,19 +50,3 @@ abbrev pub ValuesCaptureTheirSets : Type 0
 ValuesCaptureTheirSets =
     (context : Context) (value : Term) (type : CapturingType)
     → IsTrue (is_value value) → HasType context value type → SubcapturesSet context (captured_variables value) type.set
-
--- A function has a type that is no more than its parameter and a type of its body, and no set smaller than what it captures.
-abbrev pub FunctionsInvert : Type 0
-FunctionsInvert =
-    (context : Context) (takes : Shape) (c : Set) (body : Term) (type : CapturingType)
-    → HasType context (FunctionTerm takes c body) type
-    → (gives : Shape) × (e : Set)
-    × HasType (TermEntry takes c ∷ context) (opened_term (length context) body) (opened_type (length context) (capturing gives e))
-    × SubtypesType context (capturing (FunctionShape takes c gives e) (captured_variables (FunctionTerm takes c body))) type
-
--- A box has a type that is no more than a box of a type of its content.
-abbrev pub BoxesInvert : Type 0
-BoxesInvert =
-    (context : Context) (content : Var) (type : CapturingType)
-    → HasType context (BoxTerm content) type
-    → (held : CapturingType) × HasType context (VariableTerm content) held × Subtypes context (BoxShape held.shape held.set) type.shape

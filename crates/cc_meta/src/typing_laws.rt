@@ -10,9 +10,7 @@ pub fn typing_goes_along()
     ensures shape { law.ShapesSubstitute }
 {}
 
-/// What values capture, and what boxes and functions are made of.
-pub fn inversion()
-    ensures captured { law.ValuesCaptureTheirSets }
-    ensures functions { law.FunctionsInvert }
-    ensures boxes { law.BoxesInvert }
+/// A value captures no more than the set of its type.
+pub fn values_capture_their_sets()
+    ensures { law.ValuesCaptureTheirSets }
 {}
