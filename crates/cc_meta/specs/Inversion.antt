@@ -125,7 +125,7 @@ ConditionalsInvert =
     × (note ≡ Written gives.shape gives.set) × HasType context (VariableTerm test) (capturing (BaseShape bases.Bool) d)
     × HasType context positive gives × HasType context negative gives × SubtypesType context gives type
 
--- a number of times a function from numbers to the unit, where both capture nothing
+-- the count is a number, and the function takes numbers to unit values
 abbrev pub RepetitionsInvert : Type 0
 RepetitionsInvert =
     (context : Context) (count function : Var) (type : CapturingType)
