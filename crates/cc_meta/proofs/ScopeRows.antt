@@ -18,11 +18,12 @@ use Rattle.cc_core.specs.WellFormed.{TermKind, kinds_of}
 use Rattle.cc_core.specs.Captured.{captured_variables, without_binder, variable_set, optional_variable_set}
 use Rattle.cc_core.specs.Subcapturing.{SubcapturesSet}
 use Rattle.cc_core.specs.Typing.{base_of, base_operated, base_taken, base_answered}
+use Rattle.cc_core.specs.Comparison.{base_number}
 use Rattle.cc_core.specs.Stores.{Cell, ValueCell, DeviceCell, LabelCell, Store, cell_at, is_device_base}
 use Rattle.cc_core.proofs.Lookups.{lookup-newest}
 use Rattle.cc_core.proofs.KindFacts.{IsKindedSet, IsKinded}
 use Rattle.cc_device.specs.Events.{Exited, entered, exited}
-use Rattle.cc_meta.specs.Machine.{Frame, LetFrame, ScopeFrame, RepetitionFrame, Stack, Configuration, configured, Ask, Stuck, same_base, base_number, is_taken, argument_at, operation_step, below_scope, exit_to, exit_step, boundary_step}
+use Rattle.cc_meta.specs.Machine.{Frame, LetFrame, ScopeFrame, RepetitionFrame, Stack, Configuration, configured, Ask, Stuck, same_base, is_taken, argument_at, operation_step, below_scope, exit_to, exit_step, boundary_step}
 use Rattle.cc_meta.specs.Reach.{IsEnd, Reaches, here, through, SetReaches, captured_by_frame, captured_by_stack}
 use Rattle.cc_meta.specs.Soundness.{labels_in, countdown, scopes_of, IsListed, IsFalling, FramesReachScopes}
 use Rattle.cc_meta.proofs.DirectSubtyping.{SubtypesDirectly}

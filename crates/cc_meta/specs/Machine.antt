@@ -4,7 +4,6 @@ use Rattle.std.specs.Option.{option_map}
 use Rattle.std.specs.Int.{w64, int_wrap}
 use Rattle.std.specs.Ordering.{int_eq}
 use Rattle.cc_base.specs.declared.literal.Base.{Base}
-use Rattle.cc_base.specs.declared.literal.Base.TheVariants as bases
 use Rattle.cc_base.specs.declared.literal.Operator.{Operator}
 use Rattle.cc_base.specs.declared.literal.Operator.TheVariants as operators
 use Rattle.cc_base.specs.declared.literal.Op.{Op}
@@ -15,6 +14,7 @@ use Rattle.cc_core.specs.Terms.{Literal, UnitLiteral, TruthLiteral, NumberLitera
 use Rattle.cc_core.specs.Traversal.{act_term}
 use Rattle.cc_core.specs.Substitution.{putting, putting_shape, opened_term}
 use Rattle.cc_core.specs.Captured.{is_value}
+use Rattle.cc_core.specs.Comparison.{base_number}
 use Rattle.cc_core.specs.Typing.{base_of, base_operated, base_taken}
 use Rattle.cc_core.specs.Stores.{Cell, ValueCell, DeviceCell, LabelCell, Store, cell_at}
 use Rattle.cc_device.specs.Events.{Event, Entered, Ended, Exited}
@@ -119,16 +119,7 @@ repeat_step store stack labels function begun wanted =
     (going store stack labels (LiteralTerm UnitLiteral))
     (call_with_number store stack labels function (suc begun) wanted begun)
 
--- a number for each base shape, by which they are told apart
-abbrev pub base_number : Base → ℕ
-base_number bases.Unit = 0
-base_number bases.Bool = 1
-base_number bases.Int = 2
-base_number bases.Str = 3
-base_number bases.Console = 4
-base_number bases.File = 5
-base_number bases.Counter = 6
-
+-- whether two base shapes are one
 abbrev pub same_base : Base → Base → Bool
 same_base left right = nat_eq (base_number left) (base_number right)
 
