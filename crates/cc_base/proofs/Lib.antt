@@ -1,2 +1,1 @@
 mod ReservedWords
-mod NameTexts

@@ -1,11 +1,11 @@
 -- A reserved word is ASCII, so its bytes are its code points.
-use Rattle.std.proofs.Common.{◌≡◌, ℕ, zero, suc, ◌<◌, Bool, true, false, ◌&&◌, ◌||◌, ltb, List, [], ◌∷◌, get_or, refl, sym, ap, ◌∙◌, arith, tests, rules}
-use Rattle.std.specs.List.{list_all, list_any}
+use Rattle.std.proofs.Common.{◌≡◌, ℕ, zero, suc, Bool, true, false, ◌&&◌, ltb, List, [], ◌∷◌, map, refl, sym, ap, ◌∙◌, arith}
+use Rattle.std.specs.List.{list_any}
 use Rattle.std.specs.Str.{bytes_eq, chars, IsUtf8, IsAscii}
 use Rattle.std.proofs.lemmas.Str.{chars-IsAscii, encodes-IsAscii, encodes-chars}
 use Rattle.std.proofs.lemmas.Slice.Eq.{bytes_eq-Decides}
 use Rattle.std.proofs.lemmas.Bool.Decides.{same_from_decides, Decides-ltb}
-use Rattle.cc_base.specs.Names.{is_reserved}
+use Rattle.cc_base.specs.Names.{is_reserved, reserved_words}
 use Rattle.cc_base.specs.declared.name.TheConstants.{RESERVED_WORDS}
 use lib.Utf8.{encodes}
 
@@ -35,7 +35,9 @@ module _ {W : Type 0} (text_of : W → List ℕ) where
   are_ascii [] = true
   are_ascii (w ∷ ws) = is_ascii_word (text_of w) && are_ascii ws
 
-  any-chars : (ws : List W) (bs : List ℕ) → are_ascii ws ≡ true → IsUtf8 bs → list_any (λ word. bytes_eq (text_of word) bs) ws ≡ list_any (λ word. bytes_eq (text_of word) (chars bs)) ws
+  any-chars :
+      (ws : List W) (bs : List ℕ) → are_ascii ws ≡ true → IsUtf8 bs
+      → list_any (λ word. bytes_eq (text_of word) bs) ws ≡ list_any (λ word. bytes_eq word (chars bs)) (map text_of ws)
   any-chars [] bs h u = refl
   any-chars (w ∷ ws) bs h u =
       let each = both (is_ascii_word (text_of w)) (are_ascii ws) h in
@@ -44,5 +46,5 @@ module _ {W : Type 0} (text_of : W → List ℕ) where
       cc
 
 pub is_reserved-chars : (bs : List ℕ) → IsUtf8 bs → list_any (λ word. bytes_eq word.now bs) RESERVED_WORDS ≡ is_reserved (chars bs)
-unfolding is_reserved
+unfolding is_reserved reserved_words
 is_reserved-chars bs u = any-chars (λ word. word.now) RESERVED_WORDS bs refl u

@@ -1,22 +1,33 @@
 -- Names, as lists of code points.
-use Rattle.std.specs.Prelude.{ℕ, Bool, false, ◌&&◌, not, List, [], ◌∷◌, IsTrue}
+use Rattle.std.specs.Prelude.{ℕ, Bool, false, ◌&&◌, not, List, [], ◌∷◌, codes, IsTrue}
 use Rattle.std.specs.Str.{bytes_eq}
-use Rattle.std.specs.Char.{is_ascii_alphabetic, is_ascii_alphanumeric}
 use Rattle.std.specs.List.{list_all, list_any}
-use Rattle.cc_base.specs.declared.name.TheConstants.{RESERVED_WORDS}
+use Rattle.unicode_ident.specs.Ident.{is_xid_start, is_xid_continue}
 
 -- there is a first code point, and it passes the test
 abbrev pub first_passes : (ℕ → Bool) → List ℕ → Bool
 first_passes test [] = false
 first_passes test (c ∷ cs) = test c
 
--- one of the reserved words, which are ASCII
-unfoldable pub is_reserved : List ℕ → Bool
-is_reserved cs = list_any (λ word. bytes_eq word.now cs) RESERVED_WORDS
+-- the words of the language, which name nothing
+unfoldable pub reserved_words : List (List ℕ)
+reserved_words =
+    codes "import" ∷ codes "def" ∷ codes "rec" ∷ codes "fun" ∷ codes "val" ∷
+    codes "if" ∷ codes "then" ∷ codes "else" ∷ codes "box" ∷ codes "unbox" ∷
+    codes "boundary" ∷ codes "exit" ∷ codes "repeat" ∷ codes "true" ∷ codes "false" ∷
+    codes "unit" ∷ codes "cap" ∷ codes "Unit" ∷ codes "Bool" ∷ codes "Int" ∷
+    codes "Str" ∷ codes "Any" ∷ codes "Console" ∷ codes "File" ∷ codes "Counter" ∷
+    codes "Exit" ∷ codes "Box" ∷
+    []
 
--- letters and digits, the first of them a letter, and no reserved word
+-- one of the reserved words
+unfoldable pub is_reserved : List ℕ → Bool
+is_reserved cs = list_any (λ word. bytes_eq word cs) reserved_words
+
+-- A name begins with a character that may start an identifier and goes on with those that may continue one (XID start and
+-- XID continue of Unicode's annex 31), and is no reserved word.
 abbrev pub spells_name : List ℕ → Bool
-spells_name cs = first_passes is_ascii_alphabetic cs && list_all is_ascii_alphanumeric cs && not (is_reserved cs)
+spells_name cs = first_passes is_xid_start cs && list_all is_xid_continue cs && not (is_reserved cs)
 
 abbrev pub IsName : List ℕ → Type 0
 IsName cs = IsTrue (spells_name cs)

@@ -1,12 +1,15 @@
-ghost use Rattle.std.specs.Prelude.{◌≡◌, ◌↔◌, false, Some, IfOk, OnOk, IsErrOf, encode_utf8_all};
+ghost use Rattle.std.specs.Prelude.{◌≡◌, ◌↔◌, false, refl, Some, IfOk, OnOk, IsErrOf, encode_utf8_all};
 ghost use Rattle.std.specs.Str.{chars, bytes_eq};
-ghost use Rattle.std.specs.Char.{is_ascii_alphabetic, is_ascii_alphanumeric};
 ghost use Rattle.std.specs.List.{list_all, list_any};
-ghost use Rattle.std.specs.Cmp.{partial_equiv_from_equiv};
-ghost use Rattle.std.specs.Cmp.Lexicographic.{nat_list_eq_equiv};
+ghost use Rattle.std.specs.Cmp.{partial_equiv_from_equiv, partial_order_from_agreeing_total, on_total};
+ghost use Rattle.std.specs.Cmp.Lexicographic.{slice_cmp, nat_list_eq_equiv, nat_list_cmp_total};
+ghost use Rattle.std.specs.Ordering.{nat_cmp, on, as_partial_cmp};
+ghost use Rattle.unicode_ident.specs.Ident.{is_xid_start, is_xid_continue};
+ghost use Rattle.cc_base.specs.NameTexts.{bytes_eq-order};
 ghost use Rattle.cc_base.specs.Names.{first_passes, is_reserved, spells_name, IsName};
 
 use std::alloc::{AllocError, Global};
+use std::cmp::Ordering;
 use std::fmt;
 use std::marker::Model;
 use std::rc::RcStr;
@@ -18,20 +21,20 @@ pub const RESERVED_WORDS: [&str; 27] = [
     "File", "Counter", "Exit", "Box",
 ];
 
-fn first_is_letter(text: &str) -> bool
-    ensures { result ≡ first_passes is_ascii_alphabetic (chars text.now) }
+fn first_may_start(text: &str) -> bool
+    ensures { result ≡ first_passes is_xid_start (chars text.now) }
 {
     match text.chars().next() {
-        Some(first) => first.is_ascii_alphabetic(),
+        Some(first) => unicode_ident::is_xid_start(first),
         None => false,
     }
 }
 
-fn all_are_letters_or_digits(text: &str) -> bool
-    ensures { result ≡ list_all is_ascii_alphanumeric (chars text.now) }
+fn all_may_continue(text: &str) -> bool
+    ensures { result ≡ list_all is_xid_continue (chars text.now) }
 {
     text.chars()
-        .all(|character| character.is_ascii_alphanumeric())
+        .all(|character| unicode_ident::is_xid_continue(character))
 }
 
 fn is_among(words: &[&str], text: &str) -> bool
@@ -47,11 +50,12 @@ pub fn is_reserved(text: &str) -> bool
     is_among(&RESERVED_WORDS, text)
 }
 
-/// Whether the text is a name: a letter, then letters and digits, and no reserved word.
+/// Whether the text is a name: a character that may start an identifier, then characters that may continue one, and no
+/// reserved word.
 pub fn is_name(text: &str) -> bool
     ensures { result ≡ spells_name (chars text.now) }
 {
-    first_is_letter(text) && all_are_letters_or_digits(text) && !is_reserved(text)
+    first_may_start(text) && all_may_continue(text) && !is_reserved(text)
 }
 
 /// Why a text gives no `Name`.
@@ -138,4 +142,29 @@ impl PartialEq for Name {
 
 impl Eq for Name {
     ghost laws = { nat_list_eq_equiv };
+}
+
+impl PartialOrd for Name {
+    ghost partial_cmp = { as_partial_cmp (on encode_utf8_all (slice_cmp nat_cmp)) };
+
+    ghost laws = { partial_order_from_agreeing_total (on encode_utf8_all (slice_cmp nat_cmp)) (on_total encode_utf8_all nat_list_cmp_total) (λ a b. refl) bytes_eq-order };
+
+    fn partial_cmp(&self, other: &Name) -> Option<Ordering> {
+        Some(self.cmp(other))
+    }
+}
+
+/// The order of std's texts: by the bytes of UTF-8, the first difference decides.
+impl Ord for Name {
+    ghost cmp = { on encode_utf8_all (slice_cmp nat_cmp) };
+
+    ghost total = { on_total encode_utf8_all nat_list_cmp_total };
+
+    ghost matches_partial_cmp = { λ a b. refl };
+
+    ghost matches_eq = { bytes_eq-order };
+
+    fn cmp(&self, other: &Name) -> Ordering {
+        self.as_str().cmp(other.as_str())
+    }
 }

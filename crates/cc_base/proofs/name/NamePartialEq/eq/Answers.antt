@@ -1,5 +1,4 @@
-use Rattle.std.proofs.Common.{rules}
-use Rattle.cc_base.proofs.NameTexts.{bytes_eq-encodes}
+use Rattle.cc_base.specs.NameTexts.{bytes_eq-encodes}
 use Rattle.cc_base.proofs.name.NamePartialEq.eq.Goals as goal
 
 pub returns : goal.returns

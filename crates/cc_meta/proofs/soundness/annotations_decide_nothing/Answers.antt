@@ -1,9 +1,0 @@
-use Rattle.cc_meta.proofs.Erasure.{alike_capture_the_same, alike_step_alike}
-use Rattle.cc_meta.proofs.soundness.annotations_decide_nothing.Goals as goal
-
-pub returns : goal.returns
-returns c =
-    record {
-      captured = alike_capture_the_same;
-      steps = alike_step_alike;
-    }

@@ -1,0 +1,13 @@
+pub mod AnswerRows
+pub mod CanonicalForms
+pub mod Erasure
+pub mod Invariant
+pub mod PutCaptures
+pub mod ReachLemmas
+pub mod RunTheorems
+pub mod ScopeRows
+pub mod StepHelpers
+pub mod StepTheorem
+pub mod StoreTyping
+pub mod TermRows
+pub mod WorkedRuns

@@ -1,0 +1,9 @@
+use Rattle.cc_meta_runs.proofs.Erasure.{alike_capture_the_same, alike_step_alike}
+use Rattle.cc_meta_runs.proofs.soundness.annotations_decide_nothing.Goals as goal
+
+pub returns : goal.returns
+returns c =
+    record {
+      captured = alike_capture_the_same;
+      steps = alike_step_alike;
+    }

@@ -1,0 +1,60 @@
+-- Configurations that differ at most in the types and shapes written in terms. The sets of unboxings count.
+use Rattle.std.specs.Prelude.{◌≡◌, map}
+use Rattle.cc_capture.specs.Sets.{empty}
+use Rattle.cc_core.specs.Shapes.{AnyShape}
+use Rattle.cc_core.specs.Terms.{Literal, Absent, Term, VariableTerm, LiteralTerm, FunctionTerm, TypeFunctionTerm, BoxTerm, Application, TypeApplication, Unboxing, Let, Primitive, Conditional, Repetition, Operation, Boundary, Leave}
+use Rattle.cc_core.specs.Stores.{Cell, ValueCell, DeviceCell, LabelCell}
+use Rattle.cc_meta_runs.specs.Machine.{Frame, LetFrame, ScopeFrame, RepetitionFrame, Configuration, configured, Outcome, Stuck, Final, Next, Ask, step}
+use Rattle.cc_meta_runs.specs.Reach.{captured_set}
+
+-- the term without what is written for types and shapes
+abbrev pub erased : Term → Term
+erased (VariableTerm variable) = VariableTerm variable
+erased (LiteralTerm literal) = LiteralTerm literal
+erased (FunctionTerm takes c body) = FunctionTerm AnyShape empty (erased body)
+erased (TypeFunctionTerm bound body) = TypeFunctionTerm AnyShape (erased body)
+erased (BoxTerm content) = BoxTerm content
+erased (Application function argument) = Application function argument
+erased (TypeApplication function argument) = TypeApplication function AnyShape
+erased (Unboxing set box) = Unboxing set box
+erased (Let note right body) = Let Absent (erased right) (erased body)
+erased (Primitive operator left right) = Primitive operator left right
+erased (Conditional note test positive negative) = Conditional Absent test (erased positive) (erased negative)
+erased (Repetition count function) = Repetition count function
+erased (Operation operation receiver argument) = Operation operation receiver argument
+erased (Boundary gives body) = Boundary AnyShape (erased body)
+erased (Leave gives c exit value) = Leave AnyShape empty exit value
+
+abbrev pub erased_cell : Cell → Cell
+erased_cell (ValueCell value) = ValueCell (erased value)
+erased_cell (DeviceCell device base) = DeviceCell device base
+erased_cell (LabelCell label) = LabelCell label
+
+abbrev pub erased_frame : Frame → Frame
+erased_frame (LetFrame body) = LetFrame (erased body)
+erased_frame (ScopeFrame label) = ScopeFrame label
+erased_frame (RepetitionFrame function begun wanted) = RepetitionFrame function begun wanted
+
+abbrev pub erased_configuration : Configuration → Configuration
+erased_configuration configuration =
+    configured (map erased_cell configuration.store) (map erased_frame configuration.stack) configuration.labels_made (erased configuration.term)
+
+abbrev pub IsAlike : Configuration → Configuration → Type 0
+IsAlike left right = erased_configuration left ≡ erased_configuration right
+
+-- outcomes of one kind, with one event or question and alike configurations after it
+abbrev pub AreAlike : Outcome → Outcome → Type 0
+AreAlike Stuck Stuck = Unit {0}
+AreAlike Final Final = Unit {0}
+AreAlike (Next event next) (Next event' next') = (event ≡ event') × IsAlike next next'
+AreAlike (Ask device operation argument resume) (Ask device' operation' argument' resume') =
+    (device ≡ device') × (operation ≡ operation') × (argument ≡ argument') × ((answer : Literal) → IsAlike (resume answer) (resume' answer))
+AreAlike _ _ = ⊥
+
+-- alike configurations capture the same
+abbrev pub AlikeCaptureTheSame : Type 0
+AlikeCaptureTheSame = (left right : Configuration) → IsAlike left right → captured_set left ≡ captured_set right
+
+-- what comes of alike configurations is alike
+abbrev pub AlikeStepAlike : Type 0
+AlikeStepAlike = (left right : Configuration) → IsAlike left right → AreAlike (step left) (step right)

@@ -1,0 +1,106 @@
+-- What holds of whole runs of well-typed programs.
+use Rattle.std.specs.Prelude.{◌≡◌, ◌≢◌, ◌⊎◌, ◌<◌, ℕ, List, [], ◌∷◌, Some, slice_get}
+use Rattle.cc_base.specs.declared.literal.Base.{Base}
+use Rattle.cc_base.specs.declared.literal.Op.{Op}
+use Rattle.cc_capture.specs.declared.var.Var.TheVariants.{Free}
+use Rattle.cc_capture.specs.declared.var.Elem.TheVariants.{Var as Variable}
+use Rattle.cc_capture.specs.Sets.{Set, Member}
+use Rattle.cc_core.specs.Shapes.{Shape, CapturingType}
+use Rattle.cc_core.specs.Terms.{Literal, UnitLiteral, Term, LiteralTerm, Application}
+use Rattle.cc_core.specs.Contexts.{TermEntry, Context, lookup}
+use Rattle.cc_core.specs.Typing.{base_operated, HasType}
+use Rattle.cc_core.specs.Stores.{ValueCell, DeviceCell, Store, HasStoreTyping, authority}
+use Rattle.cc_device.specs.Devices.{DeviceState, base_of_device, Devices}
+use Rattle.cc_device.specs.Events.{Event, Operated, FollowsAll, IsWellScoped}
+use Rattle.cc_meta_runs.specs.Machine.{configured}
+use Rattle.cc_meta_runs.specs.Reach.{SetReaches, captured_set}
+use Rattle.cc_meta_runs.specs.Runs.{State, IsStuck, move, Leads, IsStopped, run}
+use Rattle.cc_meta_runs.specs.Soundness.{labels_in, scopes_of, IsListed, IsSound, ReachesNoNewDevice}
+
+-- each device cell has a device of its shape
+abbrev pub FitsDevices : Store → Devices → Type 0
+FitsDevices store devices =
+    (position number : ℕ) (base : Base) → lookup store position ≡ Some (DeviceCell number base)
+    → (device : DeviceState) × (slice_get devices number ≡ Some device) × (base_of_device device ≡ base)
+
+pub record IsSoundState (state : State) : Type 0 where
+  pub configuration : IsSound state.configuration
+  pub devices : FitsDevices state.configuration.store state.devices
+
+-- the event is one of the list
+abbrev pub IsAmong : Event → List Event → Type 0
+IsAmong event [] = ⊥
+IsAmong event (first ∷ others) = (event ≡ first) ⊎ IsAmong event others
+
+-- A program whose store and term are typed, and that has made no label, starts soundly.
+abbrev pub TypedProgramsStartSoundly : Type 0
+TypedProgramsStartSoundly =
+    (store : Store) (context : Context) (term : Term) (type : CapturingType)
+    → HasStoreTyping store context → HasType context term type → labels_in store ≡ []
+    → IsSound (configured store [] 0 term)
+
+-- Steps lead from sound states to sound ones alone.
+abbrev pub SoundnessIsKept : Type 0
+SoundnessIsKept = (state next : State) (events : List Event) → IsSoundState state → Leads state events next → IsSoundState next
+
+-- No state that a sound one leads to is stuck.
+abbrev pub SoundStatesNeverGetStuck : Type 0
+SoundStatesNeverGetStuck = (state next : State) (events : List Event) → IsSoundState state → Leads state events next → move next ≢ IsStuck
+
+-- Each device that is operated now or later is reached by the captured set of now.
+abbrev pub OperatedDevicesAreReached : Type 0
+OperatedDevicesAreReached =
+    (state next : State) (events : List Event) → IsSoundState state → Leads state events next
+    → (device : ℕ) (operation : Op) (literal : Literal) → IsAmong (Operated device operation literal) events
+    → SetReaches state.configuration.store (captured_set state.configuration) (DeviceCell device (base_operated operation))
+
+-- The captured set reaches no new device.
+abbrev pub ReachNeverGrows : Type 0
+ReachNeverGrows =
+    (state next : State) (events : List Event) → IsSoundState state → Leads state events next
+    → ReachesNoNewDevice state.configuration next.configuration
+
+-- Boundaries are entered, ended and left by exits in order: each exit finds its scope on the stack.
+abbrev pub ScopesFollowEvents : Type 0
+ScopesFollowEvents =
+    (state next : State) (events : List Event) → IsSoundState state → Leads state events next
+    → FollowsAll (scopes_of state.configuration.stack) events (scopes_of next.configuration.stack)
+
+-- A run from a sound state does not stop before its end, whatever its fuel.
+abbrev pub RunsNeverStop : Type 0
+RunsNeverStop = (fuel : ℕ) (state : State) → IsSoundState state → (run fuel state).ending ≢ IsStopped
+
+-- A run is its steps.
+abbrev pub RunsAreSteps : Type 0
+RunsAreSteps = (fuel : ℕ) (state : State) → Leads state (run fuel state).events (run fuel state).last
+
+-- The events of a run that begins with no scope are well scoped.
+abbrev pub EventsAreWellScoped : Type 0
+EventsAreWellScoped =
+    (fuel : ℕ) (state : State) → IsSoundState state → scopes_of state.configuration.stack ≡ [] → IsWellScoped (run fuel state).events
+
+-- so many devices stand at the first positions, each at its number
+abbrev pub DevicesStandFirst : Store → ℕ → Type 0
+DevicesStandFirst store count =
+    (position number : ℕ) (base : Base) → lookup store position ≡ Some (DeviceCell number base) → (position ≡ number) × (number < count)
+
+-- the set names devices, and perhaps the universal capability, but no other variable
+abbrev pub NamesDevices : Store → Set → Type 0
+NamesDevices store set =
+    (position : ℕ) → Member (Variable (Free position)) set
+    → (number : ℕ) × (base : Base) × (lookup store position ≡ Some (DeviceCell number base))
+
+-- The entry of a program, which is applied to unit, operates only devices of its authority: those that its declared set gives
+-- leave to use.
+abbrev pub EntriesKeepTheirAuthority : Type 0
+EntriesKeepTheirAuthority =
+    (store : Store) (context : Context) (entry unit count : ℕ) (shape : Shape) (set : Set) (devices : Devices)
+    → IsSoundState (record { configuration = configured store [] 0 (Application (Free entry) (Free unit)); devices = devices })
+    → HasStoreTyping store context
+    → lookup context entry ≡ Some (TermEntry shape set)
+    → lookup store unit ≡ Some (ValueCell (LiteralTerm UnitLiteral))
+    → DevicesStandFirst store count
+    → NamesDevices store set
+    → (fuel device : ℕ) (operation : Op) (literal : Literal)
+    → IsAmong (Operated device operation literal) (run fuel (record { configuration = configured store [] 0 (Application (Free entry) (Free unit)); devices = devices })).events
+    → IsListed device (authority count set)

@@ -1,0 +1,5 @@
+//! The laws of runs, apart from any code: no run of a well-typed program goes wrong. The functions do nothing; each has a
+//! law as its contract.
+#![tactic(auto)]
+
+pub mod soundness;

@@ -1,0 +1,46 @@
+//! Soundness of runs. The functions do nothing.
+ghost use Rattle.cc_meta_runs.specs.Alike as alike;
+ghost use Rattle.cc_meta_runs.specs.Soundness as steps;
+ghost use Rattle.cc_meta_runs.specs.SoundRuns as runs;
+ghost use Rattle.cc_meta_runs.specs.ExampleRuns as example;
+
+/// Progress and preservation: a sound configuration is not stuck, and each step from it leads to a sound one, whatever a
+/// device answers.
+pub fn steps_are_sound()
+    ensures steps { steps.StepsAreSound }
+{}
+
+/// Well-typed programs start soundly, and soundness is kept over whole runs.
+pub fn programs_are_sound()
+    ensures starts { runs.TypedProgramsStartSoundly }
+    ensures kept { runs.SoundnessIsKept }
+    ensures never_stuck { runs.SoundStatesNeverGetStuck }
+    ensures never_stops { runs.RunsNeverStop }
+    ensures are_steps { runs.RunsAreSteps }
+{}
+
+/// What a run can come to is what its captured set reaches.
+pub fn runs_keep_their_authority()
+    ensures operated { runs.OperatedDevicesAreReached }
+    ensures reached { runs.ReachNeverGrows }
+    ensures authority { runs.EntriesKeepTheirAuthority }
+{}
+
+/// Boundaries are entered and left in order, and each exit finds its scope.
+pub fn scopes_are_kept()
+    ensures followed { runs.ScopesFollowEvents }
+    ensures well_scoped { runs.EventsAreWellScoped }
+{}
+
+/// The runs of two programs, by computation, and the type of a third.
+pub fn worked_runs()
+    ensures boundaries { example.NestedBoundariesRun }
+    ensures boxes { example.BoxesPassRun }
+    ensures typed { example.LeavingAtOnceIsTyped }
+{}
+
+/// No type or shape that is written in a term decides a step, or what is captured.
+pub fn annotations_decide_nothing()
+    ensures captured { alike.AlikeCaptureTheSame }
+    ensures steps { alike.AlikeStepAlike }
+{}

@@ -1,0 +1,9 @@
+use Rattle.cc_meta_typing.proofs.Endings.{comparison_ends, type_comparison_ends}
+use Rattle.cc_meta_typing.proofs.subtyping_laws.comparison_ends.Goals as goal
+
+pub returns : goal.returns
+returns c =
+    record {
+      shapes = comparison_ends;
+      types = type_comparison_ends;
+    }
