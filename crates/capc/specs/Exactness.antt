@@ -22,15 +22,18 @@ IsSilentForMemory before after status = (status ≡ statuses.NoMemory) × IsSile
 
 -- a job within the limit is carried out, its output written whole, unless memory lacks
 abbrev pub AJobIsAnswered : Type 0
-AJobIsAnswered = (before after : Ends) (status : Status) (bytes : List ℕ) (job : Job) → IsFaultless before after bytes → length bytes ≤ job_limit → IsJob bytes job → Outcome before after status
+AJobIsAnswered =
+    (before after : Ends) (status : Status) (bytes : List ℕ) (job : Job) → IsFaultless before after bytes → length bytes ≤ job_limit → IsJob bytes job → Outcome before after status
     → (IsCarriedOut before after job × (status ≡ status_of job)) ⊎ (status ≡ statuses.NoMemory)
 
 -- bytes within the limit that are no job are refused as such, unless memory lacks, and nothing is written
 abbrev pub WhatIsNoJobIsRefused : Type 0
-WhatIsNoJobIsRefused = (before after : Ends) (status : Status) (bytes : List ℕ) → IsFaultless before after bytes → length bytes ≤ job_limit → ((job : Job) → IsJob bytes job → ⊥) → Outcome before after status
+WhatIsNoJobIsRefused =
+    (before after : Ends) (status : Status) (bytes : List ℕ) → IsFaultless before after bytes → length bytes ≤ job_limit → ((job : Job) → IsJob bytes job → ⊥) → Outcome before after status
     → ((status ≡ statuses.BadJob 0) × IsSilent before after) ⊎ IsSilentForMemory before after status
 
 -- more bytes than the limit are refused as too long, unless memory lacks, and nothing is written
 abbrev pub WhatIsTooLongIsRefused : Type 0
-WhatIsTooLongIsRefused = (before after : Ends) (status : Status) (bytes : List ℕ) → IsFaultless before after bytes → job_limit < length bytes → Outcome before after status
+WhatIsTooLongIsRefused =
+    (before after : Ends) (status : Status) (bytes : List ℕ) → IsFaultless before after bytes → job_limit < length bytes → Outcome before after status
     → ((status ≡ statuses.TooLong) × IsSilent before after) ⊎ IsSilentForMemory before after status

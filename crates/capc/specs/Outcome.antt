@@ -21,7 +21,8 @@ pub record Ends : Type 0 where
   pub write_faults : ℕ
 
 abbrev pub ends : Option (List ℕ) → ℕ → Option (List ℕ) → ℕ → Ends
-ends left read_faults written write_faults = record { left = left; read_faults = read_faults; written = written; write_faults = write_faults }
+ends left read_faults written write_faults =
+    record { left = left; read_faults = read_faults; written = written; write_faults = write_faults }
 
 -- so many bytes were taken from the source, and no read failed
 pub record TakesMany (P : ℕ → Type 0) (before after : Ends) : Type 0 where
@@ -73,8 +74,11 @@ abbrev pub Outcome : Ends → Ends → Status → Type 0
 Outcome before after statuses.Clean = (job : Job) × IsCarriedOut before after job × (has_refusal job ≡ false)
 Outcome before after statuses.Refusals = (job : Job) × IsCarriedOut before after job × (has_refusal job ≡ true)
 Outcome before after (statuses.BadJob number) = (number ≡ 0) × ReadsNoJob before after
-Outcome before after statuses.ReadFault = (before.read_faults < after.read_faults) × TakesCount (λ n. n ≤ job_limit) before.left after.left × IsSilent before after
-Outcome before after statuses.WriteFault = (before.write_faults < after.write_faults) × ((job : Job) × IsCutOff before after job)
+Outcome before after statuses.ReadFault =
+    (before.read_faults < after.read_faults) × TakesCount (λ n. n ≤ job_limit) before.left after.left
+    × IsSilent before after
+Outcome before after statuses.WriteFault =
+    (before.write_faults < after.write_faults) × ((job : Job) × IsCutOff before after job)
 Outcome before after statuses.NoMemory =
     (TakesMany (λ n. n ≤ job_limit) before after × IsSilent before after) ⊎ ((after.write_faults ≡ before.write_faults) × ((job : Job) × IsCutOff before after job))
 Outcome before after statuses.BadWords = ⊥

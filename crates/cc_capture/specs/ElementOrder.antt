@@ -13,7 +13,8 @@ use Rattle.cc_capture.specs.Elements.{kind_number, rising_number, falling_number
 
 pub element_order-total : IsTotalOrder element_order
 unfolding element_order
-element_order-total = then_total (on_total kind_number nat_cmp_total) (then_total (on_total rising_number nat_cmp_total) (back_total (on_total falling_number nat_cmp_total)))
+element_order-total =
+    then_total (on_total kind_number nat_cmp_total) (then_total (on_total rising_number nat_cmp_total) (back_total (on_total falling_number nat_cmp_total)))
 
 nat_cmp-Equal : (m n : ℕ) → nat_cmp m n ≡ Equal → m ≡ n
 nat_cmp-Equal m n e = subst (λ o. MatchOrdering o (m < n) (m ≡ n) (n < m)) e (ranked m n (nat_cmp m n) refl)
@@ -23,7 +24,8 @@ then-Equal Less p e = cc
 then-Equal Equal p e = (refl, e)
 then-Equal Greater p e = cc
 
-three_numbers : (a b : Elem) → kind_number a ≡ kind_number b → rising_number a ≡ rising_number b → falling_number a ≡ falling_number b → a ≡ b
+three_numbers : (a b : Elem) → kind_number a ≡ kind_number b → rising_number a ≡ rising_number b
+    → falling_number a ≡ falling_number b → a ≡ b
 three_numbers (Variable (Free p)) (Variable (Free q)) k r f = ap (λ n. Variable (Free n)) r
 three_numbers (Variable (Bound i)) (Variable (Bound j)) k r f = ap (λ n. Variable (Bound n)) f
 three_numbers Cap Cap k r f = refl

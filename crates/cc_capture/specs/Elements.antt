@@ -29,7 +29,8 @@ falling_number (Hole number) = 0
 
 -- how two elements compare: by their kinds, then by the rising numbers, then by the falling ones
 unfoldable pub element_order : Elem → Elem → Ordering
-element_order = then_cmp (on kind_number nat_cmp) (then_cmp (on rising_number nat_cmp) (flip_args (on falling_number nat_cmp)))
+element_order =
+    then_cmp (on kind_number nat_cmp) (then_cmp (on rising_number nat_cmp) (flip_args (on falling_number nat_cmp)))
 
 -- whether the two compare as equal, which they do exactly where they are one element
 unfoldable pub same_element : Elem → Elem → Bool

@@ -119,7 +119,8 @@ ImageOfUnion = (f : Elem → Elem) (a b : Set) → image f (union a b) ≡ union
 
 -- the flat image of a flat image is that of one function after the other
 abbrev pub FlatImagesCompose : Type 0
-FlatImagesCompose = (f g : Elem → Set) (s : Set) → flat_image f (flat_image g s) ≡ flat_image (λ e. flat_image f (g e)) s
+FlatImagesCompose =
+    (f g : Elem → Set) (s : Set) → flat_image f (flat_image g s) ≡ flat_image (λ e. flat_image f (g e)) s
 
 -- functions that make the same sets of the members give one flat image
 abbrev pub FlatImagesAgree : Type 0

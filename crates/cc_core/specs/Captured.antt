@@ -1,5 +1,5 @@
 -- The captured variables of a term.
-use Rattle.std.specs.Prelude.{zero, suc, Bool, true, false, cond, not, ◌&&◌, Option, Some, None}
+use Rattle.std.specs.Prelude.{zero, suc, Bool, true, false, not, ◌&&◌, Option, Some, None, if◌then◌else◌}
 use Rattle.cc_capture.specs.declared.var.Var.{Var}
 use Rattle.cc_capture.specs.declared.var.Var.TheVariants.{Bound, Free}
 use Rattle.cc_capture.specs.declared.var.Elem.{Elem}
@@ -59,9 +59,9 @@ captured_variables (Application function argument) = union (variable_set functio
 captured_variables (TypeApplication function argument) = variable_set function
 captured_variables (Unboxing set box) = union (optional_set set) (variable_set box)
 captured_variables (Let note right body) =
-    cond (is_unused_value right (captured_variables body))
-    (without_binder (captured_variables body))
-    (union (captured_variables right) (without_binder (captured_variables body)))
+    if is_unused_value right (captured_variables body)
+    then without_binder (captured_variables body)
+    else union (captured_variables right) (without_binder (captured_variables body))
 captured_variables (Primitive operator left right) = union (variable_set left) (variable_set right)
 captured_variables (Conditional note test positive negative) =
     union (variable_set test) (union (captured_variables positive) (captured_variables negative))

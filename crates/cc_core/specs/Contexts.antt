@@ -1,5 +1,5 @@
 -- Contexts: what stands at each free position.
-use Rattle.std.specs.Prelude.{ℕ, nat_eq, cond, List, [], ◌∷◌, length, Option, Some, None}
+use Rattle.std.specs.Prelude.{ℕ, nat_eq, List, [], ◌∷◌, length, Option, Some, None, if◌then◌else◌}
 use Rattle.cc_capture.specs.Sets.{Set}
 use Rattle.cc_core.specs.Shapes.{Shape, CapturingType}
 
@@ -16,7 +16,7 @@ Context = List Bind
 -- entries are added.
 abbrev pub lookup : {A : Type 0} → List A → ℕ → Option A
 lookup [] position = None
-lookup (newest ∷ older) position = cond (nat_eq position (length older)) (Some newest) (lookup older position)
+lookup (newest ∷ older) position = if nat_eq position (length older) then Some newest else lookup older position
 
 -- the entry of a variable of the type
 abbrev pub entry_of : CapturingType → Bind

@@ -12,7 +12,8 @@ use Rattle.cc_core.specs.Derivations.{Claim, SetBelow, ShapeBelow, TypeBelow, Of
 
 -- a valid derivation concludes in the context that one side is below the other
 abbrev pub HasComparison : Context → Claim → Type 0
-HasComparison context claim = (derivation : Derivation) × IsValidComparison context derivation × Concludes derivation claim
+HasComparison context claim =
+    (derivation : Derivation) × IsValidComparison context derivation × Concludes derivation claim
 
 -- a valid derivation of the term concludes in the context that the term has the type
 abbrev pub HasDerivation : Context → Term → CapturingType → Type 0
@@ -22,12 +23,14 @@ HasDerivation context term type =
 -- a set is below another exactly where a valid derivation concludes it
 abbrev pub SubcapturingHasDerivations : Type 0
 SubcapturingHasDerivations =
-    (context : Context) (left right : Set) → SubcapturesSet context left right ↔ HasComparison context (SetBelow left right)
+    (context : Context) (left right : Set)
+    → SubcapturesSet context left right ↔ HasComparison context (SetBelow left right)
 
 -- the same of shapes
 abbrev pub SubtypingHasDerivations : Type 0
 SubtypingHasDerivations =
-    (context : Context) (left right : Shape) → Subtypes context left right ↔ HasComparison context (ShapeBelow left right)
+    (context : Context) (left right : Shape)
+    → Subtypes context left right ↔ HasComparison context (ShapeBelow left right)
 
 -- the same of types
 abbrev pub TypeSubtypingHasDerivations : Type 0

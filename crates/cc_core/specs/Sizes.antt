@@ -1,5 +1,5 @@
 -- Sizes of shapes and types.
-use Rattle.std.specs.Prelude.{ℕ, zero, suc, ◌+◌, nat_eq, cond, length}
+use Rattle.std.specs.Prelude.{ℕ, zero, suc, ◌+◌, nat_eq, length, if◌then◌else◌}
 use Rattle.cc_capture.specs.declared.var.Var.{Var}
 use Rattle.cc_capture.specs.declared.var.Var.TheVariants.{Bound, Free}
 use Rattle.cc_capture.specs.Sets.{Set}
@@ -31,7 +31,7 @@ size_with by type = type_size (act_type (putting_shape by) zero type)
 
 -- the same counted without putting the shape: a type variable of that index has the size of the shape
 abbrev pub counted_variable : ℕ → ℕ → Var → ℕ
-counted_variable size depth (Bound index) = cond (nat_eq index depth) size 1
+counted_variable size depth (Bound index) = if nat_eq index depth then size else 1
 counted_variable size depth (Free position) = 1
 
 -- the size of a shape under so many binders, with a shape of the given size in the place of the outermost index

@@ -1,6 +1,6 @@
 -- Stores: what stands at the positions of a running program, which type each position is declared with, and the devices
 -- that a set speaks of.
-use Rattle.std.specs.Prelude.{ℕ, Bool, true, false, cond, List, [], ◌∷◌, Option, None, IsTrue, filter}
+use Rattle.std.specs.Prelude.{ℕ, Bool, true, false, List, [], ◌∷◌, Option, None, IsTrue, filter, if◌then◌else◌}
 use Rattle.std.specs.List.{range_with_len}
 use Rattle.cc_base.specs.declared.literal.Base.{Base}
 use Rattle.cc_base.specs.declared.literal.Base.TheVariants as bases
@@ -73,7 +73,7 @@ pub data HasStoreTyping : Store → Context → Type 0 where
 
 -- whether the set gives leave to use the device: it has the device's position, or the universal capability
 abbrev pub is_permitted : Set → ℕ → Bool
-is_permitted set position = cond (contains Cap set) true (contains (Variable (Free position)) set)
+is_permitted set position = if contains Cap set then true else contains (Variable (Free position)) set
 
 -- The authority of a set over so many devices, which stand at the first positions: those that it gives leave to use, in
 -- the order of their positions.

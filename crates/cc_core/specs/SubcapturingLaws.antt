@@ -16,16 +16,19 @@ SubcapturingIsReflexive = (context : Context) (set : Set) → SubcapturesSet con
 -- what is below a set is below each set above that one
 abbrev pub SubcapturingIsTransitive : Type 0
 SubcapturingIsTransitive =
-    (context : Context) (left middle right : Set) → SubcapturesSet context left middle → SubcapturesSet context middle right → SubcapturesSet context left right
+    (context : Context) (left middle right : Set) → SubcapturesSet context left middle
+    → SubcapturesSet context middle right → SubcapturesSet context left right
 
 -- a set is below each set that has its members
 abbrev pub SubsetsSubcapture : Type 0
-SubsetsSubcapture = (context : Context) (left right : Set) → ((e : Elem) → Member e left → Member e right) → SubcapturesSet context left right
+SubsetsSubcapture =
+    (context : Context) (left right : Set) → ((e : Elem) → Member e left → Member e right) → SubcapturesSet context left right
 
 -- what is below stays below when entries are added
 abbrev pub SubcapturingWeakens : Type 0
 SubcapturingWeakens =
-    (context added : Context) (left right : Set) → SubcapturesSet context left right → SubcapturesSet (added ++ context) left right
+    (context added : Context) (left right : Set) → SubcapturesSet context left right
+    → SubcapturesSet (added ++ context) left right
 
 -- What is below stays below where the declared set of one variable becomes one below it.
 abbrev pub SubcapturingNarrows : Type 0

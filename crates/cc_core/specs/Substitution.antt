@@ -1,7 +1,7 @@
 -- Opening, closing, substitution, renaming and filling. At a place under d binders the index d is the one that is
 -- replaced. Every other index stays, and nothing is shifted, since what is put in has no index of its own where the rules
 -- use these.
-use Rattle.std.specs.Prelude.{ℕ, zero, nat_eq, cond}
+use Rattle.std.specs.Prelude.{ℕ, zero, nat_eq, if◌then◌else◌}
 use Rattle.cc_capture.specs.declared.var.Var.{Var}
 use Rattle.cc_capture.specs.declared.var.Var.TheVariants.{Bound, Free}
 use Rattle.cc_capture.specs.declared.var.Elem.{Elem}
@@ -31,13 +31,13 @@ moving move = record {
 
 -- the index that counts the binders above becomes the variable
 abbrev pub put_variable : Var → ℕ → Var → Var
-put_variable by depth (Bound index) = cond (nat_eq index depth) by (Bound index)
+put_variable by depth (Bound index) = if nat_eq index depth then by else Bound index
 put_variable by depth (Free position) = Free position
 
 -- the free position becomes the index that counts the binders above
 abbrev pub closed_variable : ℕ → ℕ → Var → Var
 closed_variable at depth (Bound index) = Bound index
-closed_variable at depth (Free position) = cond (nat_eq position at) (Bound depth) (Free position)
+closed_variable at depth (Free position) = if nat_eq position at then Bound depth else Free position
 
 -- a free position becomes another
 abbrev pub renamed_variable : (ℕ → ℕ) → Var → Var
@@ -62,7 +62,7 @@ renaming to = moving (λ depth v. renamed_variable to v)
 
 -- the index that counts the binders above becomes the shape, as a type variable
 abbrev pub put_shape : Shape → ℕ → Var → Shape
-put_shape by depth (Bound index) = cond (nat_eq index depth) by (TypeVariable (Bound index))
+put_shape by depth (Bound index) = if nat_eq index depth then by else TypeVariable (Bound index)
 put_shape by depth (Free position) = TypeVariable (Free position)
 
 -- puts the shape for the outermost index, at type variables alone
@@ -84,7 +84,7 @@ freely to shapes = record {
 
 -- a function with another outcome at one number
 abbrev pub overridden : {A : Type 0} → (ℕ → A) → ℕ → A → ℕ → A
-overridden outcome at other number = cond (nat_eq number at) other (outcome number)
+overridden outcome at other number = if nat_eq number at then other else outcome number
 
 -- the set that an element becomes where each hole has a filling
 abbrev pub filled_element : (ℕ → Set) → Elem → Set

@@ -1,17 +1,11 @@
 -- Terms, as plain trees without places.
-use Rattle.std.specs.Prelude.{ℕ, ℤ, Bool, List, Option}
+use Rattle.std.specs.Prelude.{Option}
+use Rattle.cc_base.specs.Literals.{Literal}
 use Rattle.cc_base.specs.declared.literal.Operator.{Operator}
 use Rattle.cc_base.specs.declared.literal.Op.{Op}
 use Rattle.cc_capture.specs.declared.var.Var.{Var}
 use Rattle.cc_capture.specs.Sets.{Set}
 use Rattle.cc_core.specs.Shapes.{Shape}
-
--- a literal; a text is the list of its code points
-pub data Literal : Type 0 where
-  UnitLiteral : Literal
-  TruthLiteral : (truth : Bool) → Literal
-  NumberLiteral : (number : ℤ) → Literal
-  TextLiteral : (text : List ℕ) → Literal
 
 -- what is written for the type of a term: nothing, a type, or a shape alone, where the set is the term's own
 pub data Note : Type 0 where

@@ -12,7 +12,8 @@ use Rattle.cc_capture.specs.declared.var.Var.TheVariants.{Free}
 use Rattle.cc_capture.specs.declared.var.Elem.TheVariants.{Cap}
 use Rattle.cc_capture.specs.Sets.{Set, Member, empty}
 use Rattle.cc_core.specs.Shapes.{Shape, BaseShape, FunctionShape, TypeFunctionShape, BoxShape, ExitShape, CapturingType, capturing}
-use Rattle.cc_core.specs.Terms.{Literal, UnitLiteral, TruthLiteral, NumberLiteral, TextLiteral, Note, Absent, Written, Own, Term, VariableTerm, LiteralTerm, FunctionTerm, TypeFunctionTerm, BoxTerm, Application, TypeApplication, Unboxing, Let, Primitive, Conditional, Repetition, Operation, Boundary, Leave}
+use Rattle.cc_base.specs.Literals.{Literal, UnitLiteral, TruthLiteral, NumberLiteral, TextLiteral}
+use Rattle.cc_core.specs.Terms.{Note, Absent, Written, Own, Term, VariableTerm, LiteralTerm, FunctionTerm, TypeFunctionTerm, BoxTerm, Application, TypeApplication, Unboxing, Let, Primitive, Conditional, Repetition, Operation, Boundary, Leave}
 use Rattle.cc_core.specs.Contexts.{TermEntry, TypeEntry, Context, lookup}
 use Rattle.cc_core.specs.Traversal.{act, act_set}
 use Rattle.cc_core.specs.Substitution.{single, putting, putting_shape, opened_term, closed, closed_set}
@@ -78,7 +79,8 @@ pub data HasTyping : Context → Term → Shape → Set → Type 0 where
   t-var : {context : Context} {position : ℕ} {shape : Shape} {declared : Set}
       → lookup context position ≡ Some (TermEntry shape declared)
       → HasTyping context (VariableTerm (Free position)) shape (variable_set (Free position))
-  t-lit : {context : Context} {literal : Literal} → HasTyping context (LiteralTerm literal) (BaseShape (base_of literal)) empty
+  t-lit : {context : Context} {literal : Literal}
+      → HasTyping context (LiteralTerm literal) (BaseShape (base_of literal)) empty
   -- a function captures what its body does
   t-abs : {context : Context} {takes gives : Shape} {c e : Set} {body : Term}
       → IsWellFormedType context (capturing takes c)

@@ -1,9 +1,5 @@
 -- The plain trees that the program's values stand for. Places and sharing are left out.
 use Rattle.std.specs.Prelude.{List, map}
-use Rattle.std.specs.Rc.{rc_str_bytes}
-use Rattle.std.specs.Str.{chars}
-use Rattle.cc_base.specs.declared.literal.Lit.{Lit}
-use Rattle.cc_base.specs.declared.literal.Lit.TheVariants as literals
 use Rattle.cc_core.specs.declared.types.Shape.{Shape as DeclaredShape}
 use Rattle.cc_core.specs.declared.types.Shape.TheVariants as shapes
 use Rattle.cc_core.specs.declared.types.Ty.{Ty}
@@ -15,7 +11,8 @@ use Rattle.cc_core.specs.declared.terms.Node.{Node}
 use Rattle.cc_core.specs.declared.context.Bind.{Bind as DeclaredBind}
 use Rattle.cc_core.specs.declared.context.Bind.TheVariants as binds
 use Rattle.cc_core.specs.Shapes.{Shape, BaseShape, AnyShape, TypeVariable, FunctionShape, TypeFunctionShape, BoxShape, ExitShape, CapturingType, capturing}
-use Rattle.cc_core.specs.Terms.{Literal, UnitLiteral, TruthLiteral, NumberLiteral, TextLiteral, Note, Absent, Written, Own, Term, VariableTerm, LiteralTerm, FunctionTerm, TypeFunctionTerm, BoxTerm, Application, TypeApplication, Unboxing, Let, Primitive, Conditional, Repetition, Operation, Boundary, Leave}
+use Rattle.cc_base.specs.Literals.{literal_of}
+use Rattle.cc_core.specs.Terms.{Note, Absent, Written, Own, Term, VariableTerm, LiteralTerm, FunctionTerm, TypeFunctionTerm, BoxTerm, Application, TypeApplication, Unboxing, Let, Primitive, Conditional, Repetition, Operation, Boundary, Leave}
 use Rattle.cc_core.specs.Contexts.{Bind, TermEntry, TypeEntry, Context}
 
 -- the shape, with the types in it taken apart
@@ -31,13 +28,6 @@ shape_of (shapes.Exit' p gives) = ExitShape (shape_of gives)
 -- the type
 abbrev pub type_of : Ty → CapturingType
 type_of type = capturing (shape_of type.shape.value) type.set
-
--- the literal; a text by its code points
-abbrev pub literal_of : Lit → Literal
-literal_of literals.Unit = UnitLiteral
-literal_of (literals.Bool truth) = TruthLiteral truth
-literal_of (literals.Int number) = NumberLiteral number
-literal_of (literals.Str text) = TextLiteral (chars (rc_str_bytes text))
 
 -- what is written for a type
 abbrev pub note_of : DeclaredNote → Note

@@ -1,6 +1,7 @@
 // Copies of shapes, types and terms. The parts are shared.
 ghost use Rattle.std.specs.Prelude.{◌≡◌, IfOk, option_map};
-ghost use Rattle.cc_core.specs.Views.{shape_of, type_of, literal_of, note_of, form_of, term_of, bind_of};
+ghost use Rattle.cc_base.specs.Literals.{literal_of};
+ghost use Rattle.cc_core.specs.Views.{shape_of, type_of, note_of, form_of, term_of, bind_of};
 ghost use Rattle.cc_core.specs.Places.{form_places, places_of};
 
 use crate::context::Bind;

@@ -6,7 +6,7 @@ use Rattle.cc_base.specs.declared.literal.Base.{Base}
 use Rattle.cc_base.specs.declared.literal.Base.TheVariants as bases
 use Rattle.cc_base.specs.declared.literal.Op.{Op}
 use Rattle.cc_base.specs.declared.literal.Op.TheVariants as operations
-use Rattle.cc_core.specs.Terms.{Literal, UnitLiteral, NumberLiteral, TextLiteral}
+use Rattle.cc_base.specs.Literals.{Literal, UnitLiteral, NumberLiteral, TextLiteral}
 
 -- a console with its lines, a file with its numbers and the place of the next one to read, or a counter with its count
 pub data DeviceState : Type 0 where
@@ -53,12 +53,14 @@ read_number _ _ = None
 
 -- the number stands after the file's numbers
 abbrev pub write_number : DeviceState → Option Literal → Option Answer
-write_number (File numbers place) (Some (NumberLiteral number)) = answering UnitLiteral (File (numbers ++ number ∷ []) place)
+write_number (File numbers place) (Some (NumberLiteral number)) =
+    answering UnitLiteral (File (numbers ++ number ∷ []) place)
 write_number _ _ = None
 
 -- the count rises by one and wraps, and is the answer
 abbrev pub tick_count : DeviceState → Option Literal → Option Answer
-tick_count (Counter count) None = answering (NumberLiteral (int_wrap w64 (count +ℤ pos 1))) (Counter (int_wrap w64 (count +ℤ pos 1)))
+tick_count (Counter count) None =
+    answering (NumberLiteral (int_wrap w64 (count +ℤ pos 1))) (Counter (int_wrap w64 (count +ℤ pos 1)))
 tick_count _ _ = None
 
 -- The device table: what a device answers to an operation with its argument, and the device afterwards. There is no answer
@@ -83,7 +85,8 @@ abbrev pub replying : Devices → ℕ → Answer → Reply
 replying devices number answer = record { literal = answer.literal; devices = slice_set devices number answer.device }
 
 abbrev pub reply_of : Devices → ℕ → Op → Option Literal → Option DeviceState → Option Reply
-reply_of devices number operation argument (Some device) = option_map (replying devices number) (answer_of device operation argument)
+reply_of devices number operation argument (Some device) =
+    option_map (replying devices number) (answer_of device operation argument)
 reply_of devices number operation argument None = None
 
 -- what the device of the number answers

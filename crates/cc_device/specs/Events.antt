@@ -1,7 +1,7 @@
 -- The events of a run, and what keeps entering and leaving boundaries in order.
 use Rattle.std.specs.Prelude.{◌≡◌, ℕ, List, [], ◌∷◌, ◌++◌, Option, Some, None}
 use Rattle.cc_base.specs.declared.literal.Op.{Op}
-use Rattle.cc_core.specs.Terms.{Literal}
+use Rattle.cc_base.specs.Literals.{Literal}
 
 -- A device was operated, with the literal that it took, or else the one that it answered; or a boundary was entered, ended
 -- by an answer of its body, or was left by an exit.
@@ -19,10 +19,12 @@ literal_shown None answer = answer
 -- The stack of the boundaries that are entered and not yet left, after the event: an end takes the newest one away, and an
 -- exit takes all down to its own, which stands there.
 pub data Follows : List ℕ → Event → List ℕ → Type 0 where
-  operated : {scopes : List ℕ} {device : ℕ} {operation : Op} {literal : Literal} → Follows scopes (Operated device operation literal) scopes
+  operated : {scopes : List ℕ} {device : ℕ} {operation : Op} {literal : Literal}
+      → Follows scopes (Operated device operation literal) scopes
   entered : {scopes : List ℕ} {label : ℕ} → Follows scopes (Entered label) (label ∷ scopes)
   ended : {scopes : List ℕ} {label : ℕ} → Follows (label ∷ scopes) (Ended label) scopes
-  exited : (inner : List ℕ) {before scopes : List ℕ} {label : ℕ} → before ≡ inner ++ label ∷ scopes → Follows before (Exited label) scopes
+  exited : (inner : List ℕ) {before scopes : List ℕ} {label : ℕ} → before ≡ inner ++ label ∷ scopes
+      → Follows before (Exited label) scopes
 
 -- the stack after several events
 pub data FollowsAll : List ℕ → List Event → List ℕ → Type 0 where

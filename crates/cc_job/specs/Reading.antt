@@ -13,7 +13,8 @@ o >>= f = option_and_then f o
 
 -- the bytes behind the prefix
 abbrev pub after_prefix : List ℕ → List ℕ → Option (List ℕ)
-after_prefix bytes prefix = if bytes_eq (take (length prefix) bytes) prefix then Some (drop (length prefix) bytes) else None
+after_prefix bytes prefix =
+    if bytes_eq (take (length prefix) bytes) prefix then Some (drop (length prefix) bytes) else None
 
 -- the bytes before the suffix
 abbrev pub before_suffix : List ℕ → List ℕ → Option (List ℕ)
@@ -53,7 +54,8 @@ first_of_both None other = other
 
 -- what stands before the last line
 unfoldable pub text_before_check : List ℕ → Option (List ℕ)
-text_before_check bytes = first_of_both (before_suffix bytes (codes "check" ++ 10 ∷ [])) (before_suffix bytes (codes "check"))
+text_before_check bytes =
+    first_of_both (before_suffix bytes (codes "check" ++ 10 ∷ [])) (before_suffix bytes (codes "check"))
 
 -- the text is whole lines, as many as the digits say, and no longer than the limit
 unfoldable pub is_text : List ℕ → List ℕ → Bool

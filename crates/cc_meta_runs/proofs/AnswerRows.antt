@@ -12,7 +12,8 @@ use Rattle.cc_capture.specs.Sets.{Set, Member, empty, union}
 use Rattle.cc_capture.proofs.Membership.{Member-empty, Member-union, Member-flat_image}
 use Rattle.cc_capture.proofs.Images.{flat_image-empty}
 use Rattle.cc_core.specs.Shapes.{Shape, BaseShape}
-use Rattle.cc_core.specs.Terms.{UnitLiteral, NumberLiteral, Term, VariableTerm, LiteralTerm, Application}
+use Rattle.cc_base.specs.Literals.{UnitLiteral, NumberLiteral}
+use Rattle.cc_core.specs.Terms.{Term, VariableTerm, LiteralTerm, Application}
 use Rattle.cc_core.specs.Contexts.{TermEntry, Context}
 use Rattle.cc_core.specs.Traversal.{act_set}
 use Rattle.cc_core.specs.Substitution.{putting, opened_term}

@@ -8,7 +8,8 @@ use Rattle.cc_base.specs.declared.literal.Op.TheVariants as operations
 use Rattle.cc_capture.specs.declared.var.Var.{Var}
 use Rattle.cc_capture.specs.Sets.{Set}
 use Rattle.cc_core.specs.Shapes.{Shape, BaseShape, FunctionShape, TypeFunctionShape, BoxShape, ExitShape}
-use Rattle.cc_core.specs.Terms.{Literal, UnitLiteral, TruthLiteral, NumberLiteral, TextLiteral, Term, LiteralTerm}
+use Rattle.cc_base.specs.Literals.{Literal, UnitLiteral, TruthLiteral, NumberLiteral, TextLiteral}
+use Rattle.cc_core.specs.Terms.{Term, LiteralTerm}
 use Rattle.cc_core.specs.Contexts.{Context}
 use Rattle.cc_core.specs.Captured.{is_value}
 use Rattle.cc_core.specs.Typing.{base_of, base_operated}

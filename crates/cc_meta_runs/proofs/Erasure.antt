@@ -10,7 +10,8 @@ use Rattle.cc_capture.specs.declared.var.Elem.TheVariants.{Var as Variable}
 use Rattle.cc_capture.specs.Sets.{Set, contains, empty, union}
 use Rattle.cc_capture.proofs.Images.{flat_image-empty}
 use Rattle.cc_core.specs.Shapes.{Shape, AnyShape}
-use Rattle.cc_core.specs.Terms.{Literal, UnitLiteral, TruthLiteral, NumberLiteral, TextLiteral, Absent, Term, VariableTerm, LiteralTerm, FunctionTerm, TypeFunctionTerm, BoxTerm, Application, TypeApplication, Unboxing, Let, Primitive, Conditional, Repetition, Operation, Boundary, Leave}
+use Rattle.cc_base.specs.Literals.{Literal, UnitLiteral, TruthLiteral, NumberLiteral, TextLiteral}
+use Rattle.cc_core.specs.Terms.{Absent, Term, VariableTerm, LiteralTerm, FunctionTerm, TypeFunctionTerm, BoxTerm, Application, TypeApplication, Unboxing, Let, Primitive, Conditional, Repetition, Operation, Boundary, Leave}
 use Rattle.cc_core.specs.Traversal.{Action, act_set, act_term}
 use Rattle.cc_core.specs.Substitution.{putting, putting_shape, opened_term}
 use Rattle.cc_core.specs.Captured.{is_value, captured_variables, without_binder, variable_set}

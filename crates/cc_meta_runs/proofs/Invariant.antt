@@ -9,7 +9,8 @@ use Rattle.cc_capture.specs.declared.var.Elem.TheVariants.{Var as Variable, Cap}
 use Rattle.cc_capture.specs.Sets.{Set, empty, union}
 use Rattle.cc_capture.proofs.Membership.{Member-empty, Member-union}
 use Rattle.cc_core.specs.Shapes.{Shape, BaseShape, TypeVariable, ExitShape, capturing}
-use Rattle.cc_core.specs.Terms.{Literal, Term}
+use Rattle.cc_base.specs.Literals.{Literal}
+use Rattle.cc_core.specs.Terms.{Term}
 use Rattle.cc_core.specs.Contexts.{TermEntry, Context, lookup}
 use Rattle.cc_core.specs.Traversal.{act_set}
 use Rattle.cc_core.specs.Substitution.{single, opened_term, overridden, freely}

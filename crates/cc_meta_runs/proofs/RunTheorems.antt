@@ -12,7 +12,8 @@ use Rattle.cc_capture.specs.declared.var.Var.TheVariants.{Free}
 use Rattle.cc_capture.specs.declared.var.Elem.TheVariants.{Var as Variable, Cap}
 use Rattle.cc_capture.specs.Sets.{Set, Member, contains, empty, union}
 use Rattle.cc_capture.proofs.Membership.{Member-empty}
-use Rattle.cc_core.specs.Terms.{Literal, UnitLiteral, TruthLiteral, NumberLiteral, TextLiteral, LiteralTerm, Application}
+use Rattle.cc_base.specs.Literals.{Literal, UnitLiteral, TruthLiteral, NumberLiteral, TextLiteral}
+use Rattle.cc_core.specs.Terms.{LiteralTerm, Application}
 use Rattle.cc_core.specs.Contexts.{lookup}
 use Rattle.cc_core.specs.Captured.{captured_variables, variable_set}
 use Rattle.cc_core.specs.Typing.{base_of, base_operated, base_taken, base_answered}

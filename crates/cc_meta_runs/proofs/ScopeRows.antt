@@ -11,7 +11,8 @@ use Rattle.cc_capture.specs.declared.var.Var.{Var}
 use Rattle.cc_capture.specs.declared.var.Elem.TheVariants.{Cap}
 use Rattle.cc_capture.specs.Sets.{Set, empty, union}
 use Rattle.cc_core.specs.Shapes.{Shape, BaseShape, ExitShape}
-use Rattle.cc_core.specs.Terms.{Literal, Term, VariableTerm, LiteralTerm, Operation, Boundary, Leave}
+use Rattle.cc_base.specs.Literals.{Literal}
+use Rattle.cc_core.specs.Terms.{Term, VariableTerm, LiteralTerm, Operation, Boundary, Leave}
 use Rattle.cc_core.specs.Contexts.{TermEntry, Context, lookup}
 use Rattle.cc_core.specs.Substitution.{single, opened_term}
 use Rattle.cc_core.specs.WellFormed.{TermKind, kinds_of}

@@ -8,7 +8,8 @@ use Rattle.cc_capture.specs.declared.var.Elem.TheVariants.{Var as Variable}
 use Rattle.cc_capture.specs.Sets.{Set, Member, contains, empty, union}
 use Rattle.cc_capture.proofs.Membership.{Member-union}
 use Rattle.cc_core.specs.Shapes.{Shape, BaseShape, FunctionShape}
-use Rattle.cc_core.specs.Terms.{Literal, Note, Term, LiteralTerm, Let}
+use Rattle.cc_base.specs.Literals.{Literal}
+use Rattle.cc_core.specs.Terms.{Note, Term, LiteralTerm, Let}
 use Rattle.cc_core.specs.Contexts.{TermEntry, Context, lookup}
 use Rattle.cc_core.specs.Traversal.{act_term}
 use Rattle.cc_core.specs.Substitution.{putting, opened, opened_set, opened_term}

@@ -8,7 +8,8 @@ use Rattle.cc_capture.specs.declared.var.Var.TheVariants.{Free}
 use Rattle.cc_capture.specs.declared.var.Elem.TheVariants.{Var as Variable}
 use Rattle.cc_capture.specs.Sets.{Set, Member, union}
 use Rattle.cc_core.specs.Shapes.{Shape, BaseShape}
-use Rattle.cc_core.specs.Terms.{UnitLiteral, NumberLiteral, Note, Written, Term, VariableTerm, LiteralTerm, FunctionTerm, TypeFunctionTerm, BoxTerm, Application, TypeApplication, Unboxing, Let, Primitive, Conditional, Repetition, Operation, Boundary, Leave}
+use Rattle.cc_base.specs.Literals.{UnitLiteral, NumberLiteral}
+use Rattle.cc_core.specs.Terms.{Note, Written, Term, VariableTerm, LiteralTerm, FunctionTerm, TypeFunctionTerm, BoxTerm, Application, TypeApplication, Unboxing, Let, Primitive, Conditional, Repetition, Operation, Boundary, Leave}
 use Rattle.cc_core.specs.Contexts.{TermEntry, Context, lookup}
 use Rattle.cc_core.specs.Traversal.{act_term}
 use Rattle.cc_core.specs.Substitution.{putting_shape, opened_term}

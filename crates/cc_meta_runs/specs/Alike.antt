@@ -2,7 +2,8 @@
 use Rattle.std.specs.Prelude.{◌≡◌, map}
 use Rattle.cc_capture.specs.Sets.{empty}
 use Rattle.cc_core.specs.Shapes.{AnyShape}
-use Rattle.cc_core.specs.Terms.{Literal, Absent, Term, VariableTerm, LiteralTerm, FunctionTerm, TypeFunctionTerm, BoxTerm, Application, TypeApplication, Unboxing, Let, Primitive, Conditional, Repetition, Operation, Boundary, Leave}
+use Rattle.cc_base.specs.Literals.{Literal}
+use Rattle.cc_core.specs.Terms.{Absent, Term, VariableTerm, LiteralTerm, FunctionTerm, TypeFunctionTerm, BoxTerm, Application, TypeApplication, Unboxing, Let, Primitive, Conditional, Repetition, Operation, Boundary, Leave}
 use Rattle.cc_core.specs.Stores.{Cell, ValueCell, DeviceCell, LabelCell}
 use Rattle.cc_meta_runs.specs.Machine.{Frame, LetFrame, ScopeFrame, RepetitionFrame, Configuration, configured, Outcome, Stuck, Final, Next, Ask, step}
 use Rattle.cc_meta_runs.specs.Reach.{captured_set}

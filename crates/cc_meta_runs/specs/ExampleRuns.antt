@@ -6,7 +6,8 @@ use Rattle.cc_base.specs.declared.literal.Op.TheVariants as operations
 use Rattle.cc_capture.specs.declared.var.Var.TheVariants.{Bound, Free}
 use Rattle.cc_capture.specs.Sets.{empty}
 use Rattle.cc_core.specs.Shapes.{Shape, BaseShape, AnyShape, TypeVariable, FunctionShape, BoxShape, capturing}
-use Rattle.cc_core.specs.Terms.{Literal, UnitLiteral, NumberLiteral, Absent, Term, VariableTerm, LiteralTerm, FunctionTerm, TypeFunctionTerm, BoxTerm, Application, TypeApplication, Unboxing, Let, Primitive, Operation, Boundary, Leave}
+use Rattle.cc_base.specs.Literals.{Literal, UnitLiteral, NumberLiteral}
+use Rattle.cc_core.specs.Terms.{Absent, Term, VariableTerm, LiteralTerm, FunctionTerm, TypeFunctionTerm, BoxTerm, Application, TypeApplication, Unboxing, Let, Primitive, Operation, Boundary, Leave}
 use Rattle.cc_core.specs.Captured.{variable_set}
 use Rattle.cc_core.specs.Stores.{ValueCell, DeviceCell, Store, cell_at}
 use Rattle.cc_core.specs.Typing.{HasType}
@@ -31,7 +32,8 @@ two_cells = DeviceCell 1 bases.Counter ∷ DeviceCell 0 bases.Console ∷ []
 -- the start of the program whose last cells are the entry and the unit that it is applied to
 abbrev started : ℕ → Store → State
 started entry store = record {
-  configuration = configured (ValueCell (LiteralTerm UnitLiteral) ∷ store) [] 0 (Application (Free entry) (Free (1 + entry)));
+  configuration =
+      configured (ValueCell (LiteralTerm UnitLiteral) ∷ store) [] 0 (Application (Free entry) (Free (1 + entry)));
   devices = two_devices;
 }
 
@@ -79,7 +81,8 @@ abbrev identity : Term
 identity = TypeFunctionTerm AnyShape (FunctionTerm (TypeVariable (Bound 0)) empty (VariableTerm (Bound 0)))
 
 abbrev printing : Term
-printing = FunctionTerm whole_numbers empty (Let Absent (Operation operations.Print (Free 0) (Some (Bound 0))) (VariableTerm (Bound 1)))
+printing =
+    FunctionTerm whole_numbers empty (Let Absent (Operation operations.Print (Free 0) (Some (Bound 0))) (VariableTerm (Bound 1)))
 
 abbrev calls_what_was_boxed : Term
 calls_what_was_boxed =
@@ -102,7 +105,8 @@ BoxesPassRun =
 
 -- A boundary that is left at once: boundary [Unit] z => exit [Unit] (z, unit)
 abbrev pub leaves_at_once : Term
-leaves_at_once = Boundary (BaseShape bases.Unit) (Let Absent (LiteralTerm UnitLiteral) (Leave (BaseShape bases.Unit) empty (Bound 1) (Bound 0)))
+leaves_at_once =
+    Boundary (BaseShape bases.Unit) (Let Absent (LiteralTerm UnitLiteral) (Leave (BaseShape bases.Unit) empty (Bound 1) (Bound 0)))
 
 -- it gives unit, and captures nothing
 abbrev pub LeavingAtOnceIsTyped : Type 0

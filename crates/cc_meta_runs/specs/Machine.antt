@@ -1,5 +1,5 @@
 -- The machine: how a term runs, step by step, on a store and a stack of frames.
-use Rattle.std.specs.Prelude.{ℕ, zero, suc, ℤ, pos, negsuc, ◌+ℤ◌, ◌-ℤ◌, ◌*ℤ◌, int_lt, Bool, true, false, cond, ◌&&◌, nat_eq, List, [], ◌∷◌, length, Option, Some, None}
+use Rattle.std.specs.Prelude.{ℕ, zero, suc, ℤ, pos, negsuc, ◌+ℤ◌, ◌-ℤ◌, ◌*ℤ◌, int_lt, Bool, true, false, ◌&&◌, nat_eq, List, [], ◌∷◌, length, Option, Some, None, if◌then◌else◌}
 use Rattle.std.specs.Option.{option_map}
 use Rattle.std.specs.Int.{w64, int_wrap}
 use Rattle.std.specs.Ordering.{int_eq}
@@ -10,7 +10,8 @@ use Rattle.cc_base.specs.declared.literal.Op.{Op}
 use Rattle.cc_capture.specs.declared.var.Var.{Var}
 use Rattle.cc_capture.specs.declared.var.Var.TheVariants.{Free}
 use Rattle.cc_core.specs.Shapes.{Shape}
-use Rattle.cc_core.specs.Terms.{Literal, UnitLiteral, TruthLiteral, NumberLiteral, Term, VariableTerm, LiteralTerm, FunctionTerm, TypeFunctionTerm, BoxTerm, Application, TypeApplication, Unboxing, Let, Primitive, Conditional, Repetition, Operation, Boundary, Leave}
+use Rattle.cc_base.specs.Literals.{Literal, UnitLiteral, TruthLiteral, NumberLiteral}
+use Rattle.cc_core.specs.Terms.{Term, VariableTerm, LiteralTerm, FunctionTerm, TypeFunctionTerm, BoxTerm, Application, TypeApplication, Unboxing, Let, Primitive, Conditional, Repetition, Operation, Boundary, Leave}
 use Rattle.cc_core.specs.Traversal.{act_term}
 use Rattle.cc_core.specs.Substitution.{putting, putting_shape, opened_term}
 use Rattle.cc_core.specs.Captured.{is_value}
@@ -58,20 +59,25 @@ put_in variable body = act_term (putting variable) zero body
 
 -- a new cell has the value, and the body goes on with its position
 abbrev pub bound_to_new : Store → Stack → ℕ → Term → Term → Outcome
-bound_to_new store stack labels value body = going (ValueCell value ∷ store) stack labels (opened_term (length store) body)
+bound_to_new store stack labels value body =
+    going (ValueCell value ∷ store) stack labels (opened_term (length store) body)
 
 -- a let of a variable or of a value goes on with its body, and any other waits for its right side
 abbrev pub let_step : Store → Stack → ℕ → Term → Term → Outcome
 let_step store stack labels (VariableTerm variable) body = going store stack labels (put_in variable body)
 let_step store stack labels right body =
-    cond (is_value right) (bound_to_new store stack labels right body) (going store (LetFrame body ∷ stack) labels right)
+    if is_value right
+    then bound_to_new store stack labels right body
+    else going store (LetFrame body ∷ stack) labels right
 
 abbrev pub apply_step : Store → Stack → ℕ → Var → Option Cell → Outcome
-apply_step store stack labels argument (Some (ValueCell (FunctionTerm takes c body))) = going store stack labels (put_in argument body)
+apply_step store stack labels argument (Some (ValueCell (FunctionTerm takes c body))) =
+    going store stack labels (put_in argument body)
 apply_step store stack labels argument _ = Stuck
 
 abbrev pub type_apply_step : Store → Stack → ℕ → Shape → Option Cell → Outcome
-type_apply_step store stack labels argument (Some (ValueCell (TypeFunctionTerm bound body))) = going store stack labels (act_term (putting_shape argument) zero body)
+type_apply_step store stack labels argument (Some (ValueCell (TypeFunctionTerm bound body))) =
+    going store stack labels (act_term (putting_shape argument) zero body)
 type_apply_step store stack labels argument _ = Stuck
 
 abbrev pub unbox_step : Store → Stack → ℕ → Option Cell → Outcome
@@ -92,11 +98,13 @@ result_of operators.Less left right = TruthLiteral (int_lt left right)
 result_of operators.Equal left right = TruthLiteral (int_eq left right)
 
 abbrev pub primitive_step : Store → Stack → ℕ → Operator → Option Literal → Option Literal → Outcome
-primitive_step store stack labels operator (Some (NumberLiteral left)) (Some (NumberLiteral right)) = going store stack labels (LiteralTerm (result_of operator left right))
+primitive_step store stack labels operator (Some (NumberLiteral left)) (Some (NumberLiteral right)) =
+    going store stack labels (LiteralTerm (result_of operator left right))
 primitive_step store stack labels operator _ _ = Stuck
 
 abbrev pub conditional_step : Store → Stack → ℕ → Term → Term → Option Literal → Outcome
-conditional_step store stack labels positive negative (Some (TruthLiteral truth)) = going store stack labels (cond truth positive negative)
+conditional_step store stack labels positive negative (Some (TruthLiteral truth)) =
+    going store stack labels (if truth then positive else negative)
 conditional_step store stack labels positive negative _ = Stuck
 
 -- a new cell has the number, and the function is called with it, as a frame keeps count
@@ -107,17 +115,20 @@ call_with_number store stack labels function begun wanted number =
 
 -- a repetition calls its function first with 0, and not at all where the count is 0 or negative
 abbrev pub repetition_step : Store → Stack → ℕ → Var → Option Literal → Outcome
-repetition_step store stack labels function (Some (NumberLiteral (pos zero))) = going store stack labels (LiteralTerm UnitLiteral)
-repetition_step store stack labels function (Some (NumberLiteral (pos (suc fewer)))) = call_with_number store stack labels function 1 (suc fewer) 0
-repetition_step store stack labels function (Some (NumberLiteral (negsuc count))) = going store stack labels (LiteralTerm UnitLiteral)
+repetition_step store stack labels function (Some (NumberLiteral (pos zero))) =
+    going store stack labels (LiteralTerm UnitLiteral)
+repetition_step store stack labels function (Some (NumberLiteral (pos (suc fewer)))) =
+    call_with_number store stack labels function 1 (suc fewer) 0
+repetition_step store stack labels function (Some (NumberLiteral (negsuc count))) =
+    going store stack labels (LiteralTerm UnitLiteral)
 repetition_step store stack labels function _ = Stuck
 
 -- after a call of a repetition: the next call, or its end
 abbrev pub repeat_step : Store → Stack → ℕ → Var → ℕ → ℕ → Outcome
 repeat_step store stack labels function begun wanted =
-    cond (nat_eq begun wanted)
-    (going store stack labels (LiteralTerm UnitLiteral))
-    (call_with_number store stack labels function (suc begun) wanted begun)
+    if nat_eq begun wanted
+    then going store stack labels (LiteralTerm UnitLiteral)
+    else call_with_number store stack labels function (suc begun) wanted begun
 
 -- whether two base shapes are one
 abbrev pub same_base : Base → Base → Bool
@@ -138,20 +149,21 @@ argument_at store (Some variable) = option_map (λ literal. Some literal) (liter
 -- a device that fits is asked for its answer
 abbrev pub operation_step : Store → Stack → ℕ → Op → Option Cell → Option (Option Literal) → Outcome
 operation_step store stack labels operation (Some (DeviceCell device base)) (Some argument) =
-    cond (same_base base (base_operated operation) && is_taken (base_taken operation) argument)
-    (Ask device operation argument (λ answer. configured store stack labels (LiteralTerm answer)))
-    Stuck
+    if same_base base (base_operated operation) && is_taken (base_taken operation) argument
+    then Ask device operation argument (λ answer. configured store stack labels (LiteralTerm answer))
+    else Stuck
 operation_step store stack labels operation _ _ = Stuck
 
 -- the stack below the topmost scope of the label, if it has one
 abbrev pub below_scope : ℕ → Stack → Option Stack
 below_scope label [] = None
-below_scope label (ScopeFrame other ∷ stack) = cond (nat_eq other label) (Some stack) (below_scope label stack)
+below_scope label (ScopeFrame other ∷ stack) = if nat_eq other label then Some stack else below_scope label stack
 below_scope label (LetFrame body ∷ stack) = below_scope label stack
 below_scope label (RepetitionFrame function begun wanted ∷ stack) = below_scope label stack
 
 abbrev pub exit_to : Store → ℕ → Var → ℕ → Option Stack → Outcome
-exit_to store labels value label (Some stack) = Next (Some (Exited label)) (configured store stack labels (VariableTerm value))
+exit_to store labels value label (Some stack) =
+    Next (Some (Exited label)) (configured store stack labels (VariableTerm value))
 exit_to store labels value label None = Stuck
 
 -- an exit pops the frames down to the scope of its label, and that one too
@@ -168,15 +180,19 @@ boundary_step store stack labels body =
 abbrev pub variable_step : Store → Stack → ℕ → Var → Outcome
 variable_step store [] labels variable = Final
 variable_step store (LetFrame body ∷ stack) labels variable = going store stack labels (put_in variable body)
-variable_step store (ScopeFrame label ∷ stack) labels variable = Next (Some (Ended label)) (configured store stack labels (VariableTerm variable))
-variable_step store (RepetitionFrame function begun wanted ∷ stack) labels variable = repeat_step store stack labels function begun wanted
+variable_step store (ScopeFrame label ∷ stack) labels variable =
+    Next (Some (Ended label)) (configured store stack labels (VariableTerm variable))
+variable_step store (RepetitionFrame function begun wanted ∷ stack) labels variable =
+    repeat_step store stack labels function begun wanted
 
 -- what a value that is an answer does to the top frame
 abbrev pub value_step : Store → Stack → ℕ → Term → Outcome
 value_step store [] labels value = Final
 value_step store (LetFrame body ∷ stack) labels value = bound_to_new store stack labels value body
-value_step store (ScopeFrame label ∷ stack) labels value = Next (Some (Ended label)) (configured store stack labels value)
-value_step store (RepetitionFrame function begun wanted ∷ stack) labels value = repeat_step store stack labels function begun wanted
+value_step store (ScopeFrame label ∷ stack) labels value =
+    Next (Some (Ended label)) (configured store stack labels value)
+value_step store (RepetitionFrame function begun wanted ∷ stack) labels value =
+    repeat_step store stack labels function begun wanted
 
 -- one step, by the term; each line that has no answer here is stuck
 abbrev pub term_step : Store → Stack → ℕ → Term → Outcome
@@ -185,14 +201,20 @@ term_step store stack labels (LiteralTerm literal) = value_step store stack labe
 term_step store stack labels (FunctionTerm takes c body) = value_step store stack labels (FunctionTerm takes c body)
 term_step store stack labels (TypeFunctionTerm bound body) = value_step store stack labels (TypeFunctionTerm bound body)
 term_step store stack labels (BoxTerm content) = value_step store stack labels (BoxTerm content)
-term_step store stack labels (Application function argument) = apply_step store stack labels argument (cell_at store function)
-term_step store stack labels (TypeApplication function argument) = type_apply_step store stack labels argument (cell_at store function)
+term_step store stack labels (Application function argument) =
+    apply_step store stack labels argument (cell_at store function)
+term_step store stack labels (TypeApplication function argument) =
+    type_apply_step store stack labels argument (cell_at store function)
 term_step store stack labels (Unboxing set box) = unbox_step store stack labels (cell_at store box)
 term_step store stack labels (Let note right body) = let_step store stack labels right body
-term_step store stack labels (Primitive operator left right) = primitive_step store stack labels operator (literal_in (cell_at store left)) (literal_in (cell_at store right))
-term_step store stack labels (Conditional note test positive negative) = conditional_step store stack labels positive negative (literal_in (cell_at store test))
-term_step store stack labels (Repetition count function) = repetition_step store stack labels function (literal_in (cell_at store count))
-term_step store stack labels (Operation operation receiver argument) = operation_step store stack labels operation (cell_at store receiver) (argument_at store argument)
+term_step store stack labels (Primitive operator left right) =
+    primitive_step store stack labels operator (literal_in (cell_at store left)) (literal_in (cell_at store right))
+term_step store stack labels (Conditional note test positive negative) =
+    conditional_step store stack labels positive negative (literal_in (cell_at store test))
+term_step store stack labels (Repetition count function) =
+    repetition_step store stack labels function (literal_in (cell_at store count))
+term_step store stack labels (Operation operation receiver argument) =
+    operation_step store stack labels operation (cell_at store receiver) (argument_at store argument)
 term_step store stack labels (Boundary gives body) = boundary_step store stack labels body
 term_step store stack labels (Leave gives c exit value) = exit_step store stack labels value (cell_at store exit)
 

@@ -1,7 +1,7 @@
 -- Runs of the machine on devices.
 use Rattle.std.specs.Prelude.{◌≡◌, ℕ, zero, suc, List, [], ◌∷◌, Option, Some, None}
 use Rattle.cc_base.specs.declared.literal.Op.{Op}
-use Rattle.cc_core.specs.Terms.{Literal}
+use Rattle.cc_base.specs.Literals.{Literal}
 use Rattle.cc_device.specs.Devices.{Devices, Reply, operate}
 use Rattle.cc_device.specs.Events.{Event, Operated, literal_shown}
 use Rattle.cc_meta_runs.specs.Machine.{Configuration, Outcome, Stuck, Final, Next, Ask, step}
@@ -19,7 +19,8 @@ pub data Move : Type 0 where
 
 abbrev pub answered : ℕ → Op → Option Literal → (Literal → Configuration) → Option Reply → Move
 answered device operation argument resume (Some reply) =
-    Moves (Some (Operated device operation (literal_shown argument reply.literal))) (record { configuration = resume reply.literal; devices = reply.devices })
+    Moves (Some (Operated device operation (literal_shown argument reply.literal))) (record { configuration =
+        resume reply.literal; devices = reply.devices })
 answered device operation argument resume None = IsStuck
 
 -- the device table answers what a step asks
@@ -27,7 +28,8 @@ abbrev pub closed : Devices → Outcome → Move
 closed devices Stuck = IsStuck
 closed devices Final = IsFinal
 closed devices (Next event next) = Moves event (record { configuration = next; devices = devices })
-closed devices (Ask device operation argument resume) = answered device operation argument resume (operate devices device operation argument)
+closed devices (Ask device operation argument resume) =
+    answered device operation argument resume (operate devices device operation argument)
 
 -- one step on the devices
 abbrev pub move : State → Move
@@ -55,7 +57,8 @@ abbrev pub ended : Ending → State → Run
 ended ending last = record { events = []; ending = ending; steps = 0; last = last }
 
 abbrev pub after_move : Option Event → Run → Run
-after_move event later = record { events = with_event event later.events; ending = later.ending; steps = suc later.steps; last = later.last }
+after_move event later =
+    record { events = with_event event later.events; ending = later.ending; steps = suc later.steps; last = later.last }
 
 -- the end of a run that takes no further step
 abbrev pub ending_of : Move → Ending

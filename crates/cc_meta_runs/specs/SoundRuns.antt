@@ -6,7 +6,8 @@ use Rattle.cc_capture.specs.declared.var.Var.TheVariants.{Free}
 use Rattle.cc_capture.specs.declared.var.Elem.TheVariants.{Var as Variable}
 use Rattle.cc_capture.specs.Sets.{Set, Member}
 use Rattle.cc_core.specs.Shapes.{Shape, CapturingType}
-use Rattle.cc_core.specs.Terms.{Literal, UnitLiteral, Term, LiteralTerm, Application}
+use Rattle.cc_base.specs.Literals.{Literal, UnitLiteral}
+use Rattle.cc_core.specs.Terms.{Term, LiteralTerm, Application}
 use Rattle.cc_core.specs.Contexts.{TermEntry, Context, lookup}
 use Rattle.cc_core.specs.Typing.{base_operated, HasType}
 use Rattle.cc_core.specs.Stores.{ValueCell, DeviceCell, Store, HasStoreTyping, authority}
@@ -41,11 +42,13 @@ TypedProgramsStartSoundly =
 
 -- Steps lead from sound states to sound ones alone.
 abbrev pub SoundnessIsKept : Type 0
-SoundnessIsKept = (state next : State) (events : List Event) → IsSoundState state → Leads state events next → IsSoundState next
+SoundnessIsKept =
+    (state next : State) (events : List Event) → IsSoundState state → Leads state events next → IsSoundState next
 
 -- No state that a sound one leads to is stuck.
 abbrev pub SoundStatesNeverGetStuck : Type 0
-SoundStatesNeverGetStuck = (state next : State) (events : List Event) → IsSoundState state → Leads state events next → move next ≢ IsStuck
+SoundStatesNeverGetStuck =
+    (state next : State) (events : List Event) → IsSoundState state → Leads state events next → move next ≢ IsStuck
 
 -- Each device that is operated now or later is reached by the captured set of now.
 abbrev pub OperatedDevicesAreReached : Type 0
@@ -77,12 +80,14 @@ RunsAreSteps = (fuel : ℕ) (state : State) → Leads state (run fuel state).eve
 -- The events of a run that begins with no scope are well scoped.
 abbrev pub EventsAreWellScoped : Type 0
 EventsAreWellScoped =
-    (fuel : ℕ) (state : State) → IsSoundState state → scopes_of state.configuration.stack ≡ [] → IsWellScoped (run fuel state).events
+    (fuel : ℕ) (state : State) → IsSoundState state → scopes_of state.configuration.stack ≡ []
+    → IsWellScoped (run fuel state).events
 
 -- so many devices stand at the first positions, each at its number
 abbrev pub DevicesStandFirst : Store → ℕ → Type 0
 DevicesStandFirst store count =
-    (position number : ℕ) (base : Base) → lookup store position ≡ Some (DeviceCell number base) → (position ≡ number) × (number < count)
+    (position number : ℕ) (base : Base) → lookup store position ≡ Some (DeviceCell number base)
+    → (position ≡ number) × (number < count)
 
 -- the set names devices, and perhaps the universal capability, but no other variable
 abbrev pub NamesDevices : Store → Set → Type 0

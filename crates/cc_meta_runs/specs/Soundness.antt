@@ -7,7 +7,8 @@ use Rattle.cc_capture.specs.declared.var.Var.{Var}
 use Rattle.cc_capture.specs.declared.var.Elem.TheVariants.{Cap}
 use Rattle.cc_capture.specs.Sets.{Set, empty}
 use Rattle.cc_core.specs.Shapes.{Shape, BaseShape, FunctionShape, ExitShape, capturing}
-use Rattle.cc_core.specs.Terms.{Literal, Term, VariableTerm}
+use Rattle.cc_base.specs.Literals.{Literal}
+use Rattle.cc_core.specs.Terms.{Term, VariableTerm}
 use Rattle.cc_core.specs.Contexts.{TermEntry, Context, lookup}
 use Rattle.cc_core.specs.Substitution.{single, opened_term}
 use Rattle.cc_core.specs.WellFormed.{TermKind, kinds_of, is_well_formed_term, IsWellFormedType}
@@ -26,7 +27,8 @@ repeated = FunctionShape (BaseShape bases.Int) empty (BaseShape bases.Unit) empt
 -- The stack takes an answer of the type of the shape and the set. The body of a let has the type that the frame below takes;
 -- what a boundary or a repetition gives is below that type.
 pub data HasStackTyping (store : Store) (context : Context) : Stack → Shape → Set → Type 0 where
-  no_frame : {shape : Shape} {set : Set} → IsWellFormedType context (capturing shape set) → HasStackTyping store context [] shape set
+  no_frame : {shape : Shape} {set : Set} → IsWellFormedType context (capturing shape set)
+      → HasStackTyping store context [] shape set
   let_frame : {stack : Stack} {body : Term} {takes gives : Shape} {c e : Set}
       → IsTrue (is_well_formed_term (kinds_of context) (TermKind ∷ []) body)
       → HasType (TermEntry takes c ∷ context) (opened_term (length context) body) (capturing gives e)
@@ -76,12 +78,14 @@ IsFalling (first ∷ others) = ((number : ℕ) → IsListed number others → nu
 
 -- the set reaches only labels of scopes on the stack
 abbrev pub ReachesOnlyScopes : Store → Set → Stack → Type 0
-ReachesOnlyScopes store set stack = (label : ℕ) → SetReaches store set (LabelCell label) → IsListed label (scopes_of stack)
+ReachesOnlyScopes store set stack =
+    (label : ℕ) → SetReaches store set (LabelCell label) → IsListed label (scopes_of stack)
 
 -- each frame reaches only labels of scopes below it
 abbrev pub FramesReachScopes : Store → Stack → Type 0
 FramesReachScopes store [] = Unit {0}
-FramesReachScopes store (frame ∷ stack) = ReachesOnlyScopes store (captured_by_frame frame) stack × FramesReachScopes store stack
+FramesReachScopes store (frame ∷ stack) =
+    ReachesOnlyScopes store (captured_by_frame frame) stack × FramesReachScopes store stack
 
 -- The configuration is sound: its store, its term and its stack are typed in one context, the term with the type that the
 -- stack takes; its labels have the numbers from 0 on in the order of the store; the labels of its scopes rise towards the
@@ -114,7 +118,8 @@ FitsScopes before (Some event) after = Follows before event after
 abbrev pub HasNoNewDeviceCell : Configuration → Configuration → Type 0
 HasNoNewDeviceCell before after =
     (position device : ℕ) (base : Base)
-    → lookup after.store position ≡ Some (DeviceCell device base) → lookup before.store position ≡ Some (DeviceCell device base)
+    → lookup after.store position ≡ Some (DeviceCell device base)
+    → lookup before.store position ≡ Some (DeviceCell device base)
 
 -- the event, if there is one, is no operation of a device
 abbrev pub OperatesNoDevice : Option Event → Type 0
@@ -148,4 +153,5 @@ IsSoundOutcome before (Ask device operation argument resume) = IsSoundQuestion b
 
 -- Progress and preservation, for every answer of a device.
 abbrev pub StepsAreSound : Type 0
-StepsAreSound = (configuration : Configuration) → IsSound configuration → IsSoundOutcome configuration (step configuration)
+StepsAreSound =
+    (configuration : Configuration) → IsSound configuration → IsSoundOutcome configuration (step configuration)

@@ -33,13 +33,15 @@ abbrev pub AvoidedIsGone : Type 0
 AvoidedIsGone =
     (context : Context) (sign : Sign) (position : ℕ) (shape : Shape) (declared : Set) (type result : CapturingType)
     → lookup context position ≡ Some (TermEntry shape declared) → has_position position declared ≡ false
-    → IsWellFormedType context type → avoided_type sign position declared type ≡ Some result → is_free_in_type position result ≡ false
+    → IsWellFormedType context type → avoided_type sign position declared type ≡ Some result
+    → is_free_in_type position result ≡ false
 
 -- what is avoided stays well formed
 abbrev pub AvoidingKeepsWellFormedness : Type 0
 AvoidingKeepsWellFormedness =
     (context : Context) (sign : Sign) (position : ℕ) (declared : Set) (type result : CapturingType)
-    → IsWellFormedSet context declared → IsWellFormedType context type → avoided_type sign position declared type ≡ Some result → IsWellFormedType context result
+    → IsWellFormedSet context declared → IsWellFormedType context type
+    → avoided_type sign position declared type ≡ Some result → IsWellFormedType context result
 
 -- where the newest variable is avoided, the result is well formed without it
 abbrev pub AvoidingLeavesTheScope : Type 0

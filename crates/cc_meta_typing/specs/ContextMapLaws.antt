@@ -16,21 +16,25 @@ use Rattle.cc_meta_typing.specs.ContextMaps.{Extends, mapped, mapped_set, mapped
 abbrev pub SubcapturingAlongMaps : Type 0
 SubcapturingAlongMaps =
     (source target : Context) (to : ℕ → ℕ) (shapes : ℕ → Shape) → IsContextMap source target to shapes
-    → (left right : Set) → SubcapturesSet source left right → SubcapturesSet target (mapped_set to shapes left) (mapped_set to shapes right)
+    → (left right : Set) → SubcapturesSet source left right
+    → SubcapturesSet target (mapped_set to shapes left) (mapped_set to shapes right)
 
 -- shapes that are below each other become shapes that are
 abbrev pub SubtypingAlongMaps : Type 0
 SubtypingAlongMaps =
-    (source target : Context) (to : ℕ → ℕ) (shapes : ℕ → Shape) → IsContextMap source target to shapes → IsWellFormedContext source
+    (source target : Context) (to : ℕ → ℕ) (shapes : ℕ → Shape) → IsContextMap source target to shapes
+    → IsWellFormedContext source
     → (left right : Shape) → IsWellFormedShape source left → IsWellFormedShape source right
     → Subtypes source left right → Subtypes target (mapped to shapes left) (mapped to shapes right)
 
 -- the same of types
 abbrev pub SubtypingOfTypesAlongMaps : Type 0
 SubtypingOfTypesAlongMaps =
-    (source target : Context) (to : ℕ → ℕ) (shapes : ℕ → Shape) → IsContextMap source target to shapes → IsWellFormedContext source
+    (source target : Context) (to : ℕ → ℕ) (shapes : ℕ → Shape) → IsContextMap source target to shapes
+    → IsWellFormedContext source
     → (left right : CapturingType) → IsWellFormedType source left → IsWellFormedType source right
-    → SubtypesType source left right → SubtypesType target (act_type (freely to shapes) 0 left) (act_type (freely to shapes) 0 right)
+    → SubtypesType source left right
+    → SubtypesType target (act_type (freely to shapes) 0 left) (act_type (freely to shapes) 0 right)
 
 -- under a binder the new position of the one context becomes that of the other
 abbrev pub MapsGoUnderBinders : Type 0
@@ -43,7 +47,8 @@ MapsGoUnderBinders =
 -- between well-formed contexts it is enough to ask of the target
 abbrev pub EntriesMakeAMap : Type 0
 EntriesMakeAMap =
-    (source target : Context) (to : ℕ → ℕ) (shapes : ℕ → Shape) → IsWellFormedContext source → IsWellFormedContext target
+    (source target : Context) (to : ℕ → ℕ) (shapes : ℕ → Shape) → IsWellFormedContext source
+    → IsWellFormedContext target
     → MapsEntries source target to shapes → IsContextMap source target to shapes
 
 -- each position as a type variable
@@ -52,7 +57,8 @@ itself position = TypeVariable (Free position)
 
 -- entries are added
 abbrev pub LongerContextIsAMap : Type 0
-LongerContextIsAMap = (context longer : Context) → Extends context longer → IsContextMap context longer (λ position. position) itself
+LongerContextIsAMap =
+    (context longer : Context) → Extends context longer → IsContextMap context longer (λ position. position) itself
 
 -- each entry is found, renamed, at its new position
 abbrev pub RenamingIsAMap : Type 0
@@ -88,14 +94,17 @@ SmallerTypeForALargerOne =
 -- What follows for subtyping.
 abbrev pub SubtypingWeakens : Type 0
 SubtypingWeakens =
-    (context later : Context) (left right : Shape) → IsWellFormedContext context → IsWellFormedShape context left → IsWellFormedShape context right
+    (context later : Context) (left right : Shape) → IsWellFormedContext context → IsWellFormedShape context left
+    → IsWellFormedShape context right
     → Subtypes context left right → Subtypes (later ++ context) left right
 
 -- what is below stays below where a variable gets a smaller set, whatever its shape
 abbrev pub SubtypingNarrows : Type 0
 SubtypingNarrows =
-    (context later : Context) (shape shape' : Shape) (set set' : Set) (left right : Shape) → SubcapturesSet context set' set
-    → Subtypes (later ++ (TermEntry shape set ∷ context)) left right → Subtypes (later ++ (TermEntry shape' set' ∷ context)) left right
+    (context later : Context) (shape shape' : Shape) (set set' : Set) (left right : Shape)
+    → SubcapturesSet context set' set
+    → Subtypes (later ++ (TermEntry shape set ∷ context)) left right
+    → Subtypes (later ++ (TermEntry shape' set' ∷ context)) left right
 
 -- renamed, where each entry is found, renamed, at its new position
 abbrev pub SubtypingRenames : Type 0

@@ -33,11 +33,13 @@ mapped_entry to shapes (TypeEntry bound) = TypeEntry (mapped to shapes bound)
 -- shape, which is below what its bound becomes. Each of these holds in every context that extends the target.
 pub record IsContextMap (source target : Context) (to : ℕ → ℕ) (shapes : ℕ → Shape) : Type 0 where
   pub closed : (position : ℕ) → Meets (bound_within 0) 0 (shapes position)
-  pub formed : (position : ℕ) (bound : Shape) → lookup source position ≡ Some (TypeEntry bound) → IsWellFormedShape target (shapes position)
+  pub formed : (position : ℕ) (bound : Shape) → lookup source position ≡ Some (TypeEntry bound)
+  → IsWellFormedShape target (shapes position)
   pub bounds : (position : ℕ) (bound : Shape) → lookup source position ≡ Some (TypeEntry bound)
       → (longer : Context) → Extends target longer → Subtypes longer (shapes position) (mapped to shapes bound)
   pub sets : (position : ℕ) (shape : Shape) (set : Set) → lookup source position ≡ Some (TermEntry shape set)
-      → (longer : Context) → Extends target longer → Subcaptures longer (Variable (Free (to position))) (mapped_set to shapes set)
+      → (longer : Context) → Extends target longer
+      → Subcaptures longer (Variable (Free (to position))) (mapped_set to shapes set)
   pub types : (position : ℕ) (shape : Shape) (set : Set) → lookup source position ≡ Some (TermEntry shape set)
       → (shape' : Shape) × (set' : Set) × (lookup target (to position) ≡ Some (TermEntry shape' set'))
       × ((longer : Context) → Extends target longer → Subtypes longer shape' (mapped to shapes shape))
@@ -45,8 +47,10 @@ pub record IsContextMap (source target : Context) (to : ℕ → ℕ) (shapes : �
 -- the same where it is asked of the target alone
 pub record MapsEntries (source target : Context) (to : ℕ → ℕ) (shapes : ℕ → Shape) : Type 0 where
   pub closed : (position : ℕ) → Meets (bound_within 0) 0 (shapes position)
-  pub formed : (position : ℕ) (bound : Shape) → lookup source position ≡ Some (TypeEntry bound) → IsWellFormedShape target (shapes position)
-  pub bounds : (position : ℕ) (bound : Shape) → lookup source position ≡ Some (TypeEntry bound) → Subtypes target (shapes position) (mapped to shapes bound)
+  pub formed : (position : ℕ) (bound : Shape) → lookup source position ≡ Some (TypeEntry bound)
+  → IsWellFormedShape target (shapes position)
+  pub bounds : (position : ℕ) (bound : Shape) → lookup source position ≡ Some (TypeEntry bound)
+  → Subtypes target (shapes position) (mapped to shapes bound)
   pub sets : (position : ℕ) (shape : Shape) (set : Set) → lookup source position ≡ Some (TermEntry shape set)
       → Subcaptures target (Variable (Free (to position))) (mapped_set to shapes set)
   pub types : (position : ℕ) (shape : Shape) (set : Set) → lookup source position ≡ Some (TermEntry shape set)

@@ -12,7 +12,8 @@ use Rattle.cc_sets.specs.Exposing.{exposed}
 abbrev pub ExposingFollowsBounds : Type 0
 ExposingFollowsBounds =
     (context : Context) (position : ℕ) (bound : Shape) → IsWellFormedContext context
-    → lookup context position ≡ Some (TypeEntry bound) → exposed context (TypeVariable (Free position)) ≡ exposed context bound
+    → lookup context position ≡ Some (TypeEntry bound)
+    → exposed context (TypeVariable (Free position)) ≡ exposed context bound
 
 -- in the end there is no type variable
 abbrev pub ExposedIsNoVariable : Type 0
@@ -23,7 +24,8 @@ ExposedIsNoVariable =
 -- what is no type variable stays as it is
 abbrev pub OnlyVariablesAreExposed : Type 0
 OnlyVariablesAreExposed =
-    (context : Context) (shape : Shape) → ((variable : Var) → shape ≡ TypeVariable variable → ⊥) → exposed context shape ≡ shape
+    (context : Context) (shape : Shape) → ((variable : Var) → shape ≡ TypeVariable variable → ⊥)
+    → exposed context shape ≡ shape
 
 -- a shape is below what it is exposed to
 abbrev pub ExposedIsAbove : Type 0

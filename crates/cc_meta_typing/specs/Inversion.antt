@@ -10,7 +10,8 @@ use Rattle.cc_capture.specs.declared.var.Var.TheVariants.{Free}
 use Rattle.cc_capture.specs.declared.var.Elem.TheVariants.{Cap}
 use Rattle.cc_capture.specs.Sets.{Set, empty}
 use Rattle.cc_core.specs.Shapes.{Shape, BaseShape, FunctionShape, TypeFunctionShape, BoxShape, ExitShape, CapturingType, capturing}
-use Rattle.cc_core.specs.Terms.{Literal, Note, Written, Term, VariableTerm, LiteralTerm, FunctionTerm, TypeFunctionTerm, BoxTerm, Application, TypeApplication, Unboxing, Let, Primitive, Conditional, Repetition, Operation, Boundary, Leave}
+use Rattle.cc_base.specs.Literals.{Literal}
+use Rattle.cc_core.specs.Terms.{Note, Written, Term, VariableTerm, LiteralTerm, FunctionTerm, TypeFunctionTerm, BoxTerm, Application, TypeApplication, Unboxing, Let, Primitive, Conditional, Repetition, Operation, Boundary, Leave}
 use Rattle.cc_core.specs.Contexts.{TermEntry, TypeEntry, Context, lookup}
 use Rattle.cc_core.specs.Traversal.{act, act_set}
 use Rattle.cc_core.specs.Substitution.{single, putting, putting_shape, opened_type, opened_term}
@@ -33,7 +34,8 @@ VariablesInvert =
 abbrev pub LiteralsInvert : Type 0
 LiteralsInvert =
     (context : Context) (literal : Literal) (type : CapturingType)
-    → HasType context (LiteralTerm literal) type → SubtypesType context (capturing (BaseShape (base_of literal)) empty) type
+    → HasType context (LiteralTerm literal) type
+    → SubtypesType context (capturing (BaseShape (base_of literal)) empty) type
 
 -- The body of a function has a type under the parameter, and the function's type is above what takes the one and gives the
 -- other, and captures what the function does.

@@ -13,7 +13,8 @@ use Rattle.cc_meta_typing.specs.ContextMaps.{mapped_entry, IsContextMap}
 -- What is typed becomes what is typed in the well-formed context that the map goes into.
 abbrev pub TypingAlongMaps : Type 0
 TypingAlongMaps =
-    (source target : Context) (to : ℕ → ℕ) (shapes : ℕ → Shape) → IsContextMap source target to shapes → IsWellFormedContext target
+    (source target : Context) (to : ℕ → ℕ) (shapes : ℕ → Shape) → IsContextMap source target to shapes
+    → IsWellFormedContext target
     → (term : Term) (type : CapturingType) → HasType source term type
     → HasType target (act_term (freely to shapes) zero term) (act_type (freely to shapes) zero type)
 

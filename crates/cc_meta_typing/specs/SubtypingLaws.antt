@@ -22,7 +22,8 @@ SubtypingOfTypesIsComparison =
 abbrev pub MoreStepsKeepTheAnswer : Type 0
 MoreStepsKeepTheAnswer =
     (context : Context) (left right : Shape) (few many : ℕ) → few ≤ many
-    → (comparison few context left right ≡ Unfinished → ⊥) → comparison many context left right ≡ comparison few context left right
+    → (comparison few context left right ≡ Unfinished → ⊥)
+    → comparison many context left right ≡ comparison few context left right
 
 -- no two lists of demands
 abbrev pub DemandsAreUnique : Type 0
@@ -33,11 +34,13 @@ DemandsAreUnique =
 -- and not demands and a mismatch
 abbrev pub DemandsExcludeMismatch : Type 0
 DemandsExcludeMismatch =
-    (context : Context) (left right : Shape) (demands : List Demand) → HasDemands context left right demands → IsMismatch context left right → ⊥
+    (context : Context) (left right : Shape) (demands : List Demand) → HasDemands context left right demands
+    → IsMismatch context left right → ⊥
 
 -- what does not match is not below
 abbrev pub MismatchIsNoSubtype : Type 0
-MismatchIsNoSubtype = (context : Context) (left right : Shape) → IsMismatch context left right → Subtypes context left right → ⊥
+MismatchIsNoSubtype =
+    (context : Context) (left right : Shape) → IsMismatch context left right → Subtypes context left right → ⊥
 
 -- On what is well formed a comparison has demands or is a mismatch.
 abbrev pub ComparisonEnds : Type 0

@@ -43,7 +43,8 @@ reading_verdict device HighModule = not_built
 -- The verdict of a text beside a device: of one that is no UTF-8, and of one with these tokens that reads so.
 pub data HasVerdict (device : List ℕ) (text : List ℕ) : ModuleVerdict → Type 0 where
   no_utf8 : (IsUtf8 text → ⊥) → HasVerdict device text not_built
-  reads : (tokens : List Token) (reading : Reading) → IsUtf8 text → IsText start (chars text) tokens → Reads tokens (place_past start (chars text)) reading → HasVerdict device text (reading_verdict device reading)
+  reads : (tokens : List Token) (reading : Reading) → IsUtf8 text → IsText start (chars text) tokens
+      → Reads tokens (place_past start (chars text)) reading → HasVerdict device text (reading_verdict device reading)
 
 -- the verdict as a function
 unfoldable pub verdict_of : List ℕ → List ℕ → ModuleVerdict
@@ -52,7 +53,8 @@ verdict_of device text =
 
 -- a text has one verdict, and this is the function that gives it
 abbrev pub ATextHasOneVerdict : Type 0
-ATextHasOneVerdict = (device text : List ℕ) (verdict : ModuleVerdict) → HasVerdict device text verdict ↔ (verdict ≡ verdict_of device text)
+ATextHasOneVerdict =
+    (device text : List ℕ) (verdict : ModuleVerdict) → HasVerdict device text verdict ↔ (verdict ≡ verdict_of device text)
 
 -- how a verdict is written
 abbrev pub verdict_text : ModuleVerdict → List ℕ

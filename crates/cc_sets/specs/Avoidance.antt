@@ -1,5 +1,5 @@
 -- Avoiding a variable in a type: what the type becomes where the variable goes out of scope.
-use Rattle.std.specs.Prelude.{ℕ, nat_eq, Bool, true, false, ◌||◌, cond, Option, Some, None}
+use Rattle.std.specs.Prelude.{ℕ, nat_eq, Bool, true, false, ◌||◌, Option, Some, None, if◌then◌else◌}
 use Rattle.std.specs.Option.{option_map}
 use Rattle.cc_capture.specs.declared.var.Var.{Var}
 use Rattle.cc_capture.specs.declared.var.Var.TheVariants.{Bound, Free}
@@ -33,7 +33,8 @@ is_free_in position AnyShape = false
 is_free_in position (TypeVariable variable) = is_position position variable
 is_free_in position (FunctionShape takes c gives e) =
     is_free_in position takes || has_position position c || is_free_in position gives || has_position position e
-is_free_in position (TypeFunctionShape bound gives e) = is_free_in position bound || is_free_in position gives || has_position position e
+is_free_in position (TypeFunctionShape bound gives e) =
+    is_free_in position bound || is_free_in position gives || has_position position e
 is_free_in position (BoxShape content c) = is_free_in position content || has_position position c
 is_free_in position (ExitShape gives) = is_free_in position gives
 
@@ -48,13 +49,15 @@ is_free_in_invariant_place position AnyShape = false
 is_free_in_invariant_place position (TypeVariable variable) = false
 is_free_in_invariant_place position (FunctionShape takes c gives e) =
     is_free_in_invariant_place position takes || is_free_in_invariant_place position gives
-is_free_in_invariant_place position (TypeFunctionShape bound gives e) = is_free_in position bound || is_free_in_invariant_place position gives
+is_free_in_invariant_place position (TypeFunctionShape bound gives e) =
+    is_free_in position bound || is_free_in_invariant_place position gives
 is_free_in_invariant_place position (BoxShape content c) = is_free_in_invariant_place position content
 is_free_in_invariant_place position (ExitShape gives) = is_free_in position gives
 
 -- a positive set gets what the position was declared with in its place, and a negative one loses the position
 abbrev pub avoided_set : Sign → ℕ → Set → Set → Set
-avoided_set Positive position declared set = cond (has_position position set) (union (remove (Variable (Free position)) set) declared) set
+avoided_set Positive position declared set =
+    if has_position position set then union (remove (Variable (Free position)) set) declared else set
 avoided_set Negative position declared set = remove (Variable (Free position)) set
 
 -- a shape of two parts, where both have an answer

@@ -1,5 +1,5 @@
 -- The comparison of two shapes or types by their trees, which finds what their sets have to satisfy.
-use Rattle.std.specs.Prelude.{◌≡◌, ℕ, zero, suc, Bool, true, false, cond, List, [], ◌∷◌, ◌++◌, length, Option, Some, None}
+use Rattle.std.specs.Prelude.{◌≡◌, ℕ, zero, suc, Bool, true, false, List, [], ◌∷◌, ◌++◌, length, Option, Some, None, if◌then◌else◌}
 use Rattle.cc_capture.specs.declared.var.Var.{Var}
 use Rattle.cc_capture.specs.declared.var.Var.TheVariants.{Bound, Free}
 use Rattle.cc_capture.specs.Sets.{Set}
@@ -37,7 +37,8 @@ Comparing = Context → Shape → Shape → Comparison
 -- the set demanded first, then the shapes compared
 abbrev pub types_compared : Comparing → Context → CapturingType → CapturingType → Comparison
 types_compared compare context left right =
-    and_then (Matches (record { context = context; left = left.set; right = right.set } ∷ [])) (compare context left.shape right.shape)
+    and_then (Matches (record { context =
+        context; left = left.set; right = right.set } ∷ [])) (compare context left.shape right.shape)
 
 -- the bound of an entry, where it is a type variable
 abbrev pub bound_in : Option Bind → Option Shape
@@ -66,14 +67,15 @@ function_compared compare context takes gives _ = Mismatch
 -- what type functions with one bound give, under that bound
 abbrev pub type_function_compared : Comparing → Context → Shape → CapturingType → Shape → Comparison
 type_function_compared compare context bound gives (TypeFunctionShape bound' gives' e') =
-    cond (same_shape bound bound')
-    (types_compared compare (TypeEntry bound ∷ context) (opened_type (length context) gives) (opened_type (length context) (capturing gives' e')))
-    Mismatch
+    if same_shape bound bound'
+    then types_compared compare (TypeEntry bound ∷ context) (opened_type (length context) gives) (opened_type (length context) (capturing gives' e'))
+    else Mismatch
 type_function_compared compare context bound gives _ = Mismatch
 
 -- the contents of two boxes
 abbrev pub box_compared : Comparing → Context → CapturingType → Shape → Comparison
-box_compared compare context content (BoxShape content' c') = types_compared compare context content (capturing content' c')
+box_compared compare context content (BoxShape content' c') =
+    types_compared compare context content (capturing content' c')
 box_compared compare context content _ = Mismatch
 
 -- whether the shape is Any
@@ -86,8 +88,10 @@ unfoldable pub by_form : Comparing → Context → Shape → Shape → Compariso
 by_form compare context (BaseShape base) right = Mismatch
 by_form compare context AnyShape right = Mismatch
 by_form compare context (TypeVariable variable) right = bound_compared compare context (bound_of context variable) right
-by_form compare context (FunctionShape takes c gives e) right = function_compared compare context (capturing takes c) (capturing gives e) right
-by_form compare context (TypeFunctionShape bound gives e) right = type_function_compared compare context bound (capturing gives e) right
+by_form compare context (FunctionShape takes c gives e) right =
+    function_compared compare context (capturing takes c) (capturing gives e) right
+by_form compare context (TypeFunctionShape bound gives e) right =
+    type_function_compared compare context bound (capturing gives e) right
 by_form compare context (BoxShape content c) right = box_compared compare context (capturing content c) right
 by_form compare context (ExitShape gives) right = Mismatch
 
@@ -95,7 +99,9 @@ by_form compare context (ExitShape gives) right = Mismatch
 unfoldable pub comparison : ℕ → Context → Shape → Shape → Comparison
 comparison zero context left right = Unfinished
 comparison (suc steps) context left right =
-    cond (same_shape left right) (Matches []) (cond (is_any right) (Matches []) (by_form (comparison steps) context left right))
+    if same_shape left right then Matches []
+    else if is_any right then Matches []
+    else by_form (comparison steps) context left right
 
 -- the comparison of two types
 abbrev pub type_comparison : ℕ → Context → CapturingType → CapturingType → Comparison

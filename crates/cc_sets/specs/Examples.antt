@@ -54,7 +54,8 @@ BoxesAreBelowAny = HasDemands with_console (BoxShape printing (single first)) An
 
 -- Type functions with different bounds do not match, also where the left one takes more.
 abbrev pub identity_below : Shape → Shape
-identity_below bound = TypeFunctionShape bound (FunctionShape (TypeVariable (Bound 0)) empty (TypeVariable (Bound 1)) empty) empty
+identity_below bound =
+    TypeFunctionShape bound (FunctionShape (TypeVariable (Bound 0)) empty (TypeVariable (Bound 1)) empty) empty
 
 abbrev pub DifferentBoundsMismatch : Type 0
 DifferentBoundsMismatch = IsMismatch [] (identity_below AnyShape) (identity_below number)
@@ -98,7 +99,8 @@ AvoidingTurnsTwice =
 
 -- there is no answer where the position stands in the bound of a type function, or inside the shape of an exit
 abbrev pub BoundsAreNotAvoided : Type 0
-BoundsAreNotAvoided = avoided Positive 1 (single first) (TypeFunctionShape (BoxShape number (single second)) nothing empty) ≡ None
+BoundsAreNotAvoided =
+    avoided Positive 1 (single first) (TypeFunctionShape (BoxShape number (single second)) nothing empty) ≡ None
 
 abbrev pub ExitsAreNotAvoided : Type 0
 ExitsAreNotAvoided = avoided Positive 1 (single first) (ExitShape (BoxShape number (single second))) ≡ None

@@ -1,12 +1,13 @@
 -- What a shape is exposed to.
-use Rattle.std.specs.Prelude.{ℕ, nat_eq, cond, [], ◌∷◌, length}
+use Rattle.std.specs.Prelude.{ℕ, nat_eq, [], ◌∷◌, length, if◌then◌else◌}
 use Rattle.cc_capture.specs.declared.var.Var.TheVariants.{Free}
 use Rattle.cc_core.specs.Shapes.{Shape, TypeVariable}
 use Rattle.cc_core.specs.Contexts.{Bind, TypeEntry, Context}
 
 -- the type variable of an entry at a position, as its bound
 abbrev pub followed : Bind → ℕ → Shape → Shape
-followed (TypeEntry bound) position (TypeVariable (Free other)) = cond (nat_eq other position) bound (TypeVariable (Free other))
+followed (TypeEntry bound) position (TypeVariable (Free other)) =
+    if nat_eq other position then bound else TypeVariable (Free other)
 followed _ position shape = shape
 
 -- Type variables are followed to their bounds until there is none. It is done entry by entry, the newest first, since a
