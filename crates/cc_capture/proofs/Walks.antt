@@ -55,3 +55,7 @@ image-first_members-more f s i x e = ap (image f) (first_members-more s i x e) �
 
 pub flat_image-first_members-more : (f : Elem → Set) (s : Set) (i : ℕ) (x : Elem) → slice_get s.list i ≡ Some x → flat_image f (first_members (i + 1) s) ≡ union (f x) (flat_image f (first_members i s))
 flat_image-first_members-more f s i x e = ap (flat_image f) (first_members-more s i x e) ∙ flat_image-insert f x (first_members i s)
+
+-- what a function makes of the elements that were gone over, and of the next one
+pub flat_image-push : (f : Elem → Set) (xs : List Elem) (x : Elem) → flat_image f (from_list (xs ++ x ∷ [])) ≡ union (f x) (flat_image f (from_list xs))
+flat_image-push f xs x = ap (flat_image f) (from_list-push xs x) ∙ flat_image-insert f x (from_list xs)

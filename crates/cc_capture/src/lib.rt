@@ -6,8 +6,5 @@ mod rising;
 pub mod set;
 pub mod var;
 
-pub use set::CapSet;
+pub use set::{CapSet, Elems};
 pub use var::{Elem, Var, compare_elem, same_elem, same_var};
-
-#[cfg(test)]
-mod tests;

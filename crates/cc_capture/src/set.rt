@@ -1,5 +1,6 @@
 ghost use Rattle.std.specs.Prelude.{◌≡◌, length, slice_get, IfOk, OnOk, OnErr, IsTrue, ◌↔◌};
 ghost use Rattle.std.specs.Cmp.{partial_equiv_from_equiv};
+ghost use Rattle.std.specs.Iterator.{YieldsFirst, item_count};
 ghost use Rattle.cc_capture.specs.Sets as set;
 
 use crate::rising;
@@ -73,6 +74,15 @@ impl CapSet {
         rising::item_at(self.items.as_slice(), index)
     }
 
+    /// Goes over the elements in their order. It takes no memory.
+    pub fn iter(&self) -> Elems<'_>
+        ensures { result ≡ self.now.list }
+    {
+        Elems {
+            items: self.items.as_slice(),
+        }
+    }
+
     /// Puts the element into the set, unless it is there.
     ///
     /// Fails only for want of memory, and leaves the set as it was then.
@@ -103,6 +113,39 @@ impl CapSet {
         ensures { result ≡ set.is_subset self.now other.now }
     {
         rising::is_within(self.items.as_slice(), other.items.as_slice())
+    }
+}
+
+/// What a walk over a set has still to go over. Contracts see the list of these elements.
+#[derive(Drop)]
+pub struct Elems<'a> {
+    items: &'a [Elem],
+}
+
+impl<'a> Model for Elems<'a> {
+    ghost use Rattle.std.specs.Prelude.{List};
+    ghost use Rattle.std.specs.Coded.{codes};
+    ghost use Rattle.cc_capture.specs.declared.var.Elem.{Elem};
+    ghost use Rattle.cc_capture.specs.contracts.var.Elem as element;
+
+    ghost Value = { List Elem };
+
+    ghost coded = { Prim.hlevel (codes, element.the_row.coded) };
+
+    ghost view = { λ s. s.items.now };
+}
+
+impl<'a> Iterator for Elems<'a> {
+    type Item = Elem;
+
+    ghost next_gives = { YieldsFirst (λ s. s) };
+
+    ghost remaining = { item_count (λ s. s) };
+
+    fn next(&mut self) -> Option<Elem> {
+        let (first, others) = self.items.split_first()?;
+        self.items = others;
+        Some(*first)
     }
 }
 

@@ -1,23 +1,26 @@
 -- What the calls need of actions, and of walks over sets by index.
-use Rattle.std.proofs.Common.{◌≡◌, ℕ, zero, suc, ◌+◌, ◌-◌, ◌<◌, ◌≤◌, nat_eq, Bool, true, false, ◌&&◌, take, get_or, cond, Option, Some, option_map, map, Result, Ok, Err, IfOk, OnOk, List, [], ◌∷◌, length, refl, ap, sym, ◌∙◌, arith}
+use Rattle.std.proofs.Common.{◌≡◌, ℕ, zero, suc, ◌+◌, ◌-◌, ◌<◌, ◌≤◌, nat_eq, nat_lt, Bool, true, false, ◌&&◌, take, get_or, cond, Option, Some, option_map, map, Result, Ok, Err, IfOk, OnOk, List, [], ◌∷◌, ◌++◌, length, refl, ap, sym, ◌∙◌, arith}
 use Rattle.std.specs.List.{slice_get, list_all}
-use Rattle.std.proofs.lemmas.List.Folds.{list_all_at, list_all_more}
-use Rattle.std.proofs.lemmas.List.{length-map}
+use Rattle.std.proofs.lemmas.List.Folds.{list_all_at, list_all_more, list_all-append}
+use Rattle.std.proofs.lemmas.Bool.{ltb-false}
+use Rattle.std.proofs.lemmas.List.{length-map, map-id, get_or_past}
+use denote.Bor.{Bor}
 use Rattle.std.proofs.lemmas.Option.{slice_get-get_or, slice_get_within, get_or_from_slice_get}
 use Rattle.cc_capture.specs.declared.var.Var.{Var}
 use Rattle.cc_capture.specs.declared.var.Var.TheVariants.{Bound}
 use Rattle.cc_capture.specs.declared.var.Elem.{Elem}
 use Rattle.cc_capture.specs.declared.var.Elem.TheVariants.{Var as Variable, Cap, Hole}
-use Rattle.cc_capture.specs.Sets.{Set, empty, insert, union, first_members, flat_image}
+use Rattle.cc_capture.specs.Sets.{Set, empty, insert, union, from_list, first_members, flat_image}
 use Rattle.cc_capture.proofs.Unions.{union-insert, empty-union, union-empty}
 use Rattle.cc_capture.proofs.Images.{flat_image-empty}
-use Rattle.cc_capture.proofs.Walks.{first_members-none, first_members-all, flat_image-first_members-more}
+use Rattle.cc_capture.proofs.Walks.{first_members-none, first_members-all, flat_image-first_members-more, flat_image-push}
+use Rattle.cc_capture.proofs.SetLists.{from_list-is}
 use Rattle.cc_core.specs.declared.acting.Action.{Action as DeclaredAction}
 use Rattle.cc_core.specs.declared.acting.Action.TheVariants as actions
 use Rattle.cc_core.specs.Substitution.{single}
 use Rattle.cc_core.specs.Captured.{outside}
 use Rattle.cc_core.specs.Contexts.{lookup}
-use Rattle.cc_core.specs.Actions.{action_of}
+use Rattle.cc_core.specs.Actions.{action_of, filled_by}
 
 -- one element joined to a set
 pub insert-union : (e : Elem) (s : Set) → insert e s ≡ union (single e) s
@@ -27,16 +30,38 @@ pub element-variable : (a : DeclaredAction) (depth : ℕ) (v : Var) → single (
 element-variable (actions.Put by) depth v = refl
 element-variable (actions.PutShape by) depth v = refl
 element-variable (actions.Rename to) depth v = refl
+element-variable (actions.Close position) depth v = refl
+element-variable (actions.Fill sets) depth v = refl
+element-variable (actions.Read entries) depth v = refl
+element-variable (actions.Write root entries) depth v = refl
 
--- an element that is no variable stays
-pub element-other : (a : DeclaredAction) (depth : ℕ) (e : Elem) → ((v : Var) → e ≡ Variable v → ⊥) → single e ≡ (action_of a).element depth e
-element-other a depth (Variable v) none = absurd (none v refl)
-element-other (actions.Put by) depth Cap none = refl
-element-other (actions.PutShape by) depth Cap none = refl
-element-other (actions.Rename to) depth Cap none = refl
-element-other (actions.Put by) depth (Hole number) none = refl
-element-other (actions.PutShape by) depth (Hole number) none = refl
-element-other (actions.Rename to) depth (Hole number) none = refl
+-- the universal capability stays
+pub element-cap : (a : DeclaredAction) (depth : ℕ) → single Cap ≡ (action_of a).element depth Cap
+element-cap (actions.Put by) depth = refl
+element-cap (actions.PutShape by) depth = refl
+element-cap (actions.Rename to) depth = refl
+element-cap (actions.Close position) depth = refl
+element-cap (actions.Fill sets) depth = refl
+element-cap (actions.Read entries) depth = refl
+element-cap (actions.Write root entries) depth = refl
+
+-- a hole past the list of fillings stays
+pub hole-past : (sets : List Set) (hole : ℕ) → false ≡ nat_lt hole (length sets) → single (Hole hole) ≡ filled_by sets hole
+hole-past sets hole past = sym (get_or_past sets hole (single (Hole hole)) (ltb-false hole (length sets) (sym past)))
+
+-- a hole that no action fills stays
+pub element-hole : (a : DeclaredAction) (depth hole : ℕ) → ((sets : Bor (List Set)) → a ≡ actions.Fill sets → ⊥) → single (Hole hole) ≡ (action_of a).element depth (Hole hole)
+element-hole (actions.Put by) depth hole other = refl
+element-hole (actions.PutShape by) depth hole other = refl
+element-hole (actions.Rename to) depth hole other = refl
+element-hole (actions.Close position) depth hole other = refl
+element-hole (actions.Fill sets) depth hole other = absurd (other sets refl)
+element-hole (actions.Read entries) depth hole other = refl
+element-hole (actions.Write root entries) depth hole other = refl
+
+-- what becomes of a hole of a list of fillings
+pub element-filled : (a : DeclaredAction) (sets : Bor (List Set)) (depth hole : ℕ) (set : Set) → a ≡ actions.Fill sets → set ≡ filled_by sets.now hole → set ≡ (action_of a).element depth (Hole hole)
+element-filled a sets depth hole set is e = e ∙ ap (λ x. (action_of x).element depth (Hole hole)) (sym is)
 
 -- an insertion that joins what an element becomes
 pub joined : {T E : Type 0} (r : Result T E) (e : Elem) (new old set : Set) → single e ≡ set → OnOk r (new ≡ insert e old) → OnOk r (new ≡ union set old)
@@ -53,6 +78,22 @@ walk-more f s i x old new found was is = is ∙ ap (union (f x)) was ∙ sym (fl
 
 pub walk-end : (f : Elem → Set) (s : Set) (i : ℕ) (all : Set) → length s.list ≤ i → all ≡ flat_image f (first_members i s) → all ≡ flat_image f s
 walk-end f s i all past is = is ∙ ap (flat_image f) (first_members-all s i past)
+
+from_list-none : from_list [] ≡ empty
+unfolding from_list
+from_list-none = refl
+
+-- a walk over the elements begins with none
+pub going-begin : (f : Elem → Set) → empty ≡ flat_image f (from_list [])
+going-begin f = sym (flat_image-empty f) ∙ ap (flat_image f) (sym from_list-none)
+
+-- the walk goes on to one element more
+pub going-more : (f : Elem → Set) (xs : List Elem) (x : Elem) (old new : Set) → old ≡ flat_image f (from_list xs) → new ≡ union (f x) old → new ≡ flat_image f (from_list (xs ++ x ∷ []))
+going-more f xs x old new was is = is ∙ ap (union (f x)) was ∙ sym (flat_image-push f xs x)
+
+-- at the end it went over the set
+pub going-end : (f : Elem → Set) (s : Set) (xs : List Elem) (all : Set) → map (λ x. x) xs ≡ s.list → all ≡ flat_image f (from_list xs) → all ≡ flat_image f s
+going-end f s xs all e is = is ∙ ap (flat_image f) (from_list-is xs s (sym (map-id xs) ∙ e))
 
 -- within a list there is an element
 pub present : {T : Type 0} (xs : List T) (i : ℕ) → i < length xs → ((x : T) → slice_get xs i ≡ Some x → ⊥) → ⊥
@@ -90,6 +131,18 @@ union-nothing (Err x) s e = e
 pub all-fails : {T : Type 0} (test : T → Bool) (xs : List T) (i : ℕ) (x : T) → slice_get xs i ≡ Some x → test x ≡ false → false ≡ list_all test xs
 all-fails test xs i x found fails =
     sym (list_all_at test xs i x (slice_get_within xs i x found) (ap test (get_or_from_slice_get xs i x x found) ∙ fails))
+
+-- an element of a list that fails a test
+pub all-fails-at : {T : Type 0} (test : T → Bool) (xs : List T) (i : ℕ) (x : T) → (i < length xs) × (x ≡ get_or xs i x) → test x ≡ false → false ≡ list_all test xs
+all-fails-at test xs i x at fails = sym (list_all_at test xs i x at.0 (ap test (sym at.1) ∙ fails))
+
+-- one element more that passes a test, at the end
+pub all-push : {T : Type 0} (test : T → Bool) (xs : List T) (x : T) → list_all test xs ≡ true → test x ≡ true → list_all test (xs ++ x ∷ []) ≡ true
+all-push test xs x before passes = list_all-append test xs (x ∷ []) ∙ ap (λ b. b && (test x && true)) before ∙ ap (λ b. b && true) passes
+
+-- at the end the test holds of all
+pub all-gone : {T : Type 0} (test : T → Bool) (xs all : List T) → map (λ x. x) xs ≡ all → list_all test xs ≡ true → true ≡ list_all test all
+all-gone test xs all e holds = sym (ap (list_all test) (sym (sym (map-id xs) ∙ e)) ∙ holds)
 
 -- one element more that passes a test
 pub all-more : {T : Type 0} (test : T → Bool) (xs : List T) (i : ℕ) (x : T) → slice_get xs i ≡ Some x → list_all test (take i xs) ≡ true → test x ≡ true → list_all test (take (i + 1) xs) ≡ true

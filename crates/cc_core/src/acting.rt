@@ -1,13 +1,15 @@
-//! One way through shapes and terms: opening, substitution and renaming are its instances. Each call fails only for want of
-//! memory, as which more than 2^32 - 1 binders above one place count.
+//! One way through shapes and terms: opening, closing, substitution, renaming, filling, reading and writing are its instances.
+//! Each call fails only for want of memory, as which an index or binders above one place beyond 2^32 - 1 count.
 
 ghost use Rattle.std.specs.Prelude.{◌≡◌, ◌+◌, IfOk, OnOk, option_map};
+ghost use Rattle.cc_capture.specs.declared.var.Elem.TheVariants.{Hole};
 ghost use Rattle.cc_capture.specs.Sets.{union};
 ghost use Rattle.cc_core.specs.Traversal as plain;
-ghost use Rattle.cc_core.specs.Substitution.{put_variable, renamed_variable};
+ghost use Rattle.cc_core.specs.Substitution.{put_variable, renamed_variable, closed_variable};
+ghost use Rattle.cc_core.specs.Reading.{read_variable, written_variable};
 ghost use Rattle.cc_core.specs.Actions.{action_of, renamed_by};
 ghost use Rattle.cc_core.specs.Views.{shape_of, type_of, note_of, form_of, term_of};
-ghost use Rattle.cc_core.specs.Places.{form_places, places_of};
+ghost use Rattle.cc_core.specs.Places.{Spots, places_around, places_of};
 
 use crate::copies::copy_literal;
 use crate::terms::{Form, Node, Note};
@@ -16,7 +18,7 @@ use cc_capture::{CapSet, Elem, Var};
 use std::alloc::{AllocError, Global};
 use std::rc::Rc;
 
-/// What is done to the variables of shapes and terms.
+/// What is done to the variables and the holes of shapes and terms.
 #[derive(Drop)]
 pub enum Action<'a> {
     /// The index that counts the binders above becomes the variable.
@@ -25,6 +27,16 @@ pub enum Action<'a> {
     PutShape(&'a Rc<Shape>),
     /// A free position becomes the one that the list has for it. A position past the list stays.
     Rename(&'a [u32]),
+    /// The free position becomes the index that counts the binders above.
+    Close(u32),
+    /// A hole becomes the set that the list has for it. A hole past the list stays.
+    Fill(&'a [CapSet]),
+    /// An index that counts more than the binders above becomes the position of the entry that many from the newest, where
+    /// there are so many entries.
+    Read(u32),
+    /// A position from the first number on becomes the index of its binder, where there are as many entries as the second
+    /// says.
+    Write(u32, u32),
 }
 
 fn put_variable(by: Var, depth: u32, variable: Var) -> Var
@@ -48,34 +60,117 @@ fn rename_variable(to: &[u32], variable: Var) -> Var
     }
 }
 
-fn act_variable(action: &Action, depth: u32, variable: Var) -> Var
-    ensures { result ≡ (action_of action.now).variable depth variable }
+fn close_variable(at: u32, depth: u32, variable: Var) -> Var
+    ensures { result ≡ closed_variable at depth variable }
+{
+    match variable {
+        Var::Bound(_) => variable,
+        Var::Free(position) => {
+            if position == at {
+                Var::Bound(depth)
+            } else {
+                variable
+            }
+        }
+    }
+}
+
+/// The variable of a part that stands under so many binders, where the context has so many entries: an index that counts a
+/// binder outside of the part becomes the position of its entry.
+pub fn read_variable(entries: u32, depth: u32, variable: Var) -> Var
+    ensures { result ≡ read_variable entries depth variable }
+{
+    match variable {
+        Var::Bound(index) => {
+            if depth <= index && index - depth < entries {
+                Var::Free(entries - 1 - (index - depth))
+            } else {
+                variable
+            }
+        }
+        Var::Free(_) => variable,
+    }
+}
+
+/// The other way: a position from the root on becomes the index of its binder. Fails where that index is beyond 2^32 - 1.
+pub fn write_variable(root: u32, entries: u32, depth: u32, variable: Var) -> Result<Var, AllocError>
+    ensures { IfOk result (λ v. v ≡ written_variable root entries depth variable) }
+{
+    match variable {
+        Var::Bound(_) => Ok(variable),
+        Var::Free(position) => {
+            if root <= position && position < entries {
+                let index = depth.checked_add(entries - 1 - position).ok_or(AllocError)?;
+                Ok(Var::Bound(index))
+            } else {
+                Ok(variable)
+            }
+        }
+    }
+}
+
+fn act_variable(action: &Action, depth: u32, variable: Var) -> Result<Var, AllocError>
+    ensures { IfOk result (λ v. v ≡ (action_of action.now).variable depth variable) }
 {
     match action {
-        Action::Put(by) => put_variable(*by, depth, variable),
-        Action::PutShape(_) => variable,
-        Action::Rename(to) => rename_variable(to, variable),
+        Action::Put(by) => Ok(put_variable(*by, depth, variable)),
+        Action::PutShape(_) => Ok(variable),
+        Action::Rename(to) => Ok(rename_variable(to, variable)),
+        Action::Close(position) => Ok(close_variable(*position, depth, variable)),
+        Action::Fill(_) => Ok(variable),
+        Action::Read(entries) => Ok(read_variable(*entries, depth, variable)),
+        Action::Write(root, entries) => write_variable(*root, *entries, depth, variable),
     }
+}
+
+// Puts what becomes of a hole into the set.
+fn add_filled(
+    alloc: Global,
+    action: &Action,
+    depth: u32,
+    hole: u32,
+    acted: &mut CapSet,
+) -> Result<(), AllocError>
+    ensures { OnOk result (acted.new ≡ union ((action_of action.now).element depth (Hole hole)) acted.old) }
+{
+    if let Action::Fill(sets) = action {
+        if let Some(filling) = sets.get(hole as usize) {
+            *acted = filling.union(alloc, acted)?;
+            return Ok(());
+        }
+    }
+    acted.insert(Elem::Hole(hole))
 }
 
 // Puts what becomes of the element into the set.
-fn add_acted(action: &Action, depth: u32, elem: Elem, acted: &mut CapSet) -> Result<(), AllocError>
+fn add_acted(
+    alloc: Global,
+    action: &Action,
+    depth: u32,
+    elem: Elem,
+    acted: &mut CapSet,
+) -> Result<(), AllocError>
     ensures { OnOk result (acted.new ≡ union ((action_of action.now).element depth elem) acted.old) }
 {
     match elem {
-        Elem::Var(variable) => acted.insert(Elem::Var(act_variable(action, depth, variable))),
-        _ => acted.insert(elem),
+        Elem::Var(variable) => acted.insert(Elem::Var(act_variable(action, depth, variable)?)),
+        Elem::Cap => acted.insert(elem),
+        Elem::Hole(hole) => add_filled(alloc, action, depth, hole, acted),
     }
 }
 
-fn act_set(alloc: Global, action: &Action, depth: u32, set: &CapSet) -> Result<CapSet, AllocError>
+/// The set of what becomes of the elements, where it stands under so many binders.
+pub fn act_set(
+    alloc: Global,
+    action: &Action,
+    depth: u32,
+    set: &CapSet,
+) -> Result<CapSet, AllocError>
     ensures { IfOk result (λ s. s ≡ plain.act_set (action_of action.now) depth set.now) }
 {
     let mut acted = CapSet::new(alloc);
-    for index in 0..set.len() {
-        if let Some(elem) = set.get(index) {
-            add_acted(action, depth, elem, &mut acted)?;
-        }
+    for elem in set.iter() {
+        add_acted(alloc, action, depth, elem, &mut acted)?;
     }
     Ok(acted)
 }
@@ -103,8 +198,8 @@ fn act_type_variable(
             }
         }
     }
-    let acted = Rc::new(alloc, Shape::TVar(act_variable(action, depth, variable)))?;
-    Ok(acted)
+    let variable = act_variable(action, depth, variable)?;
+    Ok(Rc::new(alloc, Shape::TVar(variable))?)
 }
 
 /// The shape in which the action was taken everywhere, where it stands under so many binders.
@@ -189,12 +284,16 @@ fn act_optional_set(
     }
 }
 
-fn act_optional_variable(action: &Action, depth: u32, variable: Option<Var>) -> Option<Var>
-    ensures { result ≡ option_map ((action_of action.now).variable depth) variable }
+fn act_optional_variable(
+    action: &Action,
+    depth: u32,
+    variable: Option<Var>,
+) -> Result<Option<Var>, AllocError>
+    ensures { IfOk result (λ v. v ≡ option_map ((action_of action.now).variable depth) variable) }
 {
     match variable {
-        Some(variable) => Some(act_variable(action, depth, variable)),
-        None => None,
+        Some(variable) => Ok(Some(act_variable(action, depth, variable)?)),
+        None => Ok(None),
     }
 }
 
@@ -230,7 +329,7 @@ pub fn act_node(
 #[cycle(act_terms)]
 fn act_form(alloc: Global, action: &Action, depth: u32, form: &Form) -> Result<Form, AllocError>
     ensures term { IfOk result (λ f. form_of f ≡ plain.act_term (action_of action.now) depth (form_of form.now)) }
-    ensures places { IfOk result (λ f. form_places f ≡ form_places form.now) }
+    ensures places { IfOk result (λ f. (own : Spots) → places_around own f ≡ places_around own form.now) }
 {
     match form {
         Form::Fun(takes, body) => {
@@ -253,7 +352,7 @@ fn act_form(alloc: Global, action: &Action, depth: u32, form: &Form) -> Result<F
             let note = act_note(alloc, action, depth, note)?;
             let positive = act_node(alloc, action, depth, positive)?;
             let negative = act_node(alloc, action, depth, negative)?;
-            let test = act_variable(action, depth, *test);
+            let test = act_variable(action, depth, *test)?;
             Ok(Form::If(note, test, positive, negative))
         }
         Form::Boundary(gives, body) => {
@@ -261,38 +360,38 @@ fn act_form(alloc: Global, action: &Action, depth: u32, form: &Form) -> Result<F
             let body = act_node(alloc, action, under(depth)?, body)?;
             Ok(Form::Boundary(gives, body))
         }
-        Form::Var(variable) => Ok(Form::Var(act_variable(action, depth, *variable))),
+        Form::Var(variable) => Ok(Form::Var(act_variable(action, depth, *variable)?)),
         Form::Lit(literal) => Ok(Form::Lit(copy_literal(literal)?)),
-        Form::Boxed(content) => Ok(Form::Boxed(act_variable(action, depth, *content))),
+        Form::Boxed(content) => Ok(Form::Boxed(act_variable(action, depth, *content)?)),
         Form::App(function, argument) => {
-            let function = act_variable(action, depth, *function);
-            Ok(Form::App(function, act_variable(action, depth, *argument)))
+            let function = act_variable(action, depth, *function)?;
+            Ok(Form::App(function, act_variable(action, depth, *argument)?))
         }
         Form::TApp(function, argument) => {
-            let function = act_variable(action, depth, *function);
+            let function = act_variable(action, depth, *function)?;
             Ok(Form::TApp(function, act_shape(alloc, action, depth, argument)?))
         }
         Form::Unbox(set, content) => {
             let set = act_optional_set(alloc, action, depth, set)?;
-            Ok(Form::Unbox(set, act_variable(action, depth, *content)))
+            Ok(Form::Unbox(set, act_variable(action, depth, *content)?))
         }
         Form::Prim(operator, left, right) => {
-            let left = act_variable(action, depth, *left);
-            Ok(Form::Prim(*operator, left, act_variable(action, depth, *right)))
+            let left = act_variable(action, depth, *left)?;
+            Ok(Form::Prim(*operator, left, act_variable(action, depth, *right)?))
         }
         Form::Repeat(count, function) => {
-            let count = act_variable(action, depth, *count);
-            Ok(Form::Repeat(count, act_variable(action, depth, *function)))
+            let count = act_variable(action, depth, *count)?;
+            Ok(Form::Repeat(count, act_variable(action, depth, *function)?))
         }
         Form::Operate(operation, receiver, argument) => {
-            let receiver = act_variable(action, depth, *receiver);
-            let argument = act_optional_variable(action, depth, *argument);
+            let receiver = act_variable(action, depth, *receiver)?;
+            let argument = act_optional_variable(action, depth, *argument)?;
             Ok(Form::Operate(*operation, receiver, argument))
         }
         Form::Leave(gives, exit, value) => {
             let gives = act_shared_type(alloc, action, depth, gives)?;
-            let exit = act_variable(action, depth, *exit);
-            Ok(Form::Leave(gives, exit, act_variable(action, depth, *value)))
+            let exit = act_variable(action, depth, *exit)?;
+            Ok(Form::Leave(gives, exit, act_variable(action, depth, *value)?))
         }
     }
 }

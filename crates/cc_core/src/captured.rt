@@ -157,10 +157,8 @@ fn without_binder(alloc: Global, set: &CapSet) -> Result<CapSet, AllocError>
     ensures { IfOk result (λ s. s ≡ plain.without_binder set.now) }
 {
     let mut outer = CapSet::new(alloc);
-    for index in 0..set.len() {
-        if let Some(elem) = set.get(index) {
-            add_outside(elem, &mut outer)?;
-        }
+    for elem in set.iter() {
+        add_outside(elem, &mut outer)?;
     }
     Ok(outer)
 }

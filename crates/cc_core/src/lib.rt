@@ -20,6 +20,3 @@ pub use cc_capture::{CapSet, Elem, Var};
 pub use context::{Bind, Ctx};
 pub use terms::{Checked, CoreDef, Form, Node, Note};
 pub use types::{Shape, Ty};
-
-#[cfg(test)]
-mod tests;

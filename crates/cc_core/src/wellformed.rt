@@ -137,11 +137,9 @@ fn is_well_formed_elem(ctx: &Ctx, passed: &Passed, elem: Elem) -> bool
 fn is_well_formed_set(ctx: &Ctx, passed: &Passed, set: &CapSet) -> bool
     ensures { result ≡ plain.is_well_formed_set (kinds_of (context_of ctx.now)) (passed_kinds passed.now) set.now }
 {
-    for index in 0..set.len() {
-        if let Some(elem) = set.get(index) {
-            if !is_well_formed_elem(ctx, passed, elem) {
-                return false;
-            }
+    for elem in set.iter() {
+        if !is_well_formed_elem(ctx, passed, elem) {
+            return false;
         }
     }
     true

@@ -1,18 +1,16 @@
-use Rattle.std.proofs.Common.{◌<◌, length, ◌∙◌, sym, arith}
-use Rattle.cc_core.proofs.CallLemmas.{walk-begin, walk-more, walk-end, present}
+use Rattle.std.proofs.Common.{◌∙◌}
+use Rattle.std.proofs.lemmas.Iterator.Consumers.{YieldsList-from_first, YieldsList-end}
+use Rattle.cc_core.specs.Captured.{outside}
+use Rattle.cc_core.proofs.CallLemmas.{going-begin, going-more, going-end}
 use Rattle.cc_core.proofs.captured.without_binder.Goals as goal
-use Rattle.cc_core.proofs.captured.without_binder.Goals.{in-Some+in_ok-add_outside, in_default}
 
-pub loop-index-init : goal.loop-index-init
-loop-index-init c = c.new-outer.ensures ∙ walk-begin _ c.args.set.now
+pub loop-elem-init : goal.loop-elem-init
+loop-elem-init c = c.new-outer.ensures ∙ going-begin outside
 
-pub loop-index-preserved : goal.loop-index-preserved
-loop-index-preserved c =
-    let within : c.loop-index.index < length c.args.set.now.list = omega arith in
-    elim c.match-get.branch [
-      | in-Some+in_ok-add_outside w ↦ walk-more _ c.args.set.now c.loop-index.index w.in-Some.elem c.loop-index.outer c.match-get.outer (sym c.get.ensures ∙ w.in-Some.is) c.loop-index.invariant (w.outer-is ∙ w.in_ok-add_outside.ensures)
-      | in_default w ↦ absurd (present c.args.set.now.list c.loop-index.index within (λ x e. w.in_default.not-Some x (c.get.ensures ∙ e)))
-    ]
+pub loop-elem-preserved : goal.loop-elem-preserved
+loop-elem-preserved c = going-more _ c.loop-elem.yielded c.in-Some.elem c.loop-elem.outer c.add_outside.new.outer c.loop-elem.invariant c.in_ok-add_outside.ensures
 
 pub returns : goal.returns
-returns c = walk-end _ c.args.set.now c.loop-index.index c.loop-index.outer (omega arith) c.loop-index.invariant
+returns c =
+    let seen = YieldsList-end (YieldsList-from_first (λ x. x) (λ s. s) c.args.set.now.list (c.into_iter-elem-iterator.ensures.into_iter_gives ∙ c.iter-elem-items.ensures)) c.loop-elem.yielded _ c.loop-elem.yielded_by _ _ c.in-None.is c.next.ensures.steps in
+    going-end _ c.args.set.now c.loop-elem.yielded c.loop-elem.outer seen.0 c.loop-elem.invariant

@@ -1,4 +1,4 @@
-use super::*;
+use cc_capture::{CapSet, Elem, Var, same_elem};
 use std::alloc::AllocError;
 
 const FREE_ONE: Elem = Elem::Var(Var::Free(1));

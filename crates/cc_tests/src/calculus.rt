@@ -1,12 +1,12 @@
-use super::*;
-use crate::captured::cv;
-use crate::same::{same_shape, same_type};
-use crate::sizes::{size, subst_size};
-use crate::substitution::{
+use cc_base::place::Place;
+use cc_core::captured::cv;
+use cc_core::same::{same_shape, same_type};
+use cc_core::sizes::{size, subst_size};
+use cc_core::substitution::{
     instantiate, instantiate_term, rename, subst_term, subst_type, subst_var,
 };
-use crate::wellformed::{wf, wf_term};
-use cc_base::place::Place;
+use cc_core::wellformed::{wf, wf_term};
+use cc_core::{Base, Bind, CapSet, Ctx, Elem, Form, Lit, Node, Note, Shape, Ty, Var};
 use std::alloc::{AllocError, Global};
 use std::rc::Rc;
 

@@ -1,0 +1,7 @@
+//! Tests of the crates below. They stand in a crate of their own, so that the crates that are dear to prove are proved once.
+#![tactic(auto)]
+
+#[cfg(test)]
+mod calculus;
+#[cfg(test)]
+mod capture_sets;
