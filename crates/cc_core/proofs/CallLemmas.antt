@@ -1,7 +1,7 @@
 -- What the calls need of actions, and of walks over sets by index.
-use Rattle.std.proofs.Common.{◌≡◌, ℕ, zero, suc, ◌+◌, ◌-◌, ◌<◌, ◌≤◌, nat_eq, nat_lt, Bool, true, false, ◌&&◌, take, get_or, cond, Option, Some, option_map, map, Result, Ok, Err, IfOk, OnOk, List, [], ◌∷◌, ◌++◌, length, refl, ap, sym, ◌∙◌, arith}
-use Rattle.std.specs.List.{slice_get, list_all}
-use Rattle.std.proofs.lemmas.List.Folds.{list_all_at, list_all_more, list_all-append}
+use Rattle.std.proofs.Common.{◌≡◌, ℕ, zero, suc, ◌+◌, ◌-◌, ◌<◌, ◌≤◌, nat_eq, nat_lt, Bool, true, false, ◌&&◌, ◌||◌, take, get_or, cond, Option, Some, option_map, map, Result, Ok, Err, IfOk, OnOk, List, [], ◌∷◌, ◌++◌, length, refl, ap, sym, ◌∙◌, arith}
+use Rattle.std.specs.List.{slice_get, list_all, list_any}
+use Rattle.std.proofs.lemmas.List.Folds.{list_all_at, list_all_more, list_all-append, list_any_at, list_any-append}
 use Rattle.std.proofs.lemmas.Bool.{ltb-false}
 use Rattle.std.proofs.lemmas.List.{length-map, map-id, get_or_past}
 use denote.Bor.{Bor}
@@ -151,3 +151,15 @@ all-more test xs i x found before passes =
     ∙ ap (λ b. b && test (get_or xs i x)) before
     ∙ ap test (get_or_from_slice_get xs i x x found)
     ∙ passes
+
+-- an element of a list that passes a test
+pub any-at : {T : Type 0} (test : T → Bool) (xs : List T) (i : ℕ) (x : T) → (i < length xs) × (x ≡ get_or xs i x) → test x ≡ true → true ≡ list_any test xs
+any-at test xs i x at passes = sym (list_any_at test xs i x at.0 (ap test (sym at.1) ∙ passes))
+
+-- one element more that fails a test, at the end
+pub any-push : {T : Type 0} (test : T → Bool) (xs : List T) (x : T) → list_any test xs ≡ false → test x ≡ false → list_any test (xs ++ x ∷ []) ≡ false
+any-push test xs x before fails = list_any-append test xs (x ∷ []) ∙ ap (λ b. b || (test x || false)) before ∙ ap (λ b. b || false) fails
+
+-- at the end the test fails at all
+pub any-gone : {T : Type 0} (test : T → Bool) (xs all : List T) → map (λ x. x) xs ≡ all → list_any test xs ≡ false → false ≡ list_any test all
+any-gone test xs all e fails = sym (ap (list_any test) (sym (sym (map-id xs) ∙ e)) ∙ fails)

@@ -17,6 +17,7 @@ pub mod Levels
 pub mod Lookups
 pub mod Moving
 pub mod NodeCounts
+pub mod OccurrenceTests
 pub mod Opening
 pub mod Renaming
 pub mod ShapeSizes

@@ -1,5 +1,5 @@
 -- What holds of each variable and each element that occurs in a shape or a term.
-use Rattle.std.specs.Prelude.{◌≡◌, ◌≢◌, ℕ, suc, ◌+◌, ◌<◌, Option, Some, None}
+use Rattle.std.specs.Prelude.{◌≡◌, ◌≢◌, ℕ, zero, suc, ◌+◌, ◌<◌, Option, Some, None}
 use Rattle.cc_capture.specs.declared.var.Var.{Var}
 use Rattle.cc_capture.specs.declared.var.Var.TheVariants.{Bound, Free}
 use Rattle.cc_capture.specs.declared.var.Elem.{Elem}
@@ -96,6 +96,36 @@ on_variables asked = record { element = λ depth e. IsAskedOf (asked depth) e; s
 -- the position does not occur
 abbrev pub without : ℕ → Condition
 without position = on_variables (λ depth variable. variable ≢ Free position)
+
+-- an element is no hole
+abbrev pub IsNoHole : Elem → Type 0
+IsNoHole (Variable variable) = Unit {0}
+IsNoHole Cap = Unit {0}
+IsNoHole (Hole number) = ⊥
+
+-- no element is a hole
+abbrev pub without_holes : Condition
+without_holes = record {
+  element = λ depth e. IsNoHole e;
+  shape = λ depth variable. Unit {0};
+  variable = λ depth variable. Unit {0};
+}
+
+-- no hole is a member of the set
+abbrev pub HasNoHoleInSet : Set → Type 0
+HasNoHoleInSet = MeetsInSet without_holes zero
+
+-- no set in the shape has a hole
+abbrev pub HasNoHole : Shape → Type 0
+HasNoHole = Meets without_holes zero
+
+-- the same of a type
+abbrev pub HasNoHoleInType : CapturingType → Type 0
+HasNoHoleInType = MeetsInType without_holes zero
+
+-- the same of a term
+abbrev pub HasNoHoleInTerm : Term → Type 0
+HasNoHoleInTerm = MeetsInTerm without_holes zero
 
 -- an index is below the count of binders
 abbrev pub HasBinder : ℕ → Var → Type 0

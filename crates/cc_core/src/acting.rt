@@ -260,7 +260,8 @@ pub fn act_type(alloc: Global, action: &Action, depth: u32, ty: &Ty) -> Result<T
     Ok(Ty { shape, set })
 }
 
-fn act_note(alloc: Global, action: &Action, depth: u32, note: &Note) -> Result<Note, AllocError>
+/// What is written for a type, in which the action was taken everywhere, where it stands under so many binders.
+pub fn act_note(alloc: Global, action: &Action, depth: u32, note: &Note) -> Result<Note, AllocError>
     ensures { IfOk result (λ n. note_of n ≡ plain.act_note (action_of action.now) depth (note_of note.now)) }
 {
     match note {

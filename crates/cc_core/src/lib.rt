@@ -7,6 +7,8 @@ pub mod context;
 mod copies;
 pub mod derivation_laws;
 pub mod laws;
+pub mod occurrences;
+pub mod reading;
 pub mod same;
 pub mod sizes;
 pub mod subcapturing_laws;
