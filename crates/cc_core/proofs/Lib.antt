@@ -19,8 +19,10 @@ pub mod Moving
 pub mod NodeCounts
 pub mod OccurrenceTests
 pub mod Opening
+pub mod ReadingAndWriting
 pub mod Renaming
 pub mod ShapeSizes
+pub mod Shifting
 pub mod SizeLemmas
 pub mod SubcapturingContexts
 pub mod SubcapturingLemmas

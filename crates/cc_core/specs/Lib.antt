@@ -14,6 +14,7 @@ pub mod Occurrences
 pub mod Places
 pub mod Questions
 pub mod Reading
+pub mod ReadingLaws
 pub mod Shapes
 pub mod Sizes
 pub mod Stores

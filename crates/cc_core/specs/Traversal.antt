@@ -86,3 +86,11 @@ composed later earlier = record {
   shape = λ depth variable. act later depth (earlier.shape depth variable);
   variable = λ depth variable. later.variable depth (earlier.variable depth variable);
 }
+
+-- the action as it acts on what stands under one binder more
+abbrev pub shifted : Action → Action
+shifted action = record {
+  element = λ depth e. action.element (suc depth) e;
+  shape = λ depth variable. action.shape (suc depth) variable;
+  variable = λ depth variable. action.variable (suc depth) variable;
+}

@@ -1,5 +1,6 @@
 //! The laws of types, terms and contexts, which hold of the values that contracts see. The functions do nothing.
 ghost use Rattle.cc_core.specs.Laws as law;
+ghost use Rattle.cc_core.specs.ReadingLaws as reading;
 
 /// How actions behave that are taken everywhere in a type or a term.
 pub fn traversal()
@@ -55,6 +56,20 @@ pub fn renaming_and_filling()
     ensures filled_openings_terms { law.FillingCommutesWithOpeningTerms }
     ensures filled_shapes_types { law.FillingCommutesWithPuttingShapesInTypes }
     ensures filled_shapes_terms { law.FillingCommutesWithPuttingShapesInTerms }
+{}
+
+/// How reading and writing behave.
+pub fn reading_and_writing()
+    ensures shifted_types { reading.ShiftedActionsActDeeperOnTypes }
+    ensures shifted_terms { reading.ShiftedActionsActDeeperOnTerms }
+    ensures opened_types { reading.OpeningAReadBodyReadsItsEntryInTypes }
+    ensures opened_terms { reading.OpeningAReadBodyReadsItsEntryInTerms }
+    ensures still_types { reading.ReadingLeavesTypesWithoutOpenIndex }
+    ensures still_terms { reading.ReadingLeavesTermsWithoutOpenIndex }
+    ensures written_types { reading.ReadingUndoesWritingOfTypes }
+    ensures written_terms { reading.ReadingUndoesWritingOfTerms }
+    ensures read_types { reading.WritingUndoesReadingOfTypes }
+    ensures read_terms { reading.WritingUndoesReadingOfTerms }
 {}
 
 /// What keeps types and terms well formed, and what well-formedness gives.
