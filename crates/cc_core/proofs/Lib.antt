@@ -10,6 +10,7 @@ pub mod DerivationComparisons
 pub mod DerivationTypings
 pub mod FreeActions
 pub mod FreshOpenings
+pub mod IndexedLookups
 pub mod KindFacts
 pub mod KindRespecting
 pub mod KindedActions
