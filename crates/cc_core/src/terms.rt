@@ -55,12 +55,36 @@ pub enum Form {
 
 /// A term with the places of its start and of its operands.
 #[cycle(terms)]
-#[derive(Drop)]
 pub struct Node {
     pub form: Form,
     pub at: Place,
     pub first: Place,
     pub second: Place,
+}
+
+// A long chain of bodies is dropped by a loop.
+impl Drop for Node {
+    fn drop(mut self) {
+        loop {
+            let Node {
+                form,
+                at: _,
+                first: _,
+                second: _,
+            } = self;
+            match form {
+                Form::Let(note, right, body) => {
+                    drop(note);
+                    drop(right);
+                    match Rc::into_inner(body) {
+                        Some(inner) => self = inner,
+                        None => return,
+                    }
+                }
+                _ => return,
+            }
+        }
+    }
 }
 
 /// A definition: its name, the type written for it, and its right side.
