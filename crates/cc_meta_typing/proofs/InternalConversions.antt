@@ -23,7 +23,7 @@ use Rattle.cc_meta_typing.proofs.InternalTyping.{HasVariable, TypedExactly, exac
 use Rattle.cc_meta_typing.proofs.TypingMaps.{typed_is, typed_kinded, typed_kinded_set, typed_wider, typed_exactly}
 use Rattle.cc_meta_typing.proofs.TypingLemmas.{variable_typed}
 
-formed_type_parts : (g : Context) (s : Shape) (c : Set) → IsWellFormedType g (capturing s c) → IsKinded (kinds_of g) [] s × IsKindedSet (kinds_of g) [] c
+pub formed_type_parts : (g : Context) (s : Shape) (c : Set) → IsWellFormedType g (capturing s c) → IsKinded (kinds_of g) [] s × IsKindedSet (kinds_of g) [] c
 formed_type_parts g s c h =
     let parts = and_parts (is_well_formed_shape (kinds_of g) [] s) (is_well_formed_set (kinds_of g) [] c) h in
     (IsKinded-from (kinds_of g) [] s parts.0, IsKindedSet-from (kinds_of g) [] c parts.1)
@@ -32,7 +32,7 @@ pub formed_type_from : (g : Context) (s : Shape) (c : Set) → IsKinded (kinds_o
 formed_type_from g s c ks kc = and_from (is_well_formed_shape (kinds_of g) [] s) (is_well_formed_set (kinds_of g) [] c) (IsKinded-test (kinds_of g) [] s ks) (IsKindedSet-test (kinds_of g) [] c kc)
 
 -- what is well formed in a context has its positions below the next one, and none open
-below_is_other : (n d : ℕ) (v : Var) → IsPositionBelow n v → v ≢ Free n
+pub below_is_other : (n d : ℕ) (v : Var) → IsPositionBelow n v → v ≢ Free n
 below_is_other n d (Free p) h e = let same : p ≡ n = cc in omega arith
 below_is_other n d (Bound i) h e = cc
 
@@ -46,10 +46,10 @@ fresh_in_set g beyond c k =
     MeetsInSet-here (positions_below (length g)) (without (length g)) (gives_here _ _ (λ d v h. below_is_other (length g) d v h)) 0 c
     (IsKindedSet-meets (kinds_of g) beyond (positions_below (length g)) (kinds_below (length g) (kinds_of g) beyond (length-kinds_of g)) [] c k)
 
-closed_in : (g : Context) (s : Shape) → IsKinded (kinds_of g) [] s → Meets (bound_within 0) 0 s
+pub closed_in : (g : Context) (s : Shape) → IsKinded (kinds_of g) [] s → Meets (bound_within 0) 0 s
 closed_in g s k = IsKinded-meets (kinds_of g) [] (bound_within 0) (kinds_bound (kinds_of g)) [] s k
 
-closed_in_set : (g : Context) (c : Set) → IsKindedSet (kinds_of g) [] c → MeetsInSet (bound_within 0) 0 c
+pub closed_in_set : (g : Context) (c : Set) → IsKindedSet (kinds_of g) [] c → MeetsInSet (bound_within 0) 0 c
 closed_in_set g c k = IsKindedSet-meets (kinds_of g) [] (bound_within 0) (kinds_bound (kinds_of g)) [] c k
 
 -- each typed term is typed by its form
@@ -101,12 +101,12 @@ internal_from (t-sub {context = g} {shape' = s'} {c' = c'} typing captures below
     typed_wider (internal_from typing formed k) captures (direct_from below) parts.0 parts.1
 
 -- and the other way round
-has_typing_variable : {g : Context} {v : Var} {s : Shape} {c : Set} → HasVariable g v s c → HasTyping g (VariableTerm v) s c
+pub has_typing_variable : {g : Context} {v : Var} {s : Shape} {c : Set} → HasVariable g v s c → HasTyping g (VariableTerm v) s c
 has_typing_variable {g = g} {s = s} {c = c} has =
     subst (λ w. HasTyping g (VariableTerm w) s c) (sym has.is)
     (t-sub (t-var has.there) (λ x h. subst (λ y. Subcaptures g y c) (sym (Member-single x (Variable (Free has.position)) h)) has.captured) (direct_to has.below) (formed_type_from g s c has.kinded has.kinded_set))
 
-typing_is : {g : Context} {t : Term} {s s' : Shape} {c c' : Set} → s ≡ s' → c ≡ c' → HasTyping g t s c → HasTyping g t s' c'
+pub typing_is : {g : Context} {t : Term} {s s' : Shape} {c c' : Set} → s ≡ s' → c ≡ c' → HasTyping g t s c → HasTyping g t s' c'
 typing_is {g = g} {t = t} {s' = s'} {c = c} es ec h = subst (HasTyping g t s') ec (subst (λ x. HasTyping g t x c) es h)
 
 mutual

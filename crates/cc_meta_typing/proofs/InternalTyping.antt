@@ -94,13 +94,13 @@ mutual
         → Typed g t s' c'
 
 -- what is well formed captures what is well formed
-kinded_empty : (kinds passed : List Kind) → IsKindedSet kinds passed empty
+pub kinded_empty : (kinds passed : List Kind) → IsKindedSet kinds passed empty
 kinded_empty kinds passed x h = absurd (Member-empty x h)
 
-kinded_union : (kinds passed : List Kind) (a b : Set) → IsKindedSet kinds passed a → IsKindedSet kinds passed b → IsKindedSet kinds passed (union a b)
+pub kinded_union : (kinds passed : List Kind) (a b : Set) → IsKindedSet kinds passed a → IsKindedSet kinds passed b → IsKindedSet kinds passed (union a b)
 kinded_union kinds passed a b ka kb x h = elim ((Member-union x a b).0 h) as (λ _. IsKindedElement kinds passed x) [ inl m ↦ ka x m | inr m ↦ kb x m ]
 
-kinded_outside : (kinds passed : List Kind) (k : Kind) (x : Elem) → IsKindedElement kinds (k ∷ passed) x → IsKindedSet kinds passed (outside x)
+pub kinded_outside : (kinds passed : List Kind) (k : Kind) (x : Elem) → IsKindedElement kinds (k ∷ passed) x → IsKindedSet kinds passed (outside x)
 kinded_outside kinds passed k (Variable (Bound zero)) h = kinded_empty kinds passed
 kinded_outside kinds passed k (Variable (Bound (suc i))) h = kinded_single kinds passed (Variable (Bound i)) h
 kinded_outside kinds passed k (Variable (Free p)) h = kinded_single kinds passed (Variable (Free p)) h
@@ -112,18 +112,18 @@ kinded_without_binder kinds passed k c h x m =
     let from = (Member-flat_image outside x c).0 m in
     kinded_outside kinds passed k from.0 (h from.0 from.1) x from.2
 
-kinded_cond : (kinds passed : List Kind) (t : Bool) (a b : Set) → IsKindedSet kinds passed a → IsKindedSet kinds passed b → IsKindedSet kinds passed (cond t a b)
+pub kinded_cond : (kinds passed : List Kind) (t : Bool) (a b : Set) → IsKindedSet kinds passed a → IsKindedSet kinds passed b → IsKindedSet kinds passed (cond t a b)
 kinded_cond kinds passed true a b ka kb = ka
 kinded_cond kinds passed false a b ka kb = kb
 
-kinded_two : (kinds passed : List Kind) (v w : Var) → IsOfKind kinds passed v TermKind → IsOfKind kinds passed w TermKind → IsKindedSet kinds passed (union (variable_set v) (variable_set w))
+pub kinded_two : (kinds passed : List Kind) (v w : Var) → IsOfKind kinds passed v TermKind → IsOfKind kinds passed w TermKind → IsKindedSet kinds passed (union (variable_set v) (variable_set w))
 kinded_two kinds passed v w kv kw = kinded_union kinds passed (variable_set v) (variable_set w) (kinded_single kinds passed (Variable v) kv) (kinded_single kinds passed (Variable w) kw)
 
-kinded_optional_set : (kinds passed : List Kind) (o : Option Set) → IsKindedOptionalSet kinds passed o → IsKindedSet kinds passed (optional_set o)
+pub kinded_optional_set : (kinds passed : List Kind) (o : Option Set) → IsKindedOptionalSet kinds passed o → IsKindedSet kinds passed (optional_set o)
 kinded_optional_set kinds passed None h = kinded_empty kinds passed
 kinded_optional_set kinds passed (Some c) h = h
 
-kinded_optional_variable : (kinds passed : List Kind) (o : Option Var) → IsKindedOptional kinds passed o → IsKindedSet kinds passed (optional_variable_set o)
+pub kinded_optional_variable : (kinds passed : List Kind) (o : Option Var) → IsKindedOptional kinds passed o → IsKindedSet kinds passed (optional_variable_set o)
 kinded_optional_variable kinds passed None h = kinded_empty kinds passed
 kinded_optional_variable kinds passed (Some v) h = kinded_single kinds passed (Variable v) h
 

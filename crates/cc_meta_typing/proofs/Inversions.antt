@@ -30,18 +30,18 @@ use Rattle.cc_meta_typing.proofs.TypingLemmas.{has_variable_typed}
 use Rattle.cc_meta_typing.proofs.InternalConversions.{formed_type_from, fresh_in, fresh_in_set, typed_from, type_from}
 
 -- a part of a term that is typed by its form has its type
-whole : {g : Context} {t : Term} {s : Shape} {c : Set} → IsKindedContext g → Typed g t s c → HasType g t (capturing s c)
+pub whole : {g : Context} {t : Term} {s : Shape} {c : Set} → IsKindedContext g → Typed g t s c → HasType g t (capturing s c)
 whole formed typed = type_from formed (typed_kinded_term typed) typed
 
-operand : {g : Context} {v : Var} {s : Shape} {c : Set} → IsKindedContext g → HasVariable g v s c → HasType g (VariableTerm v) (capturing s c)
+pub operand : {g : Context} {v : Var} {s : Shape} {c : Set} → IsKindedContext g → HasVariable g v s c → HasType g (VariableTerm v) (capturing s c)
 operand formed has = whole formed (has_variable_typed has)
 
 -- what stands under one binder is well formed
-formed_under : (g : Context) (k : Kind) (s : Shape) (c : Set) → IsKinded (kinds_of g) (k ∷ []) s → IsKindedSet (kinds_of g) (k ∷ []) c → IsWellFormedTypeUnder g k (capturing s c)
+pub formed_under : (g : Context) (k : Kind) (s : Shape) (c : Set) → IsKinded (kinds_of g) (k ∷ []) s → IsKindedSet (kinds_of g) (k ∷ []) c → IsWellFormedTypeUnder g k (capturing s c)
 formed_under g k s c ks kc =
     and_from (is_well_formed_shape (kinds_of g) (k ∷ []) s) (is_well_formed_set (kinds_of g) (k ∷ []) c) (IsKinded-test (kinds_of g) (k ∷ []) s ks) (IsKindedSet-test (kinds_of g) (k ∷ []) c kc)
 
-formed_of : {g : Context} {t : Term} {type : CapturingType} → HasType g t type → IsKindedContext g
+pub formed_of : {g : Context} {t : Term} {type : CapturingType} → HasType g t type → IsKindedContext g
 formed_of {g = g} h = IsKindedContext-from g h.context_formed
 
 -- One by one.

@@ -37,8 +37,12 @@ Comparing = Context → Shape → Shape → Comparison
 -- the set demanded first, then the shapes compared
 abbrev pub types_compared : Comparing → Context → CapturingType → CapturingType → Comparison
 types_compared compare context left right =
-    and_then (Matches (record { context =
-        context; left = left.set; right = right.set } ∷ [])) (compare context left.shape right.shape)
+    and_then (Matches (record {
+      context =
+          context;
+      left = left.set;
+      right = right.set;
+    } ∷ [])) (compare context left.shape right.shape)
 
 -- the bound of an entry, where it is a type variable
 abbrev pub bound_in : Option Bind → Option Shape
