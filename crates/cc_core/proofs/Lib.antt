@@ -21,8 +21,8 @@ pub mod Opening
 pub mod Renaming
 pub mod ShapeSizes
 pub mod SizeLemmas
+pub mod Sorts
 pub mod SubcapturingContexts
 pub mod SubcapturingLemmas
 pub mod TermActions
-pub mod TermWellFormedness
 pub mod WellFormedness

@@ -19,8 +19,8 @@ use Rattle.cc_core.proofs.Lookups.{length_map, lookup-newest, lookup-below, look
 use Rattle.cc_core.proofs.KindFacts.{IsKinded, IsKindedSet, IsKinded-from, IsKinded-test, IsKindedType-from}
 use Rattle.cc_core.proofs.KindedActions.{IsKinded-act, IsKinded-meets, IsKindedSet-meets}
 use Rattle.cc_core.proofs.KindRespecting.{freely-KeepsKinds, kinds-under_type_binder, kinds-bound_within}
-use Rattle.cc_core.proofs.Renaming.{renaming_as_free, overridden-same, overridden-below, freely-agree, freely-agree_set}
-use Rattle.cc_core.proofs.FreshOpenings.{fresh_opening, fresh_opening_set, fresh_shape, fresh_shape_set}
+use Rattle.cc_core.proofs.Renaming.{renaming_as_free, overridden-same, overridden-below, freely-agree}
+use Rattle.cc_core.proofs.FreshOpenings.{fresh_opening, fresh_shape}
 use Rattle.cc_core.proofs.SubcapturingContexts.{IsKindedContext, IsKindedContext-from, entry_kinded, kind_of_entry, entry_of_term, entry_of_type}
 use Rattle.cc_core.proofs.SubcapturingLemmas.{subcaptures_reflexive}
 use Rattle.cc_meta_typing.specs.ContextMaps.{Extends, unchanged, added, mapped, mapped_set, mapped_entry, IsContextMap, MapsEntries}
@@ -29,6 +29,7 @@ use Rattle.cc_meta_typing.proofs.Extensions.{extends_more, lookup-extends, subca
 use Rattle.cc_meta_typing.proofs.KindedContexts.{opened_kinded}
 use Rattle.cc_meta_typing.proofs.DirectSubtyping.{Narrows, narrows_under, narrows_newest, direct_narrows, direct_from, direct_to}
 use Rattle.cc_meta_typing.proofs.ContextMapping.{positions_of, positions_of_set, mapped_subcaptures, mapped_subtypes}
+use Rattle.cc_core.proofs.Sorts.{SetSort, ShapeSort}
 
 -- the map that leaves each position leaves all
 stays : (v : Var) → renamed_variable (λ p. p) v ≡ v
@@ -119,10 +120,10 @@ module _ (entry : Bind) (context : Context) (to : ℕ → ℕ) (shapes : ℕ →
     (same : (p : ℕ) → p < length context → to p ≡ p) (same_shapes : (p : ℕ) → p < length context → shapes p ≡ itself p)
     (g : IsKindedContext context) where
   pub stays_mapped : (passed : List Kind) (shape : Shape) → IsKinded (kinds_of context) passed shape → mapped to shapes shape ≡ shape
-  stays_mapped passed shape h = freely-agree (length context) (λ p. p) to itself shapes same same_shapes 0 shape (positions_of context passed shape h) ∙ identity_mapped shape
+  stays_mapped passed shape h = freely-agree (length context) (λ p. p) to itself shapes same same_shapes ShapeSort 0 shape (positions_of context passed shape h) ∙ identity_mapped shape
 
   pub stays_mapped_set : (passed : List Kind) (set : Set) → IsKindedSet (kinds_of context) passed set → mapped_set to shapes set ≡ set
-  stays_mapped_set passed set h = freely-agree_set (length context) (λ p. p) to itself shapes same same_shapes 0 set (positions_of_set context passed set h) ∙ identity_mapped_set set
+  stays_mapped_set passed set h = freely-agree (length context) (λ p. p) to itself shapes same same_shapes SetSort 0 set (positions_of_set context passed set h) ∙ identity_mapped_set set
 
   pub older_bounds : (target : Context) → Extends context target → (position : ℕ) (bound : Shape) → lookup context position ≡ Some (TypeEntry bound) → Subtypes target (shapes position) (mapped to shapes bound)
   older_bounds target more position bound there =
@@ -303,12 +304,12 @@ smaller_map context s s' c c' formed formed' below =
 pub variable_in_body : (context : Context) (position : ℕ) (shape : Shape) → IsKinded (kinds_of context) (TermKind ∷ []) shape
     → mapped (overridden (λ p. p) (length context) position) (overridden itself (length context) (TypeVariable (Free position))) (opened (length context) shape) ≡ opened position shape
 variable_in_body context position shape h =
-    fresh_opening (length context) position (λ p. p) itself (λ p. tt) 0 shape (positions_of context (TermKind ∷ []) shape h) ∙ ap (opened position) (identity_mapped shape)
+    fresh_opening (length context) position (λ p. p) itself (λ p. tt) ShapeSort 0 shape (positions_of context (TermKind ∷ []) shape h) ∙ ap (opened position) (identity_mapped shape)
 
 pub variable_in_body_set : (context : Context) (position : ℕ) (set : Set) → IsKindedSet (kinds_of context) (TermKind ∷ []) set
     → mapped_set (overridden (λ p. p) (length context) position) (overridden itself (length context) (TypeVariable (Free position))) (opened_set (length context) set) ≡ opened_set position set
 variable_in_body_set context position set h =
-    fresh_opening_set (length context) position (λ p. p) itself (λ p. tt) 0 set (positions_of_set context (TermKind ∷ []) set h) ∙ ap (opened_set position) (identity_mapped_set set)
+    fresh_opening (length context) position (λ p. p) itself (λ p. tt) SetSort 0 set (positions_of_set context (TermKind ∷ []) set h) ∙ ap (opened_set position) (identity_mapped_set set)
 
 pub shape_in_body : (context : Context) (by shape : Shape) → IsKinded (kinds_of context) (TypeKind ∷ []) shape
     → mapped (λ p. p) (overridden itself (length context) by) (opened (length context) shape) ≡ act (putting_shape by) 0 shape
@@ -316,7 +317,7 @@ shape_in_body context by shape h =
     let placed : Meets (under_type_binder (length context)) 0 shape =
     subst (λ n. Meets (under_type_binder n) 0 shape) (length_map kind_of context)
     (IsKinded-meets (kinds_of context) (TypeKind ∷ []) (under_type_binder (length (kinds_of context))) (kinds-under_type_binder (kinds_of context)) [] shape h) in
-    fresh_shape (length context) by (λ p. p) (λ p. p) itself (λ p _. refl) (λ p. tt) 0 shape placed ∙ ap (act (putting_shape by) 0) (identity_mapped shape)
+    fresh_shape (length context) by (λ p. p) (λ p. p) itself (λ p _. refl) (λ p. tt) ShapeSort 0 shape placed ∙ ap (act (putting_shape by) 0) (identity_mapped shape)
 
 pub shape_in_body_set : (context : Context) (by : Shape) (set : Set) → IsKindedSet (kinds_of context) (TypeKind ∷ []) set
     → mapped_set (λ p. p) (overridden itself (length context) by) (opened_set (length context) set) ≡ act_set (putting_shape by) 0 set
@@ -324,7 +325,7 @@ shape_in_body_set context by set h =
     let placed : MeetsInSet (under_type_binder (length context)) 0 set =
     subst (λ n. MeetsInSet (under_type_binder n) 0 set) (length_map kind_of context)
     (IsKindedSet-meets (kinds_of context) (TypeKind ∷ []) (under_type_binder (length (kinds_of context))) (kinds-under_type_binder (kinds_of context)) [] set h) in
-    fresh_shape_set (length context) by (λ p. p) (λ p. p) itself (λ p _. refl) (λ p. tt) 0 set placed ∙ ap (act_set (putting_shape by) 0) (identity_mapped_set set)
+    fresh_shape (length context) by (λ p. p) (λ p. p) itself (λ p _. refl) (λ p. tt) SetSort 0 set placed ∙ ap (act_set (putting_shape by) 0) (identity_mapped_set set)
 
 -- types that compare after a map compare as what they have become
 types_become : (context : Context) (one two one' two' : CapturingType) → one.shape ≡ one'.shape → one.set ≡ one'.set → two.shape ≡ two'.shape → two.set ≡ two'.set

@@ -20,14 +20,15 @@ use Rattle.cc_core.proofs.KindFacts.{IsKinded, IsKindedSet, IsKinded-from, IsKin
 use Rattle.cc_core.proofs.KindedActions.{IsKinded-act, IsKinded-meets, IsKindedSet-meets}
 use Rattle.cc_core.proofs.KindRespecting.{freely-KeepsKinds, kinds-positions_below}
 use Rattle.cc_core.proofs.FreeActions.{free-level}
-use Rattle.cc_core.proofs.Renaming.{freely-IsFree, overridden-same, overridden-below, freely-agree, freely-agree_set}
-use Rattle.cc_core.proofs.FreshOpenings.{fresh_opening, fresh_opening_set}
+use Rattle.cc_core.proofs.Renaming.{freely-IsFree, overridden-same, overridden-below, freely-agree}
+use Rattle.cc_core.proofs.FreshOpenings.{fresh_opening}
 use Rattle.cc_core.proofs.SubcapturingContexts.{IsKindedEntry, IsKindedContext, entry_kinded, kind_of_entry, IsKinded-added, entry_of_term, entry_of_type}
 use Rattle.cc_core.proofs.SubcapturingLemmas.{subcaptures_above, subcaptures_reflexive}
 use Rattle.cc_meta_typing.specs.ContextMaps.{Extends, unchanged, mapped, mapped_set, mapped_entry, IsContextMap}
 use Rattle.cc_meta_typing.proofs.Extensions.{extends_older, lookup-extends}
 use Rattle.cc_meta_typing.proofs.KindedContexts.{opened_kinded}
 use Rattle.cc_meta_typing.proofs.DirectSubtyping.{SubtypesDirectly, alike, under_any, through_bound, functions, type_functions, boxes, direct_transitive, direct_from, direct_to}
+use Rattle.cc_core.proofs.Sorts.{SetSort, ShapeSort}
 
 -- what is well formed in a context has positions below its length
 pub positions_of : (context : Context) (passed : List Kind) (shape : Shape) → IsKinded (kinds_of context) passed shape → Meets (positions_below (length context)) 0 shape
@@ -53,14 +54,14 @@ module _ (source target : Context) (to : ℕ → ℕ) (shapes : ℕ → Shape) (
       → mapped (to_under source target to) (shapes_under source target shapes) shape ≡ mapped to shapes shape
   same_under passed shape h =
       freely-agree (length source) to (to_under source target to) shapes (shapes_under source target shapes)
-      (overridden-below to (length source) (length target)) (overridden-below shapes (length source) (TypeVariable (Free (length target)))) 0 shape
+      (overridden-below to (length source) (length target)) (overridden-below shapes (length source) (TypeVariable (Free (length target)))) ShapeSort 0 shape
       (positions_of source passed shape h)
 
   same_set_under : (passed : List Kind) (set : Set) → IsKindedSet (kinds_of source) passed set
       → mapped_set (to_under source target to) (shapes_under source target shapes) set ≡ mapped_set to shapes set
   same_set_under passed set h =
-      freely-agree_set (length source) to (to_under source target to) shapes (shapes_under source target shapes)
-      (overridden-below to (length source) (length target)) (overridden-below shapes (length source) (TypeVariable (Free (length target)))) 0 set
+      freely-agree (length source) to (to_under source target to) shapes (shapes_under source target shapes)
+      (overridden-below to (length source) (length target)) (overridden-below shapes (length source) (TypeVariable (Free (length target)))) SetSort 0 set
       (positions_of_set source passed set h)
 
   closed_under : (position : ℕ) → Meets (bound_within 0) 0 (shapes_under source target shapes position)
@@ -74,13 +75,13 @@ module _ (source target : Context) (to : ℕ → ℕ) (shapes : ℕ → Shape) (
   pub body_under : (passed : List Kind) (shape : Shape) → IsKinded (kinds_of source) passed shape
       → mapped (to_under source target to) (shapes_under source target shapes) (opened (length source) shape) ≡ opened (length target) (act (freely to shapes) 1 shape)
   body_under passed shape h =
-      fresh_opening (length source) (length target) to shapes map.closed 0 shape (positions_of source passed shape h)
+      fresh_opening (length source) (length target) to shapes map.closed ShapeSort 0 shape (positions_of source passed shape h)
       ∙ ap (opened (length target)) (free-level (freely to shapes) (freely-IsFree to shapes map.closed) 0 1 shape)
 
   pub body_set_under : (passed : List Kind) (set : Set) → IsKindedSet (kinds_of source) passed set
       → mapped_set (to_under source target to) (shapes_under source target shapes) (opened_set (length source) set) ≡ opened_set (length target) (act_set (freely to shapes) 1 set)
   body_set_under passed set h =
-      fresh_opening_set (length source) (length target) to shapes map.closed 0 set (positions_of_set source passed set h)
+      fresh_opening (length source) (length target) to shapes map.closed SetSort 0 set (positions_of_set source passed set h)
 
   -- a map keeps kinds
   pub mapped_kinded : (passed : List Kind) (shape : Shape) → IsKinded (kinds_of source) passed shape → IsKinded (kinds_of target) passed (mapped to shapes shape)

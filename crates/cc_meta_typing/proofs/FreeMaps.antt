@@ -23,12 +23,13 @@ use Rattle.cc_core.proofs.Moving.{Member-single}
 use Rattle.cc_core.proofs.Actions.{same_actions, act-keeping, act_set-keeping}
 use Rattle.cc_core.proofs.TermActions.{act_term-keeping}
 use Rattle.cc_core.proofs.FreeActions.{free-level}
-use Rattle.cc_core.proofs.Renaming.{freely-IsFree, overridden-same, overridden-below, freely-agree, freely-agree_set}
-use Rattle.cc_core.proofs.FreshOpenings.{fresh_opening, fresh_opening_set, fresh_opening_term, fresh_shape, fresh_shape_set, fresh_shape_term}
+use Rattle.cc_core.proofs.Renaming.{freely-IsFree, overridden-same, overridden-below, freely-agree}
+use Rattle.cc_core.proofs.FreshOpenings.{fresh_opening, fresh_shape}
 use Rattle.cc_core.proofs.KindFacts.{IsOfKind, IsKindedElement, IsKindedSet, IsKinded, IsKindedTerm}
 use Rattle.cc_core.proofs.KindedActions.{KeepsKinds, IsKindedSet-act, IsKinded-act, IsKindedSet-meets, IsKinded-meets, IsKindedTerm-meets}
 use Rattle.cc_meta_typing.proofs.DirectSubtyping.{SubtypesDirectly, alike, under_any, through_bound, functions, type_functions, boxes, direct_transitive}
 use Rattle.cc_meta_typing.proofs.FormedContexts.{IsKindedEntry, IsKindedContext, length-kinds_of, kinded_single, IsKinded-added, entry_kinded, kind_of_entry, term_entry_at, type_entry_at, kinds_below, kinds_bound, kinds_under_type, IsKinded-opened, some_is}
+use Rattle.cc_core.proofs.Sorts.{SetSort, ShapeSort, TermSort}
 
 -- a context with entries added
 pub data Longer (d : Context) : Context → Type 0 where
@@ -168,10 +169,10 @@ module _ (g d : Context) (to : ℕ → ℕ) (shapes : ℕ → Shape) (maps : Map
 -- the two maps agree on what is well formed before the binder
 module _ (g : Context) (to to' : ℕ → ℕ) (shapes shapes' : ℕ → Shape) (same : (p : ℕ) → p < length g → to' p ≡ to p) (same_shapes : (p : ℕ) → p < length g → shapes' p ≡ shapes p) where
   pub agree_shape : (n : ℕ) (s : Shape) → IsKinded (kinds_of g) [] s → act (freely to' shapes') 0 s ≡ act (freely to shapes) 0 s
-  agree_shape n s h = freely-agree (length g) to to' shapes shapes' same same_shapes 0 s (IsKinded-meets (kinds_of g) [] (positions_below (length g)) (kinds_below (length g) (kinds_of g) [] (length-kinds_of g)) [] s h)
+  agree_shape n s h = freely-agree (length g) to to' shapes shapes' same same_shapes ShapeSort 0 s (IsKinded-meets (kinds_of g) [] (positions_below (length g)) (kinds_below (length g) (kinds_of g) [] (length-kinds_of g)) [] s h)
 
   pub agree_set : (c : Set) → IsKindedSet (kinds_of g) [] c → act_set (freely to' shapes') 0 c ≡ act_set (freely to shapes) 0 c
-  agree_set c h = freely-agree_set (length g) to to' shapes shapes' same same_shapes 0 c (IsKindedSet-meets (kinds_of g) [] (positions_below (length g)) (kinds_below (length g) (kinds_of g) [] (length-kinds_of g)) [] c h)
+  agree_set c h = freely-agree (length g) to to' shapes shapes' same same_shapes SetSort 0 c (IsKindedSet-meets (kinds_of g) [] (positions_below (length g)) (kinds_below (length g) (kinds_of g) [] (length-kinds_of g)) [] c h)
 
 module _ (g d : Context) (to : ℕ → ℕ) (shapes : ℕ → Shape) (maps : Maps g d to shapes) (formed : IsKindedContext g) (b : Bind) (entry : IsKindedEntry (kinds_of g) b) where
   to_under : ℕ → ℕ
@@ -292,13 +293,13 @@ module _ (g d : Context) (to : ℕ → ℕ) (shapes : ℕ → Shape) (maps : Map
   pub opened_map : (k : Kind) (x : Shape) → IsKinded (kinds_of g) (k ∷ []) x
       → act (freely (overridden to (length g) (length d)) (overridden shapes (length g) (TypeVariable (Free (length d))))) 0 (opened (length g) x) ≡ opened (length d) (act (freely to shapes) 1 x)
   opened_map k x h =
-      fresh_opening (length g) (length d) to shapes maps.closed 0 x (IsKinded-meets (kinds_of g) (k ∷ []) (positions_below (length g)) (kinds_below (length g) (kinds_of g) (k ∷ []) (length-kinds_of g)) [] x h)
+      fresh_opening (length g) (length d) to shapes maps.closed ShapeSort 0 x (IsKinded-meets (kinds_of g) (k ∷ []) (positions_below (length g)) (kinds_below (length g) (kinds_of g) (k ∷ []) (length-kinds_of g)) [] x h)
       ∙ ap (opened (length d)) (map_level g d to shapes maps 0 1 x)
 
   pub opened_map_set : (k : Kind) (x : Set) → IsKindedSet (kinds_of g) (k ∷ []) x
       → act_set (freely (overridden to (length g) (length d)) (overridden shapes (length g) (TypeVariable (Free (length d))))) 0 (opened_set (length g) x) ≡ opened_set (length d) (act_set (freely to shapes) 1 x)
   opened_map_set k x h =
-      fresh_opening_set (length g) (length d) to shapes maps.closed 0 x (IsKindedSet-meets (kinds_of g) (k ∷ []) (positions_below (length g)) (kinds_below (length g) (kinds_of g) (k ∷ []) (length-kinds_of g)) [] x h)
+      fresh_opening (length g) (length d) to shapes maps.closed SetSort 0 x (IsKindedSet-meets (kinds_of g) (k ∷ []) (positions_below (length g)) (kinds_below (length g) (kinds_of g) (k ∷ []) (length-kinds_of g)) [] x h)
 
 -- subtyping goes along
 pub map_subtypes : {g : Context} {left right : Shape} → SubtypesDirectly g left right → (d : Context) (to : ℕ → ℕ) (shapes : ℕ → Shape) → Maps g d to shapes → IsKindedContext g
@@ -609,31 +610,31 @@ no_open_variable p = tt
 module _ (g : Context) (q : ℕ) (k : Kind) where
   pub value_put : (x : Shape) → IsKinded (kinds_of g) (k ∷ []) x → act (freely (overridden same_position (length g) q) (overridden same_variable (length g) (TypeVariable (Free q)))) 0 (opened (length g) x) ≡ act (putting (Free q)) 0 x
   value_put x h =
-      fresh_opening (length g) q same_position same_variable no_open_variable 0 x (IsKinded-meets (kinds_of g) (k ∷ []) (positions_below (length g)) (kinds_below (length g) (kinds_of g) (k ∷ []) (length-kinds_of g)) [] x h)
+      fresh_opening (length g) q same_position same_variable no_open_variable ShapeSort 0 x (IsKinded-meets (kinds_of g) (k ∷ []) (positions_below (length g)) (kinds_below (length g) (kinds_of g) (k ∷ []) (length-kinds_of g)) [] x h)
       ∙ ap (act (putting (Free q)) 0) (still 0 x)
 
   pub value_put_set : (x : Set) → IsKindedSet (kinds_of g) (k ∷ []) x → act_set (freely (overridden same_position (length g) q) (overridden same_variable (length g) (TypeVariable (Free q)))) 0 (opened_set (length g) x) ≡ act_set (putting (Free q)) 0 x
   value_put_set x h =
-      fresh_opening_set (length g) q same_position same_variable no_open_variable 0 x (IsKindedSet-meets (kinds_of g) (k ∷ []) (positions_below (length g)) (kinds_below (length g) (kinds_of g) (k ∷ []) (length-kinds_of g)) [] x h)
+      fresh_opening (length g) q same_position same_variable no_open_variable SetSort 0 x (IsKindedSet-meets (kinds_of g) (k ∷ []) (positions_below (length g)) (kinds_below (length g) (kinds_of g) (k ∷ []) (length-kinds_of g)) [] x h)
       ∙ ap (act_set (putting (Free q)) 0) (still_set 0 x)
 
   pub value_put_term : (x : Term) → IsKindedTerm (kinds_of g) (k ∷ []) x → act_term (freely (overridden same_position (length g) q) (overridden same_variable (length g) (TypeVariable (Free q)))) 0 (opened_term (length g) x) ≡ act_term (putting (Free q)) 0 x
   value_put_term x h =
-      fresh_opening_term (length g) q same_position same_variable no_open_variable 0 x (IsKindedTerm-meets (kinds_of g) (k ∷ []) (positions_below (length g)) (kinds_below (length g) (kinds_of g) (k ∷ []) (length-kinds_of g)) [] x h)
+      fresh_opening (length g) q same_position same_variable no_open_variable TermSort 0 x (IsKindedTerm-meets (kinds_of g) (k ∷ []) (positions_below (length g)) (kinds_below (length g) (kinds_of g) (k ∷ []) (length-kinds_of g)) [] x h)
       ∙ ap (act_term (putting (Free q)) 0) (still_term 0 x)
 
 module _ (g : Context) (r : Shape) where
   pub shape_put : (x : Shape) → IsKinded (kinds_of g) (TypeKind ∷ []) x → act (freely same_position (overridden same_variable (length g) r)) 0 (opened (length g) x) ≡ act (putting_shape r) 0 x
   shape_put x h =
-      fresh_shape (length g) r same_position same_position same_variable (λ p less. refl) no_open_variable 0 x (IsKinded-meets (kinds_of g) (TypeKind ∷ []) (under_type_binder (length g)) (kinds_under_type (length g) (kinds_of g) (length-kinds_of g)) [] x h)
+      fresh_shape (length g) r same_position same_position same_variable (λ p less. refl) no_open_variable ShapeSort 0 x (IsKinded-meets (kinds_of g) (TypeKind ∷ []) (under_type_binder (length g)) (kinds_under_type (length g) (kinds_of g) (length-kinds_of g)) [] x h)
       ∙ ap (act (putting_shape r) 0) (still 0 x)
 
   pub shape_put_set : (x : Set) → IsKindedSet (kinds_of g) (TypeKind ∷ []) x → act_set (freely same_position (overridden same_variable (length g) r)) 0 (opened_set (length g) x) ≡ act_set (putting_shape r) 0 x
   shape_put_set x h =
-      fresh_shape_set (length g) r same_position same_position same_variable (λ p less. refl) no_open_variable 0 x (IsKindedSet-meets (kinds_of g) (TypeKind ∷ []) (under_type_binder (length g)) (kinds_under_type (length g) (kinds_of g) (length-kinds_of g)) [] x h)
+      fresh_shape (length g) r same_position same_position same_variable (λ p less. refl) no_open_variable SetSort 0 x (IsKindedSet-meets (kinds_of g) (TypeKind ∷ []) (under_type_binder (length g)) (kinds_under_type (length g) (kinds_of g) (length-kinds_of g)) [] x h)
       ∙ ap (act_set (putting_shape r) 0) (still_set 0 x)
 
   pub shape_put_term : (x : Term) → IsKindedTerm (kinds_of g) (TypeKind ∷ []) x → act_term (freely same_position (overridden same_variable (length g) r)) 0 (opened_term (length g) x) ≡ act_term (putting_shape r) 0 x
   shape_put_term x h =
-      fresh_shape_term (length g) r same_position same_position same_variable (λ p less. refl) no_open_variable 0 x (IsKindedTerm-meets (kinds_of g) (TypeKind ∷ []) (under_type_binder (length g)) (kinds_under_type (length g) (kinds_of g) (length-kinds_of g)) [] x h)
+      fresh_shape (length g) r same_position same_position same_variable (λ p less. refl) no_open_variable TermSort 0 x (IsKindedTerm-meets (kinds_of g) (TypeKind ∷ []) (under_type_binder (length g)) (kinds_under_type (length g) (kinds_of g) (length-kinds_of g)) [] x h)
       ∙ ap (act_term (putting_shape r) 0) (still_term 0 x)

@@ -13,7 +13,7 @@ use Rattle.cc_core.specs.WellFormed.{Kind, TermKind, TypeKind, kinds_of, is_well
 use Rattle.cc_core.specs.Subcapturing.{Subcaptures}
 use Rattle.cc_core.specs.Typing.{HasTyping, t-var, t-lit, t-abs, t-tabs, t-app, t-tapp, t-box, t-unbox, t-let, t-prim, t-if, t-repeat, t-op, t-op-alone, t-boundary, t-exit, t-sub, HasType}
 use Rattle.cc_core.proofs.Moving.{Member-single}
-use Rattle.cc_core.proofs.Opening.{closed-opened, closed_set-opened, opened-closed, opened_set-closed}
+use Rattle.cc_core.proofs.Opening.{closed-opened, opened-closed}
 use Rattle.cc_core.proofs.Conditions.{gives_here, Meets-here, MeetsInSet-here}
 use Rattle.cc_core.proofs.KindFacts.{IsKindedSet, IsKinded, IsKindedTerm, IsKinded-from, IsKinded-test, IsKindedSet-from, IsKindedSet-test, IsKindedTerm-from, IsKindedTerm-test}
 use Rattle.cc_core.proofs.KindedActions.{IsKinded-meets, IsKindedSet-meets}
@@ -22,6 +22,7 @@ use Rattle.cc_meta_typing.proofs.FormedContexts.{IsKindedContext, IsKindedContex
 use Rattle.cc_meta_typing.proofs.InternalTyping.{HasVariable, TypedExactly, exact_variable, exact_literal, exact_function, exact_type_function, exact_application, exact_type_application, exact_box, exact_unboxing, exact_let, exact_primitive, exact_conditional, exact_repetition, exact_operation, exact_operation_alone, exact_boundary, exact_leave, Typed, widened}
 use Rattle.cc_meta_typing.proofs.TypingMaps.{typed_is, typed_kinded, typed_kinded_set, typed_wider, typed_exactly}
 use Rattle.cc_meta_typing.proofs.TypingLemmas.{variable_typed}
+use Rattle.cc_core.proofs.Sorts.{SetSort, ShapeSort}
 
 pub formed_type_parts : (g : Context) (s : Shape) (c : Set) → IsWellFormedType g (capturing s c) → IsKinded (kinds_of g) [] s × IsKindedSet (kinds_of g) [] c
 formed_type_parts g s c h =
@@ -63,7 +64,7 @@ internal_from (t-abs {context = g} {takes = takes} {gives = gives} {c = c} {e = 
     let g' : Context = TermEntry takes c ∷ g in
     typed_exactly formed k
     (exact_function (IsKinded-closed n TermKind (kinds_of g) len gives (typed_kinded typed)) (IsKindedSet-closed n TermKind (kinds_of g) len e (typed_kinded_set typed))
-    (typed_is refl (sym (opened-closed n 0 gives (closed_in g' gives (typed_kinded typed)))) (sym (opened_set-closed n 0 e (closed_in_set g' e (typed_kinded_set typed)))) typed))
+    (typed_is refl (sym (opened-closed ShapeSort n 0 gives (closed_in g' gives (typed_kinded typed)))) (sym (opened-closed SetSort n 0 e (closed_in_set g' e (typed_kinded_set typed)))) typed))
 internal_from (t-tabs {context = g} {bound = bound} {gives = gives} {e = e} {body = body} wf typing) formed k =
     let n : ℕ = length g in
     let len = length-kinds_of g in
@@ -71,7 +72,7 @@ internal_from (t-tabs {context = g} {bound = bound} {gives = gives} {e = e} {bod
     let g' : Context = TypeEntry bound ∷ g in
     typed_exactly formed k
     (exact_type_function (IsKinded-closed n TypeKind (kinds_of g) len gives (typed_kinded typed)) (IsKindedSet-closed n TypeKind (kinds_of g) len e (typed_kinded_set typed))
-    (typed_is refl (sym (opened-closed n 0 gives (closed_in g' gives (typed_kinded typed)))) (sym (opened_set-closed n 0 e (closed_in_set g' e (typed_kinded_set typed)))) typed))
+    (typed_is refl (sym (opened-closed ShapeSort n 0 gives (closed_in g' gives (typed_kinded typed)))) (sym (opened-closed SetSort n 0 e (closed_in_set g' e (typed_kinded_set typed)))) typed))
 internal_from (t-app function argument) formed k =
     typed_exactly formed k (exact_application (variable_typed (internal_from function formed k.0)) (variable_typed (internal_from argument formed k.1)))
 internal_from (t-tapp function below wf) formed k =
@@ -115,11 +116,11 @@ mutual
   exact_typing exact_literal k = t-lit
   exact_typing (exact_function {g = g} {takes = takes} {gives = gives} {c = c} {e = e} kg ke typed) k =
       typing_is
-      (λ i. FunctionShape takes c (closed-opened (length g) 0 gives (fresh_in g (TermKind ∷ []) gives kg) i) (closed_set-opened (length g) 0 e (fresh_in_set g (TermKind ∷ []) e ke) i)) refl
+      (λ i. FunctionShape takes c (closed-opened ShapeSort (length g) 0 gives (fresh_in g (TermKind ∷ []) gives kg) i) (closed-opened SetSort (length g) 0 e (fresh_in_set g (TermKind ∷ []) e ke) i)) refl
       (t-abs (formed_type_from g takes c k.0 k.1) (internal_typing typed))
   exact_typing (exact_type_function {g = g} {bound = bound} {gives = gives} {e = e} kg ke typed) k =
       typing_is
-      (λ i. TypeFunctionShape bound (closed-opened (length g) 0 gives (fresh_in g (TypeKind ∷ []) gives kg) i) (closed_set-opened (length g) 0 e (fresh_in_set g (TypeKind ∷ []) e ke) i)) refl
+      (λ i. TypeFunctionShape bound (closed-opened ShapeSort (length g) 0 gives (fresh_in g (TypeKind ∷ []) gives kg) i) (closed-opened SetSort (length g) 0 e (fresh_in_set g (TypeKind ∷ []) e ke) i)) refl
       (t-tabs (IsKinded-test (kinds_of g) [] bound k.0) (internal_typing typed))
   exact_typing (exact_application function argument) k = t-app (has_typing_variable function) (has_typing_variable argument)
   exact_typing (exact_type_application {g = g} {argument = r} function below) k = t-tapp (has_typing_variable function) (direct_to below) (IsKinded-test (kinds_of g) [] r k.1)

@@ -1,10 +1,10 @@
 -- Terms that have a type, by their derivations.
-use Rattle.std.proofs.Common.{◌≡◌, ◌≢◌, ℕ, suc, [], ◌∷◌, Some, refl, subst, sym, arith}
+use Rattle.std.proofs.Common.{◌≡◌, ◌≢◌, ℕ, suc, ◌∷◌, Some, refl, subst, sym, arith}
 use Rattle.cc_capture.specs.declared.var.Var.TheVariants.{Free}
 use Rattle.cc_capture.specs.declared.var.Elem.TheVariants.{Var as Variable, Cap}
-use Rattle.cc_capture.specs.Elements.{element_order, same_element}
+use Rattle.cc_capture.specs.Elements.{element_order}
 use Rattle.cc_capture.specs.Rising.{placed}
-use Rattle.cc_capture.specs.Sets.{Set, Member, contains, empty, insert, from_list, flat_image, union}
+use Rattle.cc_capture.specs.Sets.{Set, empty, insert, from_list, flat_image, union}
 use Rattle.cc_capture.proofs.Membership.{Member-empty}
 use Rattle.cc_core.specs.Shapes.{Shape, BoxShape}
 use Rattle.cc_core.specs.Terms.{BoxTerm, Application}
@@ -13,7 +13,7 @@ use Rattle.cc_core.specs.Occurrences.{MeetsInSet, IsAskedOf, without}
 use Rattle.cc_core.specs.Substitution.{single}
 use Rattle.cc_core.specs.Subcapturing.{Subcaptures, variable, SubcapturesSet}
 use Rattle.cc_core.specs.Subtyping.{reflexive}
-use Rattle.cc_core.specs.Typing.{HasTyping, t-var, t-lit, t-abs, t-app, t-box, t-unbox, t-let, t-op, t-sub, HasNoCap, HasType}
+use Rattle.cc_core.specs.Typing.{HasTyping, t-var, t-lit, t-abs, t-app, t-box, t-unbox, t-let, t-op, t-sub, HasNoCap}
 use Rattle.cc_core.proofs.Moving.{Member-single}
 use Rattle.cc_core.proofs.SubcapturingLemmas.{subcaptures_reflexive}
 use Rattle.cc_sets.specs.Examples.{number, nothing, printing, first, with_console}

@@ -21,10 +21,9 @@ use Rattle.cc_core.specs.Subcapturing.{SubcapturesSet}
 use Rattle.cc_core.specs.Typing.{IsNoteOf, HasNoCap}
 use Rattle.cc_core.proofs.SubcapturingLemmas.{subcaptures_reflexive, subcaptures_transitive}
 use Rattle.cc_core.proofs.Moving.{flat_image-of_single, Member-single, Member-single_itself}
-use Rattle.cc_core.proofs.FreeActions.{Sends, free-putting, free-putting_set, free-putting_shape, putting_shape_set}
+use Rattle.cc_core.proofs.FreeActions.{Sends, free-putting, free-putting_shape, putting_shape_set}
 use Rattle.cc_core.proofs.Levels.{free_term-level}
 use Rattle.cc_core.proofs.Renaming.{freely-IsFree, freely-Sends, overridden-below}
-use Rattle.cc_core.proofs.FreshOpenings.{fresh_opening_term}
 use Rattle.cc_core.proofs.KindFacts.{IsKindedSet, IsKinded, IsKindedTerm}
 use Rattle.cc_core.proofs.KindedActions.{IsKindedTerm-act, IsKindedTerm-meets}
 use Rattle.cc_meta_typing.proofs.DirectSubtyping.{SubtypesDirectly, alike, direct_transitive}
@@ -32,6 +31,8 @@ use Rattle.cc_core.proofs.CapturedActions.{captured_variables-act, freely-Passes
 use Rattle.cc_meta_typing.proofs.FormedContexts.{IsKindedEntry, IsKindedContext, length-kinds_of, kinded_single, entry_kinded, kinds_below}
 use Rattle.cc_meta_typing.proofs.FreeMaps.{as_is, Maps, maps_kinds, map_kinded, map_kinded_at0, map_kinded_set, map_level, map_element, map_subcaptures, agree_shape, agree_set, maps_under, opened_map, opened_map_set, map_subtypes}
 use Rattle.cc_meta_typing.proofs.InternalTyping.{HasVariable, TypedExactly, exact_variable, exact_literal, exact_function, exact_type_function, exact_application, exact_type_application, exact_box, exact_unboxing, exact_let, exact_primitive, exact_conditional, exact_repetition, exact_operation, exact_operation_alone, exact_boundary, exact_leave, Typed, widened, exactly_kinded}
+use Rattle.cc_core.proofs.FreshOpenings.{fresh_opening}
+use Rattle.cc_core.proofs.Sorts.{SetSort, ShapeSort, TermSort}
 
 -- equal terms have the types of each other
 pub typed_is : {g : Context} {t t' : Term} {s s' : Shape} {c c' : Set} → t ≡ t' → s ≡ s' → c ≡ c' → Typed g t s c → Typed g t' s' c'
@@ -135,7 +136,7 @@ module _ (g d : Context) (to : ℕ → ℕ) (shapes : ℕ → Shape) (maps : Map
   pub opened_term_map : (k : Kind) (t : Term) → IsKindedTerm (kinds_of g) (k ∷ []) t
       → act_term (freely (overridden to (length g) (length d)) (overridden shapes (length g) (TypeVariable (Free (length d))))) 0 (opened_term (length g) t) ≡ opened_term (length d) (act_term (freely to shapes) 1 t)
   opened_term_map k t h =
-      fresh_opening_term (length g) (length d) to shapes maps.closed 0 t (IsKindedTerm-meets (kinds_of g) (k ∷ []) (positions_below (length g)) (kinds_below (length g) (kinds_of g) (k ∷ []) (length-kinds_of g)) [] t h)
+      fresh_opening (length g) (length d) to shapes maps.closed TermSort 0 t (IsKindedTerm-meets (kinds_of g) (k ∷ []) (positions_below (length g)) (kinds_below (length g) (kinds_of g) (k ∷ []) (length-kinds_of g)) [] t h)
       ∙ ap (opened_term (length d)) (free_term-level (freely to shapes) (freely-IsFree to shapes maps.closed) 0 1 t)
 
 mutual
@@ -172,14 +173,14 @@ mutual
       let sends = sends_at g d to shapes maps formed argument in
       exactly_below
       (exactly_is
-      (ap (act (putting (renamed_variable to w)) 0) (map_level g d to shapes maps 1 0 gives) ∙ sym (free-putting (freely to shapes) f w (renamed_variable to w) sends 0 gives))
-      (sym (free-putting_set (freely to shapes) f w (renamed_variable to w) sends 0 e))
+      (ap (act (putting (renamed_variable to w)) 0) (map_level g d to shapes maps 1 0 gives) ∙ sym (free-putting (freely to shapes) f w (renamed_variable to w) sends ShapeSort 0 gives))
+      (sym (free-putting (freely to shapes) f w (renamed_variable to w) sends SetSort 0 e))
       (exact_application (map_variable g d to shapes maps formed function) (map_variable g d to shapes maps formed argument)))
   map_exactly (exact_type_application {g = g} {function = v} {bound = bound} {gives = gives} {argument = r} {e = e} function below) d to shapes maps formed k =
       let f = freely-IsFree to shapes maps.closed in
       exactly_below
       (exactly_is
-      (ap (act (putting_shape (act (freely to shapes) 0 r)) 0) (map_level g d to shapes maps 1 0 gives) ∙ sym (free-putting_shape (freely to shapes) f r 0 gives))
+      (ap (act (putting_shape (act (freely to shapes) 0 r)) 0) (map_level g d to shapes maps 1 0 gives) ∙ sym (free-putting_shape (freely to shapes) f r ShapeSort 0 gives))
       (putting_shape_set (act (freely to shapes) 0 r) 0 (act_set (freely to shapes) 0 e) ∙ ap (act_set (freely to shapes) 0) (sym (putting_shape_set r 0 e)))
       (exact_type_application (map_variable g d to shapes maps formed function) (map_subtypes below d to shapes maps formed k.1 function.kinded.0)))
   map_exactly (exact_box {g = g} {c = c} has none) d to shapes maps formed k =

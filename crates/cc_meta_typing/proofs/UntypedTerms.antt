@@ -1,29 +1,24 @@
 -- Terms that have no type, by the inversion of each form and by what is below a set.
-use Rattle.std.proofs.Common.{◌≡◌, ◌⊎◌, ℕ, zero, suc, false, [], ◌∷◌, length, Option, Some, inl, inr, refl, sym, ap, ◌∙◌, subst}
+use Rattle.std.proofs.Common.{◌≡◌, ◌⊎◌, ℕ, zero, [], ◌∷◌, length, Some, inl, inr, refl, sym, ap, ◌∙◌, subst}
 use Rattle.cc_base.specs.declared.literal.Base.TheVariants as bases
-use Rattle.cc_capture.specs.declared.var.Var.{Var}
-use Rattle.cc_capture.specs.declared.var.Var.TheVariants.{Bound, Free}
+use Rattle.cc_capture.specs.declared.var.Var.TheVariants.{Free}
 use Rattle.cc_capture.specs.declared.var.Elem.{Elem}
 use Rattle.cc_capture.specs.declared.var.Elem.TheVariants.{Var as Variable, Cap}
-use Rattle.cc_capture.specs.Elements.{element_order}
-use Rattle.cc_capture.specs.Rising.{placed}
-use Rattle.cc_capture.specs.Sets.{Set, Member, empty, insert, from_list, flat_image, union}
+use Rattle.cc_capture.specs.Sets.{Set, Member, empty, union}
 use Rattle.cc_capture.proofs.Membership.{Member-empty, Member-union, Member-flat_image}
-use Rattle.cc_core.specs.Shapes.{Shape, BaseShape, AnyShape, BoxShape, ExitShape, CapturingType, capturing}
-use Rattle.cc_core.specs.Terms.{Absent, Written, Term, VariableTerm, FunctionTerm, BoxTerm, Unboxing}
+use Rattle.cc_core.specs.Shapes.{Shape, BaseShape, AnyShape, BoxShape, ExitShape, capturing}
 use Rattle.cc_core.specs.Contexts.{Bind, TermEntry, Context, lookup}
 use Rattle.cc_core.specs.Substitution.{single}
 use Rattle.cc_core.specs.Occurrences.{Meets, MeetsInSet, without}
-use Rattle.cc_core.specs.Captured.{outside, without_binder, captured_variables, variable_set}
+use Rattle.cc_core.specs.Captured.{outside, without_binder}
 use Rattle.cc_core.specs.Subcapturing.{Subcaptures, SubcapturesSet}
 use Rattle.cc_core.specs.Subtyping.{Subtypes}
-use Rattle.cc_core.specs.Typing.{HasType}
 use Rattle.cc_core.proofs.Lookups.{lookup-newest, lookup-older}
 use Rattle.cc_core.proofs.Moving.{Member-single_itself}
 use Rattle.cc_core.proofs.SubcapturingLemmas.{subcaptures_above, subcaptures_longer, subcaptures_reflexive, subcaptures_transitive, subcaptures_variable, cap_below}
-use Rattle.cc_sets.specs.Examples.{printing, first, with_console}
+use Rattle.cc_sets.specs.Examples.{first, with_console}
 use Rattle.cc_sets.specs.Comparison.{comparison, by_form}
-use Rattle.cc_meta_typing.specs.Examples.{PrinterIsNotPure, BoxOfCapIsNotOpened, FunctionsDoNotTakeExitsOut, BoxesDoNotTakeExitsOut, NotesAreHeeded, acting, box_and_call}
+use Rattle.cc_meta_typing.specs.Examples.{PrinterIsNotPure, BoxOfCapIsNotOpened, FunctionsDoNotTakeExitsOut, BoxesDoNotTakeExitsOut, NotesAreHeeded, acting}
 use Rattle.cc_meta_typing.proofs.ComparisonLemmas.{mismatch_not_below}
 use Rattle.cc_meta_typing.proofs.DirectSubtyping.{SubtypesDirectly, alike, under_any, through_bound, functions, type_functions, boxes, direct_from}
 use Rattle.cc_meta_typing.proofs.Inversions.{variables_invert, literals_invert, function_bodies_invert, box_contents_invert, unboxings_invert, lets_invert, boundaries_invert}

@@ -1,7 +1,7 @@
 use Rattle.cc_core.proofs.CapturedActions.{captured_variables-act, captured_variables-putting_shape, closing-PassesBinders, filling_in-PassesBinders, freely-PassesBinders, putting-PassesBinders, renaming-PassesBinders}
 use Rattle.cc_core.proofs.CapturedKinds.{opened_set-members, opened_set-outside}
-use Rattle.cc_core.proofs.TermWellFormedness.{captured_variables-well_formed}
 use Rattle.cc_core.specs.Substitution.{closing, filling_in, freely, opening, renaming}
+use Rattle.cc_core.proofs.WellFormedness.{captured_variables-well_formed}
 use Rattle.cc_core.proofs.laws.captured_variables.Goals as goal
 
 pub returns : goal.returns
