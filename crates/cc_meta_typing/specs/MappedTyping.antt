@@ -8,7 +8,7 @@ use Rattle.cc_core.specs.Traversal.{act_type, act_term}
 use Rattle.cc_core.specs.Substitution.{freely, renaming}
 use Rattle.cc_core.specs.WellFormed.{IsWellFormedContext}
 use Rattle.cc_core.specs.Typing.{HasType}
-use Rattle.cc_meta_typing.specs.ContextMaps.{mapped_entry, IsContextMap}
+use Rattle.cc_meta_typing.specs.ContextMaps.{RenamesEntries, IsContextMap}
 
 -- What is typed becomes what is typed in the well-formed context that the map goes into.
 abbrev pub TypingAlongMaps : Type 0
@@ -22,7 +22,7 @@ TypingAlongMaps =
 abbrev pub TypingRenames : Type 0
 TypingRenames =
     (source target : Context) (to : ℕ → ℕ)
-    → ((position : ℕ) (entry : Bind) → lookup source position ≡ Some entry → lookup target (to position) ≡ Some (mapped_entry to (λ p. TypeVariable (Free (to p))) entry))
+    → RenamesEntries source target to
     → IsWellFormedContext target
     → (term : Term) (type : CapturingType) → HasType source term type
     → HasType target (act_term (renaming to) zero term) (act_type (renaming to) zero type)

@@ -6,7 +6,8 @@ use Rattle.cc_core.specs.Terms.{Term, VariableTerm}
 use Rattle.cc_core.specs.Contexts.{TypeEntry, Context, entry_of}
 use Rattle.cc_core.specs.Traversal.{act_type, act_term}
 use Rattle.cc_core.specs.Substitution.{putting, putting_shape, opened_type, opened_term}
-use Rattle.cc_core.specs.WellFormed.{TermKind, TypeKind, kinds_of, is_well_formed_term, is_well_formed_type, IsWellFormedContext, IsWellFormedShape}
+use Rattle.cc_core.specs.WellFormed.{TermKind, TypeKind, kinds_of, is_well_formed_term, is_well_formed_type}
+use Rattle.cc_core.specs.WellFormed.{IsWellFormedContext, IsWellFormedShape}
 use Rattle.cc_core.specs.Captured.{is_value, captured_variables}
 use Rattle.cc_core.specs.Subcapturing.{SubcapturesSet}
 use Rattle.cc_core.specs.Subtyping.{Subtypes, SubtypesType}

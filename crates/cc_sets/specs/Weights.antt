@@ -1,18 +1,19 @@
 -- How many steps a comparison takes at most.
 use Rattle.std.specs.Prelude.{◌≡◌, ℕ, nat_eq, zero, suc, ◌+◌, List, [], ◌∷◌, length, if◌then◌else◌}
 use Rattle.cc_capture.specs.declared.var.Var.TheVariants.{Bound, Free}
-use Rattle.cc_core.specs.Shapes.{Shape, BaseShape, AnyShape, TypeVariable, FunctionShape, TypeFunctionShape, BoxShape, ExitShape}
+use Rattle.cc_core.specs.Shapes.{Shape, BaseShape, AnyShape, TypeVariable, FunctionShape, TypeFunctionShape, BoxShape}
+use Rattle.cc_core.specs.Shapes.{ExitShape}
 use Rattle.cc_core.specs.Contexts.{Bind, TermEntry, TypeEntry, Context}
 use Rattle.cc_sets.specs.Comparison.{Unfinished, comparison}
 
--- the weight of a variable's bound, where the weights of the bounds of the binders passed are known, the innermost first
+-- the weight of the bound of a binder, where the weights of those passed are given, the innermost first
 abbrev pub weight_of_index : List ℕ → ℕ → ℕ
 weight_of_index [] index = 0
 weight_of_index (weight ∷ weights) zero = weight
 weight_of_index (weight ∷ weights) (suc index) = weight_of_index weights index
 
--- The number of forms of a shape, where a type variable counts one more than its bound. The weights of the bounds of free
--- positions and of the binders passed are given; a variable of terms has none, and weighs nothing.
+-- The number of forms of a shape, where a type variable counts one more than its bound. The weights of the bounds of
+-- free positions and of the binders passed are given; a variable of terms has no bound, and its weight is zero.
 abbrev pub weight : (ℕ → ℕ) → List ℕ → Shape → ℕ
 weight free passed (BaseShape base) = 1
 weight free passed AnyShape = 1
