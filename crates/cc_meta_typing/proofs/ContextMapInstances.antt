@@ -1,4 +1,5 @@
 -- The maps of contexts that the rules use.
+use Rattle.cc_meta_typing.proofs.FormedContexts.{opened_kinded}
 use Rattle.std.proofs.Common.{◌≡◌, ℕ, ◌<◌, true, false, cond, List, [], ◌∷◌, ◌++◌, length, Some, refl, sym, ap, ◌∙◌, subst, inl, inr}
 use Rattle.std.specs.Prelude.{nat_eq}
 use Rattle.cc_capture.specs.declared.var.Var.{Var}
@@ -26,7 +27,6 @@ use Rattle.cc_core.proofs.SubcapturingLemmas.{subcaptures_reflexive}
 use Rattle.cc_meta_typing.specs.ContextMaps.{Extends, unchanged, added, mapped, mapped_set, mapped_entry, IsContextMap, MapsEntries}
 use Rattle.cc_meta_typing.specs.ContextMapLaws.{itself}
 use Rattle.cc_meta_typing.proofs.Extensions.{extends_more, lookup-extends, subcaptures_extends, subcaptures_set_extends}
-use Rattle.cc_meta_typing.proofs.KindedContexts.{opened_kinded}
 use Rattle.cc_meta_typing.proofs.DirectSubtyping.{Narrows, narrows_under, narrows_newest, direct_narrows, direct_from, direct_to}
 use Rattle.cc_meta_typing.proofs.ContextMapping.{positions_of, positions_of_set, mapped_subcaptures, mapped_subtypes}
 use Rattle.cc_core.proofs.Sorts.{SetSort, ShapeSort}
@@ -354,7 +354,7 @@ puts_variables context s s' c c' y left right formed at_y below l r body =
     (variable_in_body context y left.shape l'.0) (variable_in_body_set context y left.set l'.1) (variable_in_body context y right.shape r'.0) (variable_in_body_set context y right.set r'.1) (
       mapped_subcaptures (entry ∷ context) context to shapes map (opened_set n left.set) (opened_set n right.set) body.0,
       mapped_subtypes (entry ∷ context) context to shapes map (IsKindedContext-from (entry ∷ context) formed) (opened n left.shape) (opened n right.shape)
-          (opened_kinded context entry left.shape l'.0) (opened_kinded context entry right.shape r'.0) body.1,
+          (opened_kinded ShapeSort context entry left.shape l'.0) (opened_kinded ShapeSort context entry right.shape r'.0) body.1,
     )
 
 pub puts_shapes : (context : Context) (bound shape : Shape) (left right : CapturingType)
@@ -374,7 +374,7 @@ puts_shapes context bound shape left right formed known below l r body =
     (shape_in_body context shape left.shape l'.0) (shape_in_body_set context shape left.set l'.1) (shape_in_body context shape right.shape r'.0) (shape_in_body_set context shape right.set r'.1) (
       mapped_subcaptures (entry ∷ context) context to shapes map (opened_set n left.set) (opened_set n right.set) body.0,
       mapped_subtypes (entry ∷ context) context to shapes map (IsKindedContext-from (entry ∷ context) formed) (opened n left.shape) (opened n right.shape)
-          (opened_kinded context entry left.shape l'.0) (opened_kinded context entry right.shape r'.0) body.1,
+          (opened_kinded ShapeSort context entry left.shape l'.0) (opened_kinded ShapeSort context entry right.shape r'.0) body.1,
     )
 
 pub subtypes_rename : (source target : Context) (to : ℕ → ℕ) (left right : Shape)

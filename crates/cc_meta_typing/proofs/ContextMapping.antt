@@ -1,4 +1,5 @@
 -- Subcapturing and subtyping are kept along a map of contexts. Under a binder the map goes on to the binder itself.
+use Rattle.cc_meta_typing.proofs.FormedContexts.{opened_kinded}
 use Rattle.std.proofs.Common.{◌≡◌, ℕ, true, false, cond, List, [], ◌∷◌, length, Some, sym, ap, ◌∙◌, subst, inl, inr}
 use Rattle.std.specs.Prelude.{nat_eq}
 use Rattle.cc_capture.specs.declared.var.Var.TheVariants.{Free}
@@ -26,7 +27,6 @@ use Rattle.cc_core.proofs.SubcapturingContexts.{IsKindedEntry, IsKindedContext, 
 use Rattle.cc_core.proofs.SubcapturingLemmas.{subcaptures_above, subcaptures_reflexive}
 use Rattle.cc_meta_typing.specs.ContextMaps.{Extends, unchanged, mapped, mapped_set, mapped_entry, IsContextMap}
 use Rattle.cc_meta_typing.proofs.Extensions.{extends_older, lookup-extends}
-use Rattle.cc_meta_typing.proofs.KindedContexts.{opened_kinded}
 use Rattle.cc_meta_typing.proofs.DirectSubtyping.{SubtypesDirectly, alike, under_any, through_bound, functions, type_functions, boxes, direct_transitive, direct_from, direct_to}
 use Rattle.cc_core.proofs.Sorts.{SetSort, ShapeSort}
 
@@ -222,7 +222,7 @@ mapped_directly {source = source} (functions {takes = t} {takes' = t'} {gives = 
     let shapes' : ℕ → Shape = shapes_under source target shapes in
     let inside : Context = mapped_entry to shapes entry ∷ target in
     let results' = mapped_subcaptures (entry ∷ source) inside to' shapes' under (opened_set (length source) e) (opened_set (length source) e') results in
-    let body' = mapped_directly body inside to' shapes' under (kinded, g) (opened_kinded source entry u l.2) (opened_kinded source entry u' r.2) in
+    let body' = mapped_directly body inside to' shapes' under (kinded, g) (opened_kinded ShapeSort source entry u l.2) (opened_kinded ShapeSort source entry u' r.2) in
     functions (mapped_subcaptures source target to shapes map c' c sets) (mapped_directly takes target to shapes map g r.0 l.0)
     (subst (λ x. SubcapturesSet inside x (opened_set (length target) (act_set (freely to shapes) 1 e'))) (body_set_under source target to shapes map (TermKind ∷ []) e l.3)
     (subst (λ x. SubcapturesSet inside (mapped_set to' shapes' (opened_set (length source) e)) x) (body_set_under source target to shapes map (TermKind ∷ []) e' r.3) results'))
@@ -235,7 +235,7 @@ mapped_directly {source = source} (type_functions {bound = bound} {gives = u} {g
     let shapes' : ℕ → Shape = shapes_under source target shapes in
     let inside : Context = mapped_entry to shapes entry ∷ target in
     let results' = mapped_subcaptures (entry ∷ source) inside to' shapes' under (opened_set (length source) e) (opened_set (length source) e') results in
-    let body' = mapped_directly body inside to' shapes' under (l.0, g) (opened_kinded source entry u l.1) (opened_kinded source entry u' r.1) in
+    let body' = mapped_directly body inside to' shapes' under (l.0, g) (opened_kinded ShapeSort source entry u l.1) (opened_kinded ShapeSort source entry u' r.1) in
     type_functions
     (subst (λ x. SubcapturesSet inside x (opened_set (length target) (act_set (freely to shapes) 1 e'))) (body_set_under source target to shapes map (TypeKind ∷ []) e l.2)
     (subst (λ x. SubcapturesSet inside (mapped_set to' shapes' (opened_set (length source) e)) x) (body_set_under source target to shapes map (TypeKind ∷ []) e' r.2) results'))

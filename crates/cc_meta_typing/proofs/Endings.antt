@@ -1,4 +1,6 @@
 -- Each comparison of well-formed shapes ends, since weights fall.
+use Rattle.cc_meta_typing.proofs.FormedContexts.{opened_kinded}
+use Rattle.cc_core.proofs.Sorts.{ShapeSort}
 use Rattle.std.proofs.Common.{◌≡◌, ℕ, zero, suc, ◌+◌, ◌<◌, Bool, true, false, cond, List, [], ◌∷◌, ◌++◌, length, Option, Some, None, refl, sym, ap, ◌∙◌, subst, inl, inr, ◌⊎◌, arith}
 use Rattle.std.specs.Prelude.{nat_eq}
 use Rattle.std.proofs.lemmas.Bool.{and_parts, eqb-true, eq-eqb}
@@ -16,7 +18,6 @@ use Rattle.cc_core.specs.Comparison.{same_shape}
 use Rattle.cc_sets.specs.Comparison.{Demand, Comparison, Unfinished, Mismatch, Matches, and_then, types_compared, bound_in, bound_compared, function_compared, type_function_compared, box_compared, is_any, by_form, comparison, HasDemands, IsMismatch, TypesHaveDemands, IsTypeMismatch}
 use Rattle.cc_sets.specs.Weights.{weight_of_index, weight, entry_weight, weight_at, weight_in, IsEnough, enough_steps}
 use Rattle.cc_sets.proofs.ShapeEquality.{same_shape-true}
-use Rattle.cc_meta_typing.proofs.KindedContexts.{opened_kinded}
 
 -- the two cases of a test
 cond_true : {A : Type 0} (b : Bool) (x y : A) → b ≡ true → cond b x y ≡ x
@@ -188,7 +189,7 @@ ends_function k ends context takes c gives d (FunctionShape takes' c' gives' d')
     ended_then _ _
     (ended_types k context (capturing takes' c') (capturing takes c) (ends context takes' takes formed r.0 l.0 (omega arith)))
     (ended_types k under (opened_type (length context) (capturing gives d)) (opened_type (length context) (capturing gives' d'))
-    (ends under one two formed' (opened_kinded context entry gives l.2) (opened_kinded context entry gives' r.2) (omega arith)))
+    (ends under one two formed' (opened_kinded ShapeSort context entry gives l.2) (opened_kinded ShapeSort context entry gives' r.2) (omega arith)))
 ends_function k ends context takes c gives d _ formed l r small = λ e. cc
 
 ends_type_function : (k : ℕ) → EndsBelow k → (context : Context) (bound gives : Shape) (d : Set) (right : Shape)
@@ -211,7 +212,7 @@ ends_type_function k ends context bound gives d (TypeFunctionShape bound' gives'
           let b : weight (weight_at context) (weight_in context bound' ∷ []) gives' ≡ weight (weight_at context) (weight_in context bound ∷ []) gives' =
           ap (λ s. weight (weight_at context) (weight_in context s ∷ []) gives') (sym is) in
           ended_types k under (opened_type (length context) (capturing gives d)) (opened_type (length context) (capturing gives' d'))
-          (ends under one two formed' (opened_kinded context entry gives l.1) (opened_kinded context entry gives' r.1) (omega arith))
+          (ends under one two formed' (opened_kinded ShapeSort context entry gives l.1) (opened_kinded ShapeSort context entry gives' r.1) (omega arith))
       | false ↦ λ _ e. cc
     ] refl
 ends_type_function k ends context bound gives d _ formed l r small = λ e. cc

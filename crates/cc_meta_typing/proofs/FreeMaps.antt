@@ -1,5 +1,6 @@
 -- Maps of contexts: variables of terms go to variables, and type variables to shapes. Subcapturing and subtyping go along
 -- with them, and weakening, substitution and narrowing are maps.
+use Rattle.cc_core.proofs.SubcapturingContexts.{IsKinded-added, IsKindedContext, IsKindedEntry, entry_kinded, entry_of_term, entry_of_type, kind_of_entry}
 use Rattle.std.proofs.Common.{◌≡◌, ℕ, zero, suc, ◌<◌, true, false, cond, List, [], ◌∷◌, ◌++◌, length, Some, inl, inr, ◌⊎◌, refl, sym, ap, ◌∙◌, subst}
 use Rattle.std.specs.Prelude.{nat_eq, slice_get}
 use Rattle.std.proofs.lemmas.Bool.{eqb-true}
@@ -28,7 +29,7 @@ use Rattle.cc_core.proofs.FreshOpenings.{fresh_opening, fresh_shape}
 use Rattle.cc_core.proofs.KindFacts.{IsOfKind, IsKindedElement, IsKindedSet, IsKinded, IsKindedTerm}
 use Rattle.cc_core.proofs.KindedActions.{KeepsKinds, IsKindedSet-act, IsKinded-act, IsKindedSet-meets, IsKinded-meets, IsKindedTerm-meets}
 use Rattle.cc_meta_typing.proofs.DirectSubtyping.{SubtypesDirectly, alike, under_any, through_bound, functions, type_functions, boxes, direct_transitive}
-use Rattle.cc_meta_typing.proofs.FormedContexts.{IsKindedEntry, IsKindedContext, length-kinds_of, kinded_single, IsKinded-added, entry_kinded, kind_of_entry, term_entry_at, type_entry_at, kinds_below, kinds_bound, kinds_under_type, IsKinded-opened, some_is}
+use Rattle.cc_meta_typing.proofs.FormedContexts.{length-kinds_of, kinded_single, kinds_below, kinds_bound, kinds_under_type, some_is, HasKinds-opened}
 use Rattle.cc_core.proofs.Sorts.{SetSort, ShapeSort, TermSort}
 
 -- a context with entries added
@@ -115,7 +116,7 @@ module _ (g d : Context) (to : ℕ → ℕ) (shapes : ℕ → Shape) (maps : Map
   mapped_variable : (passed : List Kind) (v : Var) → IsOfKind (kinds_of g) passed v TermKind → IsOfKind (kinds_of d) passed (renamed_variable to v) TermKind
   mapped_variable passed (Bound i) h = h
   mapped_variable passed (Free p) h =
-      let found = term_entry_at g p h in
+      let found = entry_of_term g p h in
       let entry = maps.entries p found.0 found.1 found.2 in
       kind_of_entry d (to p) (TermEntry entry.shape entry.set) entry.there
 
@@ -127,7 +128,7 @@ module _ (g d : Context) (to : ℕ → ℕ) (shapes : ℕ → Shape) (maps : Map
   mapped_type_variable : (passed : List Kind) (v : Var) → IsOfKind (kinds_of g) passed v TypeKind → IsKinded (kinds_of d) passed (free_shape shapes v)
   mapped_type_variable passed (Bound i) h = h
   mapped_type_variable passed (Free p) h =
-      let found = type_entry_at g p h in
+      let found = entry_of_type g p h in
       IsKinded-deeper (kinds_of d) passed (shapes p) (maps.kinded p found.0 found.1)
 
   pub maps_kinds : (beyond : List Kind) → KeepsKinds (freely to shapes) (kinds_of g) beyond (kinds_of d) beyond
@@ -318,7 +319,7 @@ map_subtypes (functions {context = g} {takes = t} {takes' = t'} {gives = u} {giv
     let opens_set = opened_map_set g d to shapes maps formed (TermEntry t' c') entry TermKind in
     let len = length-kinds_of g in
     let body' : SubtypesDirectly d' (act (freely to' shapes') 0 (opened (length g) u)) (act (freely to' shapes') 0 (opened (length g) u')) =
-    map_subtypes body d' to' shapes' under (entry, formed) (IsKinded-opened (length g) TermKind (kinds_of g) len u kl.2) (IsKinded-opened (length g) TermKind (kinds_of g) len u' kr.2) in
+    map_subtypes body d' to' shapes' under (entry, formed) (HasKinds-opened (length g) TermKind (kinds_of g) len ShapeSort u kl.2) (HasKinds-opened (length g) TermKind (kinds_of g) len ShapeSort u' kr.2) in
     let results' = map_subcaptures (TermEntry t' c' ∷ g) d' to' shapes' under (opened_set (length g) e) (opened_set (length g) e') results in
     functions (map_subcaptures g d to shapes maps c' c sets) (map_subtypes takes d to shapes maps formed kr.0 kl.0)
     (subst (λ x. SubcapturesSet d' x (opened_set (length d) (act_set (freely to shapes) 1 e'))) (opens_set e kl.3)
@@ -335,7 +336,7 @@ map_subtypes (type_functions {context = g} {bound = b} {gives = u} {gives' = u'}
     let opens_set = opened_map_set g d to shapes maps formed (TypeEntry b) entry TypeKind in
     let len = length-kinds_of g in
     let body' : SubtypesDirectly d' (act (freely to' shapes') 0 (opened (length g) u)) (act (freely to' shapes') 0 (opened (length g) u')) =
-    map_subtypes body d' to' shapes' under (entry, formed) (IsKinded-opened (length g) TypeKind (kinds_of g) len u kl.1) (IsKinded-opened (length g) TypeKind (kinds_of g) len u' kr.1) in
+    map_subtypes body d' to' shapes' under (entry, formed) (HasKinds-opened (length g) TypeKind (kinds_of g) len ShapeSort u kl.1) (HasKinds-opened (length g) TypeKind (kinds_of g) len ShapeSort u' kr.1) in
     let results' = map_subcaptures (TypeEntry b ∷ g) d' to' shapes' under (opened_set (length g) e) (opened_set (length g) e') results in
     type_functions
     (subst (λ x. SubcapturesSet d' x (opened_set (length d) (act_set (freely to shapes) 1 e'))) (opens_set e kl.2)

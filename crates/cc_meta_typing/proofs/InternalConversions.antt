@@ -1,4 +1,5 @@
 -- Typing by the form of the term is typing.
+use Rattle.cc_core.proofs.SubcapturingContexts.{IsKindedContext, IsKindedContext-from}
 use Rattle.std.proofs.Common.{◌≡◌, ◌≢◌, ℕ, List, [], ◌∷◌, length, refl, sym, subst, arith}
 use Rattle.std.proofs.lemmas.Bool.{and_parts, and_from}
 use Rattle.cc_capture.specs.declared.var.Var.{Var}
@@ -18,11 +19,11 @@ use Rattle.cc_core.proofs.Conditions.{gives_here, Meets-here, MeetsInSet-here}
 use Rattle.cc_core.proofs.KindFacts.{IsKindedSet, IsKinded, IsKindedTerm, IsKinded-from, IsKinded-test, IsKindedSet-from, IsKindedSet-test, IsKindedTerm-from, IsKindedTerm-test}
 use Rattle.cc_core.proofs.KindedActions.{IsKinded-meets, IsKindedSet-meets}
 use Rattle.cc_meta_typing.proofs.DirectSubtyping.{direct_from, direct_to}
-use Rattle.cc_meta_typing.proofs.FormedContexts.{IsKindedContext, IsKindedContext-from, IsKindedContext-test, length-kinds_of, kinded_single, kinds_below, kinds_bound, IsKindedTerm-opened, IsKinded-closed, IsKindedSet-closed, IsKinded-without, IsKindedSet-without}
+use Rattle.cc_meta_typing.proofs.FormedContexts.{IsKindedContext-test, length-kinds_of, kinded_single, kinds_below, kinds_bound, IsKinded-without, IsKindedSet-without, HasKinds-closed, HasKinds-opened}
 use Rattle.cc_meta_typing.proofs.InternalTyping.{HasVariable, TypedExactly, exact_variable, exact_literal, exact_function, exact_type_function, exact_application, exact_type_application, exact_box, exact_unboxing, exact_let, exact_primitive, exact_conditional, exact_repetition, exact_operation, exact_operation_alone, exact_boundary, exact_leave, Typed, widened}
 use Rattle.cc_meta_typing.proofs.TypingMaps.{typed_is, typed_kinded, typed_kinded_set, typed_wider, typed_exactly}
 use Rattle.cc_meta_typing.proofs.TypingLemmas.{variable_typed}
-use Rattle.cc_core.proofs.Sorts.{SetSort, ShapeSort}
+use Rattle.cc_core.proofs.Sorts.{SetSort, ShapeSort, TermSort}
 
 pub formed_type_parts : (g : Context) (s : Shape) (c : Set) → IsWellFormedType g (capturing s c) → IsKinded (kinds_of g) [] s × IsKindedSet (kinds_of g) [] c
 formed_type_parts g s c h =
@@ -60,18 +61,18 @@ internal_from t-lit formed k = typed_exactly formed k exact_literal
 internal_from (t-abs {context = g} {takes = takes} {gives = gives} {c = c} {e = e} {body = body} wf typing) formed k =
     let n : ℕ = length g in
     let len = length-kinds_of g in
-    let typed = internal_from typing ((k.0, k.1), formed) (IsKindedTerm-opened n TermKind (kinds_of g) len body k.2) in
+    let typed = internal_from typing ((k.0, k.1), formed) (HasKinds-opened n TermKind (kinds_of g) len TermSort body k.2) in
     let g' : Context = TermEntry takes c ∷ g in
     typed_exactly formed k
-    (exact_function (IsKinded-closed n TermKind (kinds_of g) len gives (typed_kinded typed)) (IsKindedSet-closed n TermKind (kinds_of g) len e (typed_kinded_set typed))
+    (exact_function (HasKinds-closed n TermKind (kinds_of g) len ShapeSort gives (typed_kinded typed)) (HasKinds-closed n TermKind (kinds_of g) len SetSort e (typed_kinded_set typed))
     (typed_is refl (sym (opened-closed ShapeSort n 0 gives (closed_in g' gives (typed_kinded typed)))) (sym (opened-closed SetSort n 0 e (closed_in_set g' e (typed_kinded_set typed)))) typed))
 internal_from (t-tabs {context = g} {bound = bound} {gives = gives} {e = e} {body = body} wf typing) formed k =
     let n : ℕ = length g in
     let len = length-kinds_of g in
-    let typed = internal_from typing (k.0, formed) (IsKindedTerm-opened n TypeKind (kinds_of g) len body k.1) in
+    let typed = internal_from typing (k.0, formed) (HasKinds-opened n TypeKind (kinds_of g) len TermSort body k.1) in
     let g' : Context = TypeEntry bound ∷ g in
     typed_exactly formed k
-    (exact_type_function (IsKinded-closed n TypeKind (kinds_of g) len gives (typed_kinded typed)) (IsKindedSet-closed n TypeKind (kinds_of g) len e (typed_kinded_set typed))
+    (exact_type_function (HasKinds-closed n TypeKind (kinds_of g) len ShapeSort gives (typed_kinded typed)) (HasKinds-closed n TypeKind (kinds_of g) len SetSort e (typed_kinded_set typed))
     (typed_is refl (sym (opened-closed ShapeSort n 0 gives (closed_in g' gives (typed_kinded typed)))) (sym (opened-closed SetSort n 0 e (closed_in_set g' e (typed_kinded_set typed)))) typed))
 internal_from (t-app function argument) formed k =
     typed_exactly formed k (exact_application (variable_typed (internal_from function formed k.0)) (variable_typed (internal_from argument formed k.1)))
@@ -83,7 +84,7 @@ internal_from (t-let {context = g} {note = note} {right = right} {body = body} {
     let n : ℕ = length g in
     let len = length-kinds_of g in
     let typed = internal_from typing formed k.1 in
-    let typed_body = internal_from typing_body ((typed_kinded typed, typed_kinded_set typed), formed) (IsKindedTerm-opened n TermKind (kinds_of g) len body k.2) in
+    let typed_body = internal_from typing_body ((typed_kinded typed, typed_kinded_set typed), formed) (HasKinds-opened n TermKind (kinds_of g) len TermSort body k.2) in
     typed_exactly formed k
     (exact_let typed is typed_body
     (IsKinded-without n TermKind (kinds_of g) len [] 0 s (typed_kinded typed_body) ns)
@@ -95,7 +96,7 @@ internal_from (t-repeat count function) formed k = typed_exactly formed k (exact
 internal_from (t-op receiver taken argument) formed k = typed_exactly formed k (exact_operation (variable_typed (internal_from receiver formed k.0)) taken (variable_typed (internal_from argument formed k.1)))
 internal_from (t-op-alone receiver taken) formed k = typed_exactly formed k (exact_operation_alone (variable_typed (internal_from receiver formed k.0)) taken)
 internal_from (t-boundary {context = g} {body = body} wf typing) formed k =
-    typed_exactly formed k (exact_boundary (internal_from typing ((k.0, kinded_single (kinds_of g) [] Cap tt), formed) (IsKindedTerm-opened (length g) TermKind (kinds_of g) (length-kinds_of g) body k.1)))
+    typed_exactly formed k (exact_boundary (internal_from typing ((k.0, kinded_single (kinds_of g) [] Cap tt), formed) (HasKinds-opened (length g) TermKind (kinds_of g) (length-kinds_of g) TermSort body k.1)))
 internal_from (t-exit exit value wf) formed k = typed_exactly formed k (exact_leave (variable_typed (internal_from exit formed k.2)) (variable_typed (internal_from value formed k.3)))
 internal_from (t-sub {context = g} {shape' = s'} {c' = c'} typing captures below wf) formed k =
     let parts = formed_type_parts g s' c' wf in

@@ -1,4 +1,6 @@
 -- Typing by the form of the term, where each term's type is widened exactly once. It is the same relation as typing.
+use Rattle.cc_core.proofs.SubcapturingContexts.{IsKindedContext, entry_kinded}
+use Rattle.cc_core.proofs.Sorts.{SetSort, ShapeSort}
 use Rattle.std.proofs.Common.{◌≡◌, ℕ, zero, suc, Bool, true, false, cond, List, [], ◌∷◌, length, Option, Some, None, inl, inr, sym, subst}
 use Rattle.cc_base.specs.declared.literal.Base.{Base}
 use Rattle.cc_base.specs.declared.literal.Base.TheVariants as bases
@@ -22,7 +24,7 @@ use Rattle.cc_core.specs.Subcapturing.{Subcaptures, SubcapturesSet}
 use Rattle.cc_core.specs.Typing.{base_of, base_given, base_operated, base_taken, base_answered, IsNoteOf, HasNoCap}
 use Rattle.cc_core.proofs.KindFacts.{IsOfKind, IsKindedElement, IsKindedSet, IsKinded, IsKindedTerm, IsKindedOptionalSet, IsKindedOptional}
 use Rattle.cc_meta_typing.proofs.DirectSubtyping.{SubtypesDirectly}
-use Rattle.cc_meta_typing.proofs.FormedContexts.{IsKindedContext, length-kinds_of, kinded_single, entry_kinded, IsKinded-opened, IsKindedSet-opened}
+use Rattle.cc_meta_typing.proofs.FormedContexts.{length-kinds_of, kinded_single, HasKinds-opened}
 use Rattle.cc_meta_typing.proofs.FreeMaps.{same_position, same_variable, map_kinded_at0, map_kinded_set, maps_value, maps_shape, value_put, value_put_set, shape_put, shape_put_set}
 
 -- a variable has the type: its entry's shape is below the shape, and it is below the set
@@ -157,7 +159,7 @@ module _ (g : Context) (formed : IsKindedContext g) where
       (subst (IsKinded (kinds_of g) []) (value_put g has.position TermKind x h)
       (map_kinded_at0 (TermEntry s c ∷ g) g (overridden same_position (length g) has.position) (overridden same_variable (length g) (TypeVariable (Free has.position)))
       (maps_value g formed s c has.kinded has.kinded_set has.position has.shape has.set has.there has.below has.captured) []
-      (opened (length g) x) (IsKinded-opened (length g) TermKind (kinds_of g) (length-kinds_of g) x h)))
+      (opened (length g) x) (HasKinds-opened (length g) TermKind (kinds_of g) (length-kinds_of g) ShapeSort x h)))
 
   pub put_kinded_set : (v : Var) (s : Shape) (c : Set) → HasVariable g v s c → (x : Set) → IsKindedSet (kinds_of g) (TermKind ∷ []) x → IsKindedSet (kinds_of g) [] (act_set (putting v) 0 x)
   put_kinded_set v s c has x h =
@@ -165,19 +167,19 @@ module _ (g : Context) (formed : IsKindedContext g) where
       (subst (IsKindedSet (kinds_of g) []) (value_put_set g has.position TermKind x h)
       (map_kinded_set (TermEntry s c ∷ g) g (overridden same_position (length g) has.position) (overridden same_variable (length g) (TypeVariable (Free has.position)))
       (maps_value g formed s c has.kinded has.kinded_set has.position has.shape has.set has.there has.below has.captured) []
-      (opened_set (length g) x) (IsKindedSet-opened (length g) TermKind (kinds_of g) (length-kinds_of g) x h)))
+      (opened_set (length g) x) (HasKinds-opened (length g) TermKind (kinds_of g) (length-kinds_of g) SetSort x h)))
 
   pub shape_put_kinded : (b r : Shape) → IsKinded (kinds_of g) [] b → IsKinded (kinds_of g) [] r → SubtypesDirectly g r b → (x : Shape) → IsKinded (kinds_of g) (TypeKind ∷ []) x → IsKinded (kinds_of g) [] (act (putting_shape r) 0 x)
   shape_put_kinded b r kb kr below x h =
       subst (IsKinded (kinds_of g) []) (shape_put g r x h)
       (map_kinded_at0 (TypeEntry b ∷ g) g same_position (overridden same_variable (length g) r) (maps_shape g formed b kb r kr below) []
-      (opened (length g) x) (IsKinded-opened (length g) TypeKind (kinds_of g) (length-kinds_of g) x h))
+      (opened (length g) x) (HasKinds-opened (length g) TypeKind (kinds_of g) (length-kinds_of g) ShapeSort x h))
 
   pub shape_put_kinded_set : (b r : Shape) → IsKinded (kinds_of g) [] b → IsKinded (kinds_of g) [] r → SubtypesDirectly g r b → (x : Set) → IsKindedSet (kinds_of g) (TypeKind ∷ []) x → IsKindedSet (kinds_of g) [] (act_set (putting_shape r) 0 x)
   shape_put_kinded_set b r kb kr below x h =
       subst (IsKindedSet (kinds_of g) []) (shape_put_set g r x h)
       (map_kinded_set (TypeEntry b ∷ g) g same_position (overridden same_variable (length g) r) (maps_shape g formed b kb r kr below) []
-      (opened_set (length g) x) (IsKindedSet-opened (length g) TypeKind (kinds_of g) (length-kinds_of g) x h))
+      (opened_set (length g) x) (HasKinds-opened (length g) TypeKind (kinds_of g) (length-kinds_of g) SetSort x h))
 
 -- the type that the form of a well-formed term gives is well formed
 pub exactly_kinded : {g : Context} {t : Term} {s : Shape} {c : Set} → TypedExactly g t s c → IsKindedContext g → IsKindedTerm (kinds_of g) [] t → IsKinded (kinds_of g) [] s × IsKindedSet (kinds_of g) [] c

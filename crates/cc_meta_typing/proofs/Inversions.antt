@@ -1,4 +1,5 @@
 -- The inversion of each form, from typing by form.
+use Rattle.cc_core.proofs.SubcapturingContexts.{IsKindedContext, IsKindedContext-from}
 use Rattle.std.proofs.Common.{◌≡◌, ℕ, zero, [], ◌∷◌, length, Option, Some, None, refl}
 use Rattle.std.proofs.lemmas.Bool.{and_from}
 use Rattle.cc_base.specs.declared.literal.Base.TheVariants as bases
@@ -23,7 +24,7 @@ use Rattle.cc_core.specs.Typing.{base_of, base_given, base_operated, base_taken,
 use Rattle.cc_core.proofs.KindFacts.{IsKindedSet, IsKinded, IsKinded-test, IsKindedSet-test}
 use Rattle.cc_meta_typing.specs.Inversion as law
 use Rattle.cc_meta_typing.proofs.DirectSubtyping.{direct_to}
-use Rattle.cc_meta_typing.proofs.FormedContexts.{IsKindedContext, IsKindedContext-from, kinded_single}
+use Rattle.cc_meta_typing.proofs.FormedContexts.{kinded_single}
 use Rattle.cc_meta_typing.proofs.InternalTyping.{HasVariable, exact_variable, exact_literal, exact_function, exact_type_function, exact_application, exact_type_application, exact_box, exact_unboxing, exact_let, exact_primitive, exact_conditional, exact_repetition, exact_operation, exact_operation_alone, exact_boundary, exact_leave, Typed, widened}
 use Rattle.cc_meta_typing.proofs.TypingMaps.{typed_kinded, typed_kinded_set, typed_kinded_term}
 use Rattle.cc_meta_typing.proofs.TypingLemmas.{has_variable_typed}

@@ -12,7 +12,6 @@ pub mod FreeMaps
 pub mod InternalConversions
 pub mod InternalTyping
 pub mod Inversions
-pub mod KindedContexts
 pub mod MappedTyping
 pub mod TypedTerms
 pub mod TypingLemmas

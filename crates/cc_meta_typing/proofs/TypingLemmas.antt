@@ -1,5 +1,7 @@
 -- What the map lemma gives: typing in longer contexts, of bodies with a variable or a shape put in, and what answers
 -- capture.
+use Rattle.cc_core.proofs.SubcapturingContexts.{IsKinded-added, IsKindedContext, IsKindedSet-added, entry_kinded, kind_of_entry}
+use Rattle.cc_core.proofs.Sorts.{ShapeSort}
 use Rattle.std.proofs.Common.{◌≡◌, ℕ, true, [], ◌∷◌, length, refl, sym, ap, ◌∙◌, subst}
 use Rattle.cc_capture.specs.declared.var.Var.{Var}
 use Rattle.cc_capture.specs.declared.var.Var.TheVariants.{Free}
@@ -18,7 +20,7 @@ use Rattle.cc_core.proofs.SubcapturingLemmas.{subcaptures_reflexive, subcaptures
 use Rattle.cc_core.proofs.Moving.{Member-single, Member-single_itself}
 use Rattle.cc_core.proofs.KindFacts.{IsKindedSet, IsKinded, IsKindedTerm}
 use Rattle.cc_meta_typing.proofs.DirectSubtyping.{SubtypesDirectly, alike}
-use Rattle.cc_meta_typing.proofs.FormedContexts.{IsKindedContext, length-kinds_of, entry_kinded, kind_of_entry, IsKinded-added, IsKindedSet-added, IsKinded-opened}
+use Rattle.cc_meta_typing.proofs.FormedContexts.{length-kinds_of, HasKinds-opened}
 use Rattle.cc_meta_typing.proofs.FreeMaps.{Longer, lookup-kept, subcaptures_element-kept, subtypes-kept, same_position, same_variable, still, still_set, still_term, maps_longer, maps_value, maps_shape, value_put, value_put_set, value_put_term, shape_put, shape_put_set, shape_put_term, map_subtypes, map_subcaptures, agree_shape, agree_set, variable_below_declared}
 use Rattle.cc_core.proofs.Renaming.{overridden-below}
 use Rattle.cc_meta_typing.proofs.InternalTyping.{HasVariable, TypedExactly, exact_variable, exact_literal, exact_function, exact_type_function, exact_application, exact_type_application, exact_box, exact_unboxing, exact_let, exact_primitive, exact_conditional, exact_repetition, exact_operation, exact_operation_alone, exact_boundary, exact_leave, Typed, widened}
@@ -115,7 +117,7 @@ module _ (g : Context) (formed : IsKindedContext g) (s : Shape) (c : Set) (v : V
       (map_subtypes below g put_to put_shapes
       (maps_value g formed s c has.kinded has.kinded_set has.position has.shape has.set has.there has.below has.captured)
       ((has.kinded, has.kinded_set), formed)
-      (IsKinded-opened (length g) TermKind (kinds_of g) (length-kinds_of g) x kx) (IsKinded-opened (length g) TermKind (kinds_of g) (length-kinds_of g) y ky))))
+      (HasKinds-opened (length g) TermKind (kinds_of g) (length-kinds_of g) ShapeSort x kx) (HasKinds-opened (length g) TermKind (kinds_of g) (length-kinds_of g) ShapeSort y ky))))
 
   pub put_subcaptures : (x y : Set) → IsKindedSet (kinds_of g) (TermKind ∷ []) x → IsKindedSet (kinds_of g) (TermKind ∷ []) y
       → SubcapturesSet (TermEntry s c ∷ g) (opened_set (length g) x) (opened_set (length g) y) → SubcapturesSet g (act_set (putting v) 0 x) (act_set (putting v) 0 y)
@@ -143,7 +145,7 @@ module _ (g : Context) (formed : IsKindedContext g) (b r : Shape) (kb : IsKinded
       subst (λ z. SubtypesDirectly g z (act (putting_shape r) 0 y)) (shape_put g r x kx)
       (subst (λ z. SubtypesDirectly g (act (freely same_position (overridden same_variable (length g) r)) 0 (opened (length g) x)) z) (shape_put g r y ky)
       (map_subtypes below g same_position (overridden same_variable (length g) r) (maps_shape g formed b kb r kr less) (kb, formed)
-      (IsKinded-opened (length g) TypeKind (kinds_of g) (length-kinds_of g) x kx) (IsKinded-opened (length g) TypeKind (kinds_of g) (length-kinds_of g) y ky)))
+      (HasKinds-opened (length g) TypeKind (kinds_of g) (length-kinds_of g) ShapeSort x kx) (HasKinds-opened (length g) TypeKind (kinds_of g) (length-kinds_of g) ShapeSort y ky)))
 
   pub shape_put_subcaptures : (x y : Set) → IsKindedSet (kinds_of g) (TypeKind ∷ []) x → IsKindedSet (kinds_of g) (TypeKind ∷ []) y
       → SubcapturesSet (TypeEntry b ∷ g) (opened_set (length g) x) (opened_set (length g) y) → SubcapturesSet g (act_set (putting_shape r) 0 x) (act_set (putting_shape r) 0 y)

@@ -1,5 +1,6 @@
 -- Typing goes along with maps of contexts: one lemma for weakening, renaming, narrowing, and substitution of variables and
 -- of shapes.
+use Rattle.cc_core.proofs.SubcapturingContexts.{IsKindedContext, IsKindedEntry, entry_kinded}
 use Rattle.std.proofs.Common.{◌≡◌, ℕ, [], ◌∷◌, length, refl, sym, ap, ◌∙◌, subst}
 use Rattle.cc_base.specs.declared.literal.Base.TheVariants as bases
 use Rattle.cc_capture.specs.declared.var.Var.{Var}
@@ -28,7 +29,7 @@ use Rattle.cc_core.proofs.KindFacts.{IsKindedSet, IsKinded, IsKindedTerm}
 use Rattle.cc_core.proofs.KindedActions.{IsKindedTerm-act, IsKindedTerm-meets}
 use Rattle.cc_meta_typing.proofs.DirectSubtyping.{SubtypesDirectly, alike, direct_transitive}
 use Rattle.cc_core.proofs.CapturedActions.{captured_variables-act, freely-PassesBinders}
-use Rattle.cc_meta_typing.proofs.FormedContexts.{IsKindedEntry, IsKindedContext, length-kinds_of, kinded_single, entry_kinded, kinds_below}
+use Rattle.cc_meta_typing.proofs.FormedContexts.{length-kinds_of, kinded_single, kinds_below}
 use Rattle.cc_meta_typing.proofs.FreeMaps.{as_is, Maps, maps_kinds, map_kinded, map_kinded_at0, map_kinded_set, map_level, map_element, map_subcaptures, agree_shape, agree_set, maps_under, opened_map, opened_map_set, map_subtypes}
 use Rattle.cc_meta_typing.proofs.InternalTyping.{HasVariable, TypedExactly, exact_variable, exact_literal, exact_function, exact_type_function, exact_application, exact_type_application, exact_box, exact_unboxing, exact_let, exact_primitive, exact_conditional, exact_repetition, exact_operation, exact_operation_alone, exact_boundary, exact_leave, Typed, widened, exactly_kinded}
 use Rattle.cc_core.proofs.FreshOpenings.{fresh_opening}

@@ -1,4 +1,5 @@
 -- The laws of typing, from those of typing by form.
+use Rattle.cc_core.proofs.SubcapturingContexts.{IsKindedContext, IsKindedContext-from, kind_of_entry}
 use Rattle.std.proofs.Common.{◌≡◌, ℕ, true, List, [], ◌∷◌, ◌++◌, Some, inl, inr, refl, ap, ◌∙◌, subst}
 use Rattle.std.proofs.lemmas.Bool.{and_parts}
 use Rattle.cc_capture.specs.declared.var.Var.TheVariants.{Free}
@@ -14,7 +15,6 @@ use Rattle.cc_core.proofs.Lookups.{lookup-newest}
 use Rattle.cc_core.proofs.KindFacts.{IsKindedSet, IsKinded, IsKinded-from, IsKindedSet-from, IsKindedTerm-from}
 use Rattle.cc_meta_typing.specs.TypingLaws.{TypingWeakens, TypingNarrows, VariablesSubstitute, ShapesSubstitute, ValuesCaptureTheirSets}
 use Rattle.cc_meta_typing.proofs.DirectSubtyping.{SubtypesDirectly, through_bound, direct_from}
-use Rattle.cc_meta_typing.proofs.FormedContexts.{IsKindedContext, IsKindedContext-from, kind_of_entry}
 use Rattle.cc_meta_typing.proofs.FreeMaps.{Longer, as_is, more, longer-tail, lookup-kept, lookup_cases, still, still_set, still_term, same_position, same_variable, Maps, EntryBelow, subtypes-kept, subcaptures-kept}
 use Rattle.cc_core.proofs.SubcapturingLemmas.{subcaptures_transitive}
 use Rattle.cc_meta_typing.proofs.DirectSubtyping.{direct_transitive}
