@@ -20,6 +20,7 @@ use Rattle.cc_core.proofs.Lookups.{length_map, lookup-newest, lookup-below, look
 use Rattle.cc_core.proofs.KindFacts.{IsKinded, IsKindedSet, IsKinded-from, IsKinded-test, IsKindedType-from}
 use Rattle.cc_core.proofs.KindedActions.{IsKinded-act, IsKinded-meets, IsKindedSet-meets}
 use Rattle.cc_core.proofs.KindRespecting.{freely-KeepsKinds, kinds-under_type_binder, kinds-bound_within}
+use Rattle.cc_core.proofs.Levels.{freely-still}
 use Rattle.cc_core.proofs.Renaming.{renaming_as_free, overridden-same, overridden-below, freely-agree}
 use Rattle.cc_core.proofs.FreshOpenings.{fresh_opening, fresh_shape}
 use Rattle.cc_core.proofs.SubcapturingContexts.{IsKindedContext, IsKindedContext-from, entry_kinded, kind_of_entry, entry_of_term, entry_of_type}
@@ -32,18 +33,11 @@ use Rattle.cc_meta_typing.proofs.ContextMapping.{positions_of, positions_of_set,
 use Rattle.cc_core.proofs.Sorts.{SetSort, ShapeSort}
 
 -- the map that leaves each position leaves all
-stays : (v : Var) → renamed_variable (λ p. p) v ≡ v
-stays (Bound index) = refl
-stays (Free position) = refl
-
-identity_action : freely (λ p. p) itself ≡ keeping
-identity_action = sym (renaming_as_free (λ p. p)) ∙ same_moves (λ d v. renamed_variable (λ p. p) v) (λ d v. v) (λ d v. stays v) ∙ moving-identity
-
 pub identity_mapped : (shape : Shape) → mapped (λ p. p) itself shape ≡ shape
-identity_mapped shape = ap (λ a. act a 0 shape) identity_action ∙ act-keeping 0 shape
+identity_mapped = freely-still ShapeSort 0
 
 pub identity_mapped_set : (set : Set) → mapped_set (λ p. p) itself set ≡ set
-identity_mapped_set set = ap (λ a. act_set a 0 set) identity_action ∙ act_set-keeping 0 set
+identity_mapped_set = freely-still SetSort 0
 
 pub longer_map : (context longer : Context) → Extends context longer → IsContextMap context longer (λ p. p) itself
 longer_map context longer more =

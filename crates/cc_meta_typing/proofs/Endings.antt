@@ -3,7 +3,7 @@ use Rattle.cc_meta_typing.proofs.FormedContexts.{opened_kinded}
 use Rattle.cc_core.proofs.Sorts.{ShapeSort}
 use Rattle.std.proofs.Common.{◌≡◌, ℕ, zero, suc, ◌+◌, ◌<◌, Bool, true, false, cond, List, [], ◌∷◌, ◌++◌, length, Option, Some, None, refl, sym, ap, ◌∙◌, subst, inl, inr, ◌⊎◌, arith}
 use Rattle.std.specs.Prelude.{nat_eq}
-use Rattle.std.proofs.lemmas.Bool.{and_parts, eqb-true, eq-eqb}
+use Rattle.std.proofs.lemmas.Bool.{cond-true, cond-false, ne_eqb, and_parts, eqb-true, eq-eqb}
 use Rattle.cc_capture.specs.declared.var.Var.TheVariants.{Bound, Free}
 use Rattle.cc_capture.specs.Sets.{Set}
 use Rattle.cc_core.specs.Shapes.{Shape, BaseShape, AnyShape, TypeVariable, FunctionShape, TypeFunctionShape, BoxShape, ExitShape, CapturingType, capturing}
@@ -18,18 +18,6 @@ use Rattle.cc_core.specs.Comparison.{same_shape}
 use Rattle.cc_sets.specs.Comparison.{Demand, Comparison, Unfinished, Mismatch, Matches, and_then, types_compared, bound_in, bound_compared, function_compared, type_function_compared, box_compared, is_any, by_form, comparison, HasDemands, IsMismatch, TypesHaveDemands, IsTypeMismatch}
 use Rattle.cc_sets.specs.Weights.{weight_of_index, weight, entry_weight, weight_at, weight_in, IsEnough, enough_steps}
 use Rattle.cc_sets.proofs.ShapeEquality.{same_shape-true}
-
--- the two cases of a test
-cond_true : {A : Type 0} (b : Bool) (x y : A) → b ≡ true → cond b x y ≡ x
-cond_true true x y e = refl
-cond_true false x y e = cc
-
-cond_false : {A : Type 0} (b : Bool) (x y : A) → b ≡ false → cond b x y ≡ y
-cond_false false x y e = refl
-cond_false true x y e = cc
-
-different_numbers : (m n : ℕ) → (m ≡ n → ⊥) → nat_eq m n ≡ false
-different_numbers m n apart = elim (nat_eq m n) as (λ b. nat_eq m n ≡ b → b ≡ false) [ true ↦ λ e. absurd (apart (eqb-true m n e)) | false ↦ λ e. refl ] refl
 
 -- weights of free variables that agree on those that may occur
 abbrev AgreeOn : List Kind → (ℕ → ℕ) → (ℕ → ℕ) → Type 0
@@ -96,11 +84,11 @@ agree_below : (context : Context) (entry : Bind) → AgreeOn (kinds_of context) 
 agree_below context entry position known =
     let found = entry_of_type context position known in
     let below = lookup-below context position (TypeEntry found.0) found.1 in
-    cond_false (nat_eq position (length context)) (entry_weight (weight_at context) entry) (weight_at context position)
-    (different_numbers position (length context) (λ e. omega arith))
+    cond-false (nat_eq position (length context)) (entry_weight (weight_at context) entry) (weight_at context position)
+    (ne_eqb position (length context) (λ e. omega arith))
 
 weight_of_newest : (context : Context) (entry : Bind) → weight_at (entry ∷ context) (length context) ≡ entry_weight (weight_at context) entry
-weight_of_newest context entry = cond_true (nat_eq (length context) (length context)) (entry_weight (weight_at context) entry) (weight_at context (length context)) (eq-eqb (length context) (length context) refl)
+weight_of_newest context entry = cond-true (nat_eq (length context) (length context)) (entry_weight (weight_at context) entry) (weight_at context (length context)) (eq-eqb (length context) (length context) refl)
 
 weight_of_opened : (context : Context) (entry : Bind) (shape : Shape) (passed : List Kind) → IsKinded (kinds_of context) passed shape
     → weight_in (entry ∷ context) (opened (length context) shape) ≡ weight (weight_at context) (entry_weight (weight_at context) entry ∷ []) shape
@@ -123,14 +111,14 @@ bound_at (b ∷ context) position bound formed there =
           let is : b ≡ TypeEntry bound = cc in
           let own : IsKinded (kinds_of context) [] bound = subst (IsKindedEntry (kinds_of context)) is formed.0 in
           record {
-            weighs = cond_true (nat_eq position (length context)) (entry_weight (weight_at context) b) (weight_at context position) e
+            weighs = cond-true (nat_eq position (length context)) (entry_weight (weight_at context) b) (weight_at context position) e
                 ∙ ap (entry_weight (weight_at context)) is ∙ sym (raised own);
             formed = IsKinded-added (kind_of b) (kinds_of context) [] bound own;
           }
       | false ↦ λ e found.
           let old = bound_at context position bound formed.1 found in
           record {
-            weighs = cond_false (nat_eq position (length context)) (entry_weight (weight_at context) b) (weight_at context position) e ∙ old.weighs ∙ sym (raised old.formed);
+            weighs = cond-false (nat_eq position (length context)) (entry_weight (weight_at context) b) (weight_at context position) e ∙ old.weighs ∙ sym (raised old.formed);
             formed = IsKinded-added (kind_of b) (kinds_of context) [] bound old.formed;
           }
     ] refl there

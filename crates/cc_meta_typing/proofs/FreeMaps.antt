@@ -24,6 +24,7 @@ use Rattle.cc_core.proofs.Moving.{Member-single}
 use Rattle.cc_core.proofs.Actions.{same_actions, act-keeping, act_set-keeping}
 use Rattle.cc_core.proofs.TermActions.{act_term-keeping}
 use Rattle.cc_core.proofs.FreeActions.{free-level}
+use Rattle.cc_core.proofs.Levels.{freely-still}
 use Rattle.cc_core.proofs.Renaming.{freely-IsFree, overridden-same, overridden-below, freely-agree}
 use Rattle.cc_core.proofs.FreshOpenings.{fresh_opening, fresh_shape}
 use Rattle.cc_core.proofs.KindFacts.{IsOfKind, IsKindedElement, IsKindedSet, IsKinded, IsKindedTerm}
@@ -353,31 +354,14 @@ same_position p = p
 abbrev pub same_variable : ℕ → Shape
 same_variable p = TypeVariable (Free p)
 
-still_element : (x : Elem) → single (moved_element (renamed_variable same_position) x) ≡ single x
-still_element (Variable (Free p)) = refl
-still_element (Variable (Bound i)) = refl
-still_element Cap = refl
-still_element (Hole n) = refl
-
-still_shape : (v : Var) → free_shape same_variable v ≡ TypeVariable v
-still_shape (Free p) = refl
-still_shape (Bound i) = refl
-
-still_variable : (v : Var) → renamed_variable same_position v ≡ v
-still_variable (Free p) = refl
-still_variable (Bound i) = refl
-
-pub still_map : freely same_position same_variable ≡ keeping
-still_map = same_actions (freely same_position same_variable) keeping (λ d x. still_element x) (λ d v. still_shape v) (λ d v. still_variable v)
-
 pub still : (n : ℕ) (s : Shape) → act (freely same_position same_variable) n s ≡ s
-still n s = ap (λ f. act f n s) still_map ∙ act-keeping n s
+still = freely-still ShapeSort
 
 pub still_set : (n : ℕ) (c : Set) → act_set (freely same_position same_variable) n c ≡ c
-still_set n c = ap (λ f. act_set f n c) still_map ∙ act_set-keeping n c
+still_set = freely-still SetSort
 
 pub still_term : (n : ℕ) (t : Term) → act_term (freely same_position same_variable) n t ≡ t
-still_term n t = ap (λ f. act_term f n t) still_map ∙ act_term-keeping n t
+still_term = freely-still TermSort
 
 -- weakening
 pub maps_longer : (g d : Context) → Longer g d → Maps g d same_position same_variable
@@ -401,19 +385,19 @@ subtypes-kept {g = g} {d = d} l formed left right kl kr below =
 pub variable_below_declared : {g : Context} {p : ℕ} {s : Shape} {c : Set} → lookup g p ≡ Some (TermEntry s c) → Subcaptures g (Variable (Free p)) c
 variable_below_declared {c = c} there = variable there (λ x here. element here)
 
-no_term_entry : {b s : Shape} {c : Set} → TermEntry s c ≡ TypeEntry b → ⊥
+pub no_term_entry : {b s : Shape} {c : Set} → TermEntry s c ≡ TypeEntry b → ⊥
 no_term_entry e = cc
 
-no_type_entry : {b s : Shape} {c : Set} → TypeEntry b ≡ TermEntry s c → ⊥
+pub no_type_entry : {b s : Shape} {c : Set} → TypeEntry b ≡ TermEntry s c → ⊥
 no_type_entry e = cc
 
-same_shapes_of : {s s' : Shape} {c c' : Set} → TermEntry s c ≡ TermEntry s' c' → s ≡ s'
+pub same_shapes_of : {s s' : Shape} {c c' : Set} → TermEntry s c ≡ TermEntry s' c' → s ≡ s'
 same_shapes_of e = cc
 
-same_sets_of : {s s' : Shape} {c c' : Set} → TermEntry s c ≡ TermEntry s' c' → c ≡ c'
+pub same_sets_of : {s s' : Shape} {c c' : Set} → TermEntry s c ≡ TermEntry s' c' → c ≡ c'
 same_sets_of e = cc
 
-same_bounds_of : {b b' : Shape} → TypeEntry b ≡ TypeEntry b' → b ≡ b'
+pub same_bounds_of : {b b' : Shape} → TypeEntry b ≡ TypeEntry b' → b ≡ b'
 same_bounds_of e = cc
 
 -- Substitution of a variable: the newest variable becomes one that is below it.
