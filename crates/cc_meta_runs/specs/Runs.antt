@@ -19,11 +19,8 @@ pub data Move : Type 0 where
 
 abbrev pub answered : ℕ → Op → Option Literal → (Literal → Configuration) → Option Reply → Move
 answered device operation argument resume (Some reply) =
-    Moves (Some (Operated device operation (literal_shown argument reply.literal))) (record {
-      configuration =
-          resume reply.literal;
-      devices = reply.devices;
-    })
+    Moves (Some (Operated device operation (literal_shown argument reply.literal))) (record { configuration =
+        resume reply.literal; devices = reply.devices })
 answered device operation argument resume None = IsStuck
 
 -- the device table answers what a step asks

@@ -53,8 +53,8 @@ ValuesCaptureTheirSets =
     (context : Context) (value : Term) (type : CapturingType)
     → IsTrue (is_value value) → HasType context value type → SubcapturesSet context (captured_variables value) type.set
 
--- A box may be one of any type that its content has, also with the universal capability: a box of the content's own set,
--- which has none, is below it.
+-- A box may be one of any type that its content has, also with the universal capability: a box of the content's own
+-- set, which has none, is below it.
 abbrev pub BoxesAreOfAnyTypeOfTheirContent : Type 0
 BoxesAreOfAnyTypeOfTheirContent =
     (context : Context) (content : Var) (type : CapturingType)
