@@ -17,6 +17,10 @@ pub record Demand : Type 0 where
   pub left : Set
   pub right : Set
 
+-- that the left set is to be below the right one in the context
+abbrev pub demanded : Context → Set → Set → Demand
+demanded context left right = record { context = context; left = left; right = right }
+
 -- What a comparison comes to: it is not at its end with so few steps, the shapes do not match, or they match where all
 -- these demands hold, in the order in which they were found.
 pub data Comparison : Type 0 where
@@ -39,12 +43,7 @@ Comparing = Context → Shape → Shape → Comparison
 -- the set demanded first, then the shapes compared
 abbrev pub types_compared : Comparing → Context → CapturingType → CapturingType → Comparison
 types_compared compare context left right =
-    and_then (Matches (record {
-      context =
-          context;
-      left = left.set;
-      right = right.set;
-    } ∷ [])) (compare context left.shape right.shape)
+    and_then (Matches (demanded context left.set right.set ∷ [])) (compare context left.shape right.shape)
 
 -- the bound of an entry, where it is a type variable
 abbrev pub bound_in : Option Bind → Option Shape

@@ -9,7 +9,7 @@ use Rattle.cc_core.specs.Shapes.{Shape, BaseShape, AnyShape, TypeVariable, Funct
 use Rattle.cc_core.specs.Shapes.{ExitShape, capturing}
 use Rattle.cc_core.specs.Contexts.{TermEntry, TypeEntry, Context}
 use Rattle.cc_core.specs.Substitution.{single}
-use Rattle.cc_sets.specs.Comparison.{HasDemands, IsMismatch, TypesHaveDemands}
+use Rattle.cc_sets.specs.Comparison.{demanded, HasDemands, IsMismatch, TypesHaveDemands}
 use Rattle.cc_sets.specs.Exposing.{exposed}
 use Rattle.cc_sets.specs.Avoidance.{Positive, avoided, avoided_type}
 
@@ -53,7 +53,7 @@ with_two = TermEntry (BaseShape bases.Console) (single Cap) ∷ with_console
 abbrev pub PrintingDemands : Type 0
 PrintingDemands =
     TypesHaveDemands with_console (capturing printing (single first)) (capturing printing empty)
-    (record { context = with_console; left = single first; right = empty } ∷ [])
+    (demanded with_console (single first) empty ∷ [])
 
 -- boxes are below the bound Any, and nothing is demanded of their sets
 abbrev pub BoxesAreBelowAny : Type 0
@@ -87,9 +87,9 @@ ParametersGoRightToLeft =
     HasDemands with_two
     (FunctionShape printing (single first) (boxed (single parameter)) (single parameter))
     (FunctionShape printing (single second) (boxed (single first)) (single second))
-    (record { context = with_two; left = single second; right = single first }
-    ∷ record { context = TermEntry printing (single second) ∷ with_two; left = single third; right = single second }
-    ∷ record { context = TermEntry printing (single second) ∷ with_two; left = single third; right = single first }
+    (demanded with_two (single second) (single first)
+    ∷ demanded (TermEntry printing (single second) ∷ with_two) (single third) (single second)
+    ∷ demanded (TermEntry printing (single second) ∷ with_two) (single third) (single first)
     ∷ [])
 
 -- Let p print on c, and let q have the set {p} and take functions with the set {p}. Without p the set of q is that of
