@@ -15,7 +15,7 @@ use Rattle.cc_core.proofs.Conditions.{GivesHere}
 use Rattle.cc_core.proofs.Moving.{flat_image-of_single}
 use Rattle.cc_core.proofs.Opening.{put_variable-same, put_variable-other}
 use Rattle.cc_core.proofs.FreeActions.{Sends, no_open_index-deeper, put_shape-same, put_shape-other, putting_shape_set, putting_shape-still, free-putting}
-use Rattle.cc_core.proofs.Renaming.{freely-IsFree, overridden-same, overridden-below, freely-agree}
+use Rattle.cc_core.proofs.Renaming.{IsFree-freely, overridden-same, overridden-below, freely-agree}
 use Rattle.cc_core.proofs.Sorts.{MeetsIn, MeetsIn-here, Sort, Syntax, acted, acted-acted, acted-congruent}
 
 module _ (n q : ℕ) (to : ℕ → ℕ) (shapes : ℕ → Shape) (closed : (p : ℕ) → Meets (bound_within 0) 0 (shapes p)) where
@@ -34,7 +34,7 @@ module _ (n q : ℕ) (to : ℕ → ℕ) (shapes : ℕ → Shape) (closed : (p : 
       → acted sort (freely (overridden to n q) (overridden shapes n (TypeVariable (Free q)))) d (acted sort (opening n) d x)
       ≡ acted sort (opening q) d (acted sort (freely to shapes) d x)
   fresh_opening sort d x m =
-      free-putting (freely (overridden to n q) (overridden shapes n (TypeVariable (Free q)))) (freely-IsFree (overridden to n q) (overridden shapes n (TypeVariable (Free q))) closed_still) (Free n) (Free q) sends_fresh sort d x
+      free-putting (freely (overridden to n q) (overridden shapes n (TypeVariable (Free q)))) (IsFree-freely (overridden to n q) (overridden shapes n (TypeVariable (Free q))) closed_still) (Free n) (Free q) sends_fresh sort d x
       ∙ ap (acted sort (opening q) d) (freely-agree n to (overridden to n q) shapes (overridden shapes n (TypeVariable (Free q))) (overridden-below to n q) (overridden-below shapes n (TypeVariable (Free q))) sort d x m)
 
 -- the same of a shape, at a body under the binder of a type variable, whatever the position is as a variable of terms

@@ -47,17 +47,17 @@ closed_is_other n d (Free p) e =
       | inr other ↦ let b : closed_variable n d (Free p) ≡ Free p = closed_variable-other n d p other in other (let f : Free p ≡ Free n = sym b ∙ e in cc)
     ]
 
-pub put_HasBinder : (p d : ℕ) (v : Var) → HasBinder (d + 1) v → HasBinder (d + 0) (put_variable (Free p) d v)
-put_HasBinder p d (Free q) h = tt
-put_HasBinder p d (Bound i) h =
+pub HasBinder-put : (p d : ℕ) (v : Var) → HasBinder (d + 1) v → HasBinder (d + 0) (put_variable (Free p) d v)
+HasBinder-put p d (Free q) h = tt
+HasBinder-put p d (Bound i) h =
     elim (cases_eq i d) as (λ _. HasBinder (d + 0) (put_variable (Free p) d (Bound i))) [
       | inl e ↦ subst (HasBinder (d + 0)) (sym (ap (λ k. put_variable (Free p) d (Bound k)) e ∙ put_variable-same (Free p) d)) tt
       | inr other ↦ subst (HasBinder (d + 0)) (sym (put_variable-other (Free p) d i other)) (let l : i < d + 0 = omega arith in l)
     ]
 
-pub closed_HasBinder : (n d : ℕ) (v : Var) → HasBinder (d + 0) v → HasBinder (d + 1) (closed_variable n d v)
-closed_HasBinder n d (Bound i) h = let l : i < d + 1 = omega arith in l
-closed_HasBinder n d (Free p) h =
+pub HasBinder-closed : (n d : ℕ) (v : Var) → HasBinder (d + 0) v → HasBinder (d + 1) (closed_variable n d v)
+HasBinder-closed n d (Bound i) h = let l : i < d + 1 = omega arith in l
+HasBinder-closed n d (Free p) h =
     elim (cases_eq p n) as (λ _. HasBinder (d + 1) (closed_variable n d (Free p))) [
       | inl e ↦ subst (HasBinder (d + 1)) (sym (ap (λ k. closed_variable n d (Free k)) e ∙ closed_variable-same n d)) (let l : d < d + 1 = omega arith in l)
       | inr other ↦ subst (HasBinder (d + 1)) (sym (closed_variable-other n d p other)) tt
@@ -92,7 +92,7 @@ pub opened-bound_within : (sort : Sort) (p d : ℕ) (x : Syntax sort) → MeetsI
     → MeetsIn sort (bound_within 0) d (acted sort (opening p) d x)
 opened-bound_within sort p d x m =
     MeetsIn-act sort (opening p) _ (bound_within 0) (moving_brings (put_variable (Free p)) (λ k v. HasBinder (k + 0) v)) d x
-    (MeetsIn-here sort (bound_within 1) _ (gives_here _ _ (λ k v h. put_HasBinder p k v h)) d x m)
+    (MeetsIn-here sort (bound_within 1) _ (gives_here _ _ (λ k v h. HasBinder-put p k v h)) d x m)
 
 pub closed-without : (sort : Sort) (n d : ℕ) (x : Syntax sort)
     → MeetsIn sort (without n) d (acted sort (closing n) d x)
@@ -104,4 +104,4 @@ pub closed-bound_within : (sort : Sort) (n d : ℕ) (x : Syntax sort) → MeetsI
     → MeetsIn sort (bound_within 1) d (acted sort (closing n) d x)
 closed-bound_within sort n d x m =
     MeetsIn-act sort (closing n) _ (bound_within 1) (moving_brings (closed_variable n) (λ k v. HasBinder (k + 1) v)) d x
-    (MeetsIn-here sort (bound_within 0) _ (gives_here _ _ (λ k v h. closed_HasBinder n k v h)) d x m)
+    (MeetsIn-here sort (bound_within 0) _ (gives_here _ _ (λ k v h. HasBinder-closed n k v h)) d x m)

@@ -27,9 +27,9 @@ moved_closed to (Hole n) h = tt
 single_closed : (x : Elem) → IsAskedOf (HasBinder 0) x → MeetsInSet (bound_within 0) 0 (single x)
 single_closed x h y m = subst (IsAskedOf (HasBinder 0)) (sym (Member-single y x m)) h
 
-pub freely-IsFree : (to : ℕ → ℕ) (shapes : ℕ → Shape) → ((p : ℕ) → Meets (bound_within 0) 0 (shapes p))
+pub IsFree-freely : (to : ℕ → ℕ) (shapes : ℕ → Shape) → ((p : ℕ) → Meets (bound_within 0) 0 (shapes p))
     → IsFree (freely to shapes)
-freely-IsFree to shapes closed = record {
+IsFree-freely to shapes closed = record {
   element_index = λ d i. refl;
   shape_index = λ d i. refl;
   variable_index = λ d i. refl;
@@ -41,9 +41,9 @@ freely-IsFree to shapes closed = record {
   variable_closed = λ p. tt;
 }
 
-pub freely-Sends : (to : ℕ → ℕ) (shapes : ℕ → Shape) (q : ℕ) → shapes q ≡ TypeVariable (Free (to q))
+pub Sends-freely : (to : ℕ → ℕ) (shapes : ℕ → Shape) (q : ℕ) → shapes q ≡ TypeVariable (Free (to q))
     → Sends (freely to shapes) (Free q) (Free (to q))
-freely-Sends to shapes q e = record { element = λ d. refl; shape = λ d. e; variable = λ d. refl }
+Sends-freely to shapes q e = record { element = λ d. refl; shape = λ d. e; variable = λ d. refl }
 
 -- renaming is such an action
 pub renaming_as_free : (to : ℕ → ℕ) → renaming to ≡ freely to (λ p. TypeVariable (Free (to p)))
@@ -54,12 +54,12 @@ renaming_as_free to =
     at (Bound i) = refl
     at (Free p) = refl
 
-pub renaming-IsFree : (to : ℕ → ℕ) → IsFree (renaming to)
-renaming-IsFree to =
-    subst IsFree (sym (renaming_as_free to)) (freely-IsFree to (λ p. TypeVariable (Free (to p))) (λ p. tt))
+pub IsFree-renaming : (to : ℕ → ℕ) → IsFree (renaming to)
+IsFree-renaming to =
+    subst IsFree (sym (renaming_as_free to)) (IsFree-freely to (λ p. TypeVariable (Free (to p))) (λ p. tt))
 
-pub renaming-Sends : (to : ℕ → ℕ) (q : ℕ) → Sends (renaming to) (Free q) (Free (to q))
-renaming-Sends to q = record { element = λ d. refl; shape = λ d. refl; variable = λ d. refl }
+pub Sends-renaming : (to : ℕ → ℕ) (q : ℕ) → Sends (renaming to) (Free q) (Free (to q))
+Sends-renaming to q = record { element = λ d. refl; shape = λ d. refl; variable = λ d. refl }
 
 -- renamings compose
 renamed_twice : (f g : ℕ → ℕ) (v : Var)
@@ -85,9 +85,9 @@ filled_closed filling closed (Variable v) h = single_closed (Variable v) h
 filled_closed filling closed Cap h = single_closed Cap h
 filled_closed filling closed (Hole n) h = closed n
 
-pub filling_in-IsFree : (filling : ℕ → Set) → ((h : ℕ) → MeetsInSet (bound_within 0) 0 (filling h))
+pub IsFree-filling_in : (filling : ℕ → Set) → ((h : ℕ) → MeetsInSet (bound_within 0) 0 (filling h))
     → IsFree (filling_in filling)
-filling_in-IsFree filling closed = record {
+IsFree-filling_in filling closed = record {
   element_index = λ d i. refl;
   shape_index = λ d i. refl;
   variable_index = λ d i. refl;
@@ -99,8 +99,8 @@ filling_in-IsFree filling closed = record {
   variable_closed = λ p. tt;
 }
 
-pub filling_in-Sends : (filling : ℕ → Set) (v : Var) → Sends (filling_in filling) v v
-filling_in-Sends filling v = record { element = λ d. refl; shape = λ d. refl; variable = λ d. refl }
+pub Sends-filling_in : (filling : ℕ → Set) (v : Var) → Sends (filling_in filling) v v
+Sends-filling_in filling v = record { element = λ d. refl; shape = λ d. refl; variable = λ d. refl }
 
 -- an override
 pub overridden-same : {A : Type 0} (f : ℕ → A) (n : ℕ) (a : A) → overridden f n a n ≡ a

@@ -13,7 +13,7 @@ use Rattle.cc_core.specs.Occurrences.{Condition, without, bound_within, position
 use Rattle.cc_core.proofs.Opening.{closed-opened}
 use Rattle.cc_core.proofs.Lookups.{length_map}
 use Rattle.cc_core.proofs.KindFacts.{IsKindedSet-from, IsKindedTerm-from, IsKindedSet-test, IsKinded-from}
-use Rattle.cc_core.proofs.KindRespecting.{moving-KeepsKinds, opening-MovesKinds, closing-MovesKinds, putting-MovesKinds, renaming-MovesKinds, more-MovesKinds, moved_kinds, putting_shape-KeepsKinds, freely-KeepsKinds, filling_in-KeepsKinds, kinds-positions_below, kinds-bound_within, kinds-under_type_binder, kinds-under_term_binder, kinds-no_outermost_type, closed_kinded}
+use Rattle.cc_core.proofs.KindRespecting.{KeepsKinds-moving, MovesKinds-opening, MovesKinds-closing, MovesKinds-putting, MovesKinds-renaming, MovesKinds-more, moved_kinds, KeepsKinds-putting_shape, KeepsKinds-freely, KeepsKinds-filling_in, kinds-positions_below, kinds-bound_within, kinds-under_type_binder, kinds-under_term_binder, kinds-no_outermost_type, closed_kinded}
 use Rattle.cc_core.proofs.Sorts.{HasKinds, HasKinds-act, HasKinds-from, HasKinds-meets, HasKinds-test, IsFormed, MeetsIn, Sort, Syntax, acted}
 use Rattle.cc_core.proofs.KindedActions.{KindsGive}
 use Rattle.cc_core.proofs.CapturedKinds.{captured_variables_kinded}
@@ -29,7 +29,7 @@ pub opened-well_formed : (sort : Sort) (g : Context) (b : Bind) (x : Syntax sort
 opened-well_formed sort g b x h =
     let kinded : HasKinds sort (kind_of b ∷ kinds_of g) [] (acted sort (opening (length (kinds_of g))) zero x) =
     HasKinds-act sort (opening (length (kinds_of g))) (kinds_of g) (kind_of b ∷ []) (kind_of b ∷ kinds_of g) []
-    (moving-KeepsKinds (put_variable (Free (length (kinds_of g)))) (kinds_of g) (kind_of b ∷ []) (kind_of b ∷ kinds_of g) [] (opening-MovesKinds (kinds_of g) (kind_of b)))
+    (KeepsKinds-moving (put_variable (Free (length (kinds_of g)))) (kinds_of g) (kind_of b ∷ []) (kind_of b ∷ kinds_of g) [] (MovesKinds-opening (kinds_of g) (kind_of b)))
     [] x (HasKinds-from sort (kinds_of g) (kind_of b ∷ []) x h) in
     HasKinds-test sort (kind_of b ∷ kinds_of g) [] (acted sort (opening (length g)) zero x)
     (subst (λ n. HasKinds sort (kind_of b ∷ kinds_of g) [] (acted sort (opening n) zero x)) (length_map kind_of g) kinded)
@@ -40,7 +40,7 @@ pub closed-well_formed : (sort : Sort) (g : Context) (b : Bind) (x : Syntax sort
 closed-well_formed sort g b x h =
     let kinded : HasKinds sort (kinds_of g) (kind_of b ∷ []) (acted sort (closing (length (kinds_of g))) zero x) =
     HasKinds-act sort (closing (length (kinds_of g))) (kind_of b ∷ kinds_of g) [] (kinds_of g) (kind_of b ∷ [])
-    (moving-KeepsKinds (closed_variable (length (kinds_of g))) (kind_of b ∷ kinds_of g) [] (kinds_of g) (kind_of b ∷ []) (closing-MovesKinds (kinds_of g) (kind_of b)))
+    (KeepsKinds-moving (closed_variable (length (kinds_of g))) (kind_of b ∷ kinds_of g) [] (kinds_of g) (kind_of b ∷ []) (MovesKinds-closing (kinds_of g) (kind_of b)))
     [] x (HasKinds-from sort (kind_of b ∷ kinds_of g) [] x h) in
     HasKinds-test sort (kinds_of g) (kind_of b ∷ []) (acted sort (closing (length g)) zero x)
     (subst (λ n. HasKinds sort (kinds_of g) (kind_of b ∷ []) (acted sort (closing n) zero x)) (length_map kind_of g) kinded)
@@ -58,14 +58,14 @@ pub put-well_formed : (sort : Sort) (g : Context) (kind : Kind) (by : Var) (x : 
 put-well_formed sort g kind by x of h =
     HasKinds-test sort (kinds_of g) [] (acted sort (putting by) zero x)
     (HasKinds-act sort (putting by) (kinds_of g) (kind ∷ []) (kinds_of g) []
-    (moving-KeepsKinds (put_variable by) (kinds_of g) (kind ∷ []) (kinds_of g) [] (putting-MovesKinds (kinds_of g) kind by of))
+    (KeepsKinds-moving (put_variable by) (kinds_of g) (kind ∷ []) (kinds_of g) [] (MovesKinds-putting (kinds_of g) kind by of))
     [] x (HasKinds-from sort (kinds_of g) (kind ∷ []) x h))
 
 pub put_shape-well_formed : (sort : Sort) (g : Context) (by : Shape) (x : Syntax sort) → IsWellFormedShape g by
     → IsFormed sort (kinds_of g) (TypeKind ∷ []) x → IsFormed sort (kinds_of g) [] (acted sort (putting_shape by) zero x)
 put_shape-well_formed sort g by x formed h =
     HasKinds-test sort (kinds_of g) [] (acted sort (putting_shape by) zero x)
-    (HasKinds-act sort (putting_shape by) (kinds_of g) (TypeKind ∷ []) (kinds_of g) [] (putting_shape-KeepsKinds (kinds_of g) by (IsKinded-from (kinds_of g) [] by formed))
+    (HasKinds-act sort (putting_shape by) (kinds_of g) (TypeKind ∷ []) (kinds_of g) [] (KeepsKinds-putting_shape (kinds_of g) by (IsKinded-from (kinds_of g) [] by formed))
     [] x (HasKinds-from sort (kinds_of g) (TypeKind ∷ []) x h))
 
 -- renaming, actions on free positions, and filling
@@ -75,7 +75,7 @@ pub renamed-well_formed : (sort : Sort) (g h : Context) (to : ℕ → ℕ) (x : 
 renamed-well_formed sort g h to x same formed =
     HasKinds-test sort (kinds_of h) [] (acted sort (renaming to) zero x)
     (HasKinds-act sort (renaming to) (kinds_of g) [] (kinds_of h) []
-    (moving-KeepsKinds (λ d v. renamed_variable to v) (kinds_of g) [] (kinds_of h) [] (renaming-MovesKinds to (kinds_of g) (kinds_of h) [] same))
+    (KeepsKinds-moving (λ d v. renamed_variable to v) (kinds_of g) [] (kinds_of h) [] (MovesKinds-renaming to (kinds_of g) (kinds_of h) [] same))
     [] x (HasKinds-from sort (kinds_of g) [] x formed))
 
 pub acted-well_formed : (sort : Sort) (g h : Context) (to : ℕ → ℕ) (shapes : ℕ → Shape) (x : Syntax sort)
@@ -85,7 +85,7 @@ pub acted-well_formed : (sort : Sort) (g h : Context) (to : ℕ → ℕ) (shapes
 acted-well_formed sort g h to shapes x terms types formed =
     HasKinds-test sort (kinds_of h) [] (acted sort (freely to shapes) zero x)
     (HasKinds-act sort (freely to shapes) (kinds_of g) [] (kinds_of h) []
-    (freely-KeepsKinds to shapes (kinds_of g) (kinds_of h) [] terms (λ p k. IsKinded-from (kinds_of h) [] (shapes p) (types p k)))
+    (KeepsKinds-freely to shapes (kinds_of g) (kinds_of h) [] terms (λ p k. IsKinded-from (kinds_of h) [] (shapes p) (types p k)))
     [] x (HasKinds-from sort (kinds_of g) [] x formed))
 
 pub filled-well_formed : (sort : Sort) (g : Context) (filling : ℕ → Set) (x : Syntax sort)
@@ -93,7 +93,7 @@ pub filled-well_formed : (sort : Sort) (g : Context) (filling : ℕ → Set) (x 
     → IsFormed sort (kinds_of g) [] (acted sort (filling_in filling) zero x)
 filled-well_formed sort g filling x fillings formed =
     HasKinds-test sort (kinds_of g) [] (acted sort (filling_in filling) zero x)
-    (HasKinds-act sort (filling_in filling) (kinds_of g) [] (kinds_of g) [] (filling_in-KeepsKinds filling (kinds_of g) [] (λ h. IsKindedSet-from (kinds_of g) [] (filling h) (fillings h)))
+    (HasKinds-act sort (filling_in filling) (kinds_of g) [] (kinds_of g) [] (KeepsKinds-filling_in filling (kinds_of g) [] (λ h. IsKindedSet-from (kinds_of g) [] (filling h) (fillings h)))
     [] x (HasKinds-from sort (kinds_of g) [] x formed))
 
 -- added entries, and a binder that is not used
@@ -102,7 +102,7 @@ pub more-well_formed : (sort : Sort) (more g : Context) (x : Syntax sort) → Is
 more-well_formed sort more g x formed =
     HasKinds-test sort (kinds_of (more ++ g)) [] x
     (subst (λ ks. HasKinds sort ks [] x) (kinds_append more g)
-    (moved_kinds sort (kinds_of g) [] (kinds_of more ++ kinds_of g) [] (more-MovesKinds (kinds_of more) (kinds_of g) []) [] x (HasKinds-from sort (kinds_of g) [] x formed)))
+    (moved_kinds sort (kinds_of g) [] (kinds_of more ++ kinds_of g) [] (MovesKinds-more (kinds_of more) (kinds_of g) []) [] x (HasKinds-from sort (kinds_of g) [] x formed)))
 
 pub closed-well_formed_under : (sort : Sort) (g : Context) (kind : Kind) (x : Syntax sort)
     → IsFormed sort (kinds_of g) [] x → IsFormed sort (kinds_of g) (kind ∷ []) x

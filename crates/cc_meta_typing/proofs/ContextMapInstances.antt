@@ -19,7 +19,7 @@ use Rattle.cc_core.proofs.Moving.{same_moves, moving-identity, Member-single_its
 use Rattle.cc_core.proofs.Lookups.{length_map, lookup-newest, lookup-below, lookup-cases}
 use Rattle.cc_core.proofs.KindFacts.{IsKinded, IsKindedSet, IsKinded-from, IsKinded-test, IsKindedType-from}
 use Rattle.cc_core.proofs.KindedActions.{IsKinded-act, IsKinded-meets, IsKindedSet-meets}
-use Rattle.cc_core.proofs.KindRespecting.{freely-KeepsKinds, kinds-under_type_binder, kinds-bound_within}
+use Rattle.cc_core.proofs.KindRespecting.{KeepsKinds-freely, kinds-under_type_binder, kinds-bound_within}
 use Rattle.cc_core.proofs.Levels.{freely-still}
 use Rattle.cc_core.proofs.Renaming.{renaming_as_free, overridden-same, overridden-below, freely-agree}
 use Rattle.cc_core.proofs.FreshOpenings.{fresh_opening, fresh_shape}
@@ -72,7 +72,7 @@ entries_map source target to shapes g d m =
     let kept : (shape : Shape) → IsKinded (kinds_of source) [] shape → IsKinded (kinds_of target) [] (mapped to shapes shape) =
     λ shape h.
     IsKinded-act (freely to shapes) (kinds_of source) [] (kinds_of target) []
-    (freely-KeepsKinds to shapes (kinds_of source) (kinds_of target) []
+    (KeepsKinds-freely to shapes (kinds_of source) (kinds_of target) []
     (λ p known. let entry = entry_of_term source p known in let found = m.types p entry.0 entry.1 entry.2 in kind_of_entry target (to p) (TermEntry found.0 found.1) found.2)
     (λ p known. let entry = entry_of_type source p known in IsKinded-from (kinds_of target) [] (shapes p) (m.formed p entry.0 entry.1)))
     [] shape h in

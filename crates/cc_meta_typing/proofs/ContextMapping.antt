@@ -19,9 +19,9 @@ use Rattle.cc_core.proofs.Lookups.{length_map, lookup-newest, lookup-older, look
 use Rattle.cc_core.proofs.Moving.{Member-single, Member-single_itself}
 use Rattle.cc_core.proofs.KindFacts.{IsKinded, IsKindedSet, IsKinded-from, IsKinded-test}
 use Rattle.cc_core.proofs.KindedActions.{IsKinded-act, IsKinded-meets, IsKindedSet-meets}
-use Rattle.cc_core.proofs.KindRespecting.{freely-KeepsKinds, kinds-positions_below}
+use Rattle.cc_core.proofs.KindRespecting.{KeepsKinds-freely, kinds-positions_below}
 use Rattle.cc_core.proofs.FreeActions.{free-level}
-use Rattle.cc_core.proofs.Renaming.{freely-IsFree, overridden-same, overridden-below, freely-agree}
+use Rattle.cc_core.proofs.Renaming.{IsFree-freely, overridden-same, overridden-below, freely-agree}
 use Rattle.cc_core.proofs.FreshOpenings.{fresh_opening}
 use Rattle.cc_core.proofs.SubcapturingContexts.{IsKindedEntry, IsKindedContext, entry_kinded, kind_of_entry, IsKinded-added, entry_of_term, entry_of_type}
 use Rattle.cc_core.proofs.SubcapturingLemmas.{subcaptures_above, subcaptures_reflexive}
@@ -76,7 +76,7 @@ module _ (source target : Context) (to : ℕ → ℕ) (shapes : ℕ → Shape) (
       → mapped (to_under source target to) (shapes_under source target shapes) (opened (length source) shape) ≡ opened (length target) (act (freely to shapes) 1 shape)
   body_under passed shape h =
       fresh_opening (length source) (length target) to shapes map.closed ShapeSort 0 shape (positions_of source passed shape h)
-      ∙ ap (opened (length target)) (free-level (freely to shapes) (freely-IsFree to shapes map.closed) 0 1 shape)
+      ∙ ap (opened (length target)) (free-level (freely to shapes) (IsFree-freely to shapes map.closed) 0 1 shape)
 
   pub body_set_under : (passed : List Kind) (set : Set) → IsKindedSet (kinds_of source) passed set
       → mapped_set (to_under source target to) (shapes_under source target shapes) (opened_set (length source) set) ≡ opened_set (length target) (act_set (freely to shapes) 1 set)
@@ -87,7 +87,7 @@ module _ (source target : Context) (to : ℕ → ℕ) (shapes : ℕ → Shape) (
   pub mapped_kinded : (passed : List Kind) (shape : Shape) → IsKinded (kinds_of source) passed shape → IsKinded (kinds_of target) passed (mapped to shapes shape)
   mapped_kinded passed shape h =
       IsKinded-act (freely to shapes) (kinds_of source) passed (kinds_of target) passed
-      (freely-KeepsKinds to shapes (kinds_of source) (kinds_of target) passed
+      (KeepsKinds-freely to shapes (kinds_of source) (kinds_of target) passed
       (λ p known. let entry = entry_of_term source p known in let found = map.types p entry.0 entry.1 entry.2 in kind_of_entry target (to p) (TermEntry found.0 found.1) found.2)
       (λ p known. let entry = entry_of_type source p known in IsKinded-from (kinds_of target) [] (shapes p) (map.formed p entry.0 entry.1)))
       [] shape h

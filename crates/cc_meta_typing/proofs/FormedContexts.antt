@@ -15,7 +15,7 @@ use Rattle.cc_core.specs.WellFormed.{Kind, TermKind, TypeKind, kind_of, kinds_of
 use Rattle.cc_core.proofs.Lookups.{length_map, lookup-other}
 use Rattle.cc_core.proofs.KindFacts.{IsOfKind, IsKindedElement, IsKindedSet, IsKinded, IsKindedTerm, IsKindedSet-test, IsKinded-test}
 use Rattle.cc_core.proofs.KindedActions.{KeepsKinds, KindsGive}
-use Rattle.cc_core.proofs.KindRespecting.{single_kinded, moving-KeepsKinds, opening-MovesKinds, closing-MovesKinds, more-MovesKinds, moved_kinds, kinds-positions_below, kinds-bound_within, kinds-under_type_binder}
+use Rattle.cc_core.proofs.KindRespecting.{single_kinded, KeepsKinds-moving, MovesKinds-opening, MovesKinds-closing, MovesKinds-more, moved_kinds, kinds-positions_below, kinds-bound_within, kinds-under_type_binder}
 use Rattle.cc_core.proofs.Sorts.{TermSort, Sort, Syntax, acted, HasKinds, HasKinds-act}
 use Rattle.cc_core.proofs.SubcapturingContexts.{IsKindedEntry, IsKindedContext}
 
@@ -39,7 +39,7 @@ some_is a b e = cc
 
 -- with one kind more
 pub IsKindedTerm-added : (k : Kind) (kinds beyond : List Kind) (t : Term) → IsKindedTerm kinds beyond t → IsKindedTerm (k ∷ kinds) beyond t
-IsKindedTerm-added k kinds beyond t h = moved_kinds TermSort kinds beyond (k ∷ kinds) beyond (more-MovesKinds (k ∷ []) kinds beyond) [] t h
+IsKindedTerm-added k kinds beyond t h = moved_kinds TermSort kinds beyond (k ∷ kinds) beyond (MovesKinds-more (k ∷ []) kinds beyond) [] t h
 
 -- conditions that follow from kinds, where there are so many
 pub kinds_below : (n : ℕ) (kinds beyond : List Kind) → length kinds ≡ n → KindsGive kinds beyond (positions_below n)
@@ -56,12 +56,12 @@ module _ (n : ℕ) (k : Kind) (kinds : List Kind) (len : length kinds ≡ n) whe
   keeps_opening : KeepsKinds (opening n) kinds (k ∷ []) (k ∷ kinds) []
   keeps_opening =
       subst (λ m. KeepsKinds (opening m) kinds (k ∷ []) (k ∷ kinds) []) len
-      (moving-KeepsKinds (put_variable (Free (length kinds))) kinds (k ∷ []) (k ∷ kinds) [] (opening-MovesKinds kinds k))
+      (KeepsKinds-moving (put_variable (Free (length kinds))) kinds (k ∷ []) (k ∷ kinds) [] (MovesKinds-opening kinds k))
 
   keeps_closing : KeepsKinds (closing n) (k ∷ kinds) [] kinds (k ∷ [])
   keeps_closing =
       subst (λ m. KeepsKinds (closing m) (k ∷ kinds) [] kinds (k ∷ [])) len
-      (moving-KeepsKinds (closed_variable (length kinds)) (k ∷ kinds) [] kinds (k ∷ []) (closing-MovesKinds kinds k))
+      (KeepsKinds-moving (closed_variable (length kinds)) (k ∷ kinds) [] kinds (k ∷ []) (MovesKinds-closing kinds k))
 
   -- what is opened at the next position is well formed with one kind more, and what is closed, with one less
   pub HasKinds-opened : (sort : Sort) (x : Syntax sort) → HasKinds sort kinds (k ∷ []) x → HasKinds sort (k ∷ kinds) [] (acted sort (opening n) 0 x)

@@ -25,7 +25,7 @@ use Rattle.cc_core.proofs.Actions.{same_actions, act-keeping, act_set-keeping}
 use Rattle.cc_core.proofs.TermActions.{act_term-keeping}
 use Rattle.cc_core.proofs.FreeActions.{free-level}
 use Rattle.cc_core.proofs.Levels.{freely-still}
-use Rattle.cc_core.proofs.Renaming.{freely-IsFree, overridden-same, overridden-below, freely-agree}
+use Rattle.cc_core.proofs.Renaming.{IsFree-freely, overridden-same, overridden-below, freely-agree}
 use Rattle.cc_core.proofs.FreshOpenings.{fresh_opening, fresh_shape}
 use Rattle.cc_core.proofs.KindFacts.{IsOfKind, IsKindedElement, IsKindedSet, IsKinded, IsKindedTerm}
 use Rattle.cc_core.proofs.KindedActions.{KeepsKinds, IsKindedSet-act, IsKinded-act, IsKindedSet-meets, IsKinded-meets, IsKindedTerm-meets}
@@ -147,7 +147,7 @@ module _ (g d : Context) (to : ℕ → ℕ) (shapes : ℕ → Shape) (maps : Map
 
   -- a map moves an open index nowhere, so the depth does not matter
   pub map_level : (m n : ℕ) (s : Shape) → act (freely to shapes) m s ≡ act (freely to shapes) n s
-  map_level m n s = free-level (freely to shapes) (freely-IsFree to shapes maps.closed) m n s
+  map_level m n s = free-level (freely to shapes) (IsFree-freely to shapes maps.closed) m n s
 
   pub map_kinded : (beyond : List Kind) (n : ℕ) (s : Shape) → IsKinded (kinds_of g) beyond s → IsKinded (kinds_of d) beyond (act (freely to shapes) n s)
   map_kinded beyond n s h = subst (IsKinded (kinds_of d) beyond) (map_level 0 n s) (map_kinded_at0 beyond s h)

@@ -24,11 +24,11 @@ use Rattle.cc_core.proofs.SubcapturingLemmas.{subcaptures_reflexive, subcaptures
 use Rattle.cc_core.proofs.Moving.{flat_image-of_single, Member-single, Member-single_itself}
 use Rattle.cc_core.proofs.FreeActions.{Sends, free-putting, free-putting_shape, putting_shape_set}
 use Rattle.cc_core.proofs.Levels.{free_term-level}
-use Rattle.cc_core.proofs.Renaming.{freely-IsFree, freely-Sends, overridden-below}
+use Rattle.cc_core.proofs.Renaming.{IsFree-freely, Sends-freely, overridden-below}
 use Rattle.cc_core.proofs.KindFacts.{IsKindedSet, IsKinded, IsKindedTerm}
 use Rattle.cc_core.proofs.KindedActions.{IsKindedTerm-act, IsKindedTerm-meets}
 use Rattle.cc_meta_typing.proofs.DirectSubtyping.{SubtypesDirectly, alike, direct_transitive}
-use Rattle.cc_core.proofs.CapturedActions.{captured_variables-act, freely-PassesBinders}
+use Rattle.cc_core.proofs.CapturedActions.{captured_variables-act, PassesBinders-freely}
 use Rattle.cc_meta_typing.proofs.FormedContexts.{length-kinds_of, kinded_single, kinds_below}
 use Rattle.cc_meta_typing.proofs.FreeMaps.{as_is, Maps, maps_kinds, map_kinded, map_kinded_at0, map_kinded_set, map_level, map_element, map_subcaptures, agree_shape, agree_set, maps_under, opened_map, opened_map_set, map_subtypes}
 use Rattle.cc_meta_typing.proofs.InternalTyping.{HasVariable, TypedExactly, exact_variable, exact_literal, exact_function, exact_type_function, exact_application, exact_type_application, exact_box, exact_unboxing, exact_let, exact_primitive, exact_conditional, exact_repetition, exact_operation, exact_operation_alone, exact_boundary, exact_leave, Typed, widened, exactly_kinded}
@@ -105,7 +105,7 @@ module _ (g d : Context) (to : ℕ → ℕ) (shapes : ℕ → Shape) (maps : Map
   sends_at : {v : Var} {s : Shape} {c : Set} → HasVariable g v s c → Sends (freely to shapes) v (renamed_variable to v)
   sends_at has =
       subst (λ w. Sends (freely to shapes) w (renamed_variable to w)) (sym has.is)
-      (freely-Sends to shapes has.position (maps.sends has.position has.shape has.set has.there))
+      (Sends-freely to shapes has.position (maps.sends has.position has.shape has.set has.there))
 
   map_nothing : (n : ℕ) → act_set (freely to shapes) n empty ≡ empty
   map_nothing n = flat_image-empty ((freely to shapes).element n)
@@ -138,7 +138,7 @@ module _ (g d : Context) (to : ℕ → ℕ) (shapes : ℕ → Shape) (maps : Map
       → act_term (freely (overridden to (length g) (length d)) (overridden shapes (length g) (TypeVariable (Free (length d))))) 0 (opened_term (length g) t) ≡ opened_term (length d) (act_term (freely to shapes) 1 t)
   opened_term_map k t h =
       fresh_opening (length g) (length d) to shapes maps.closed TermSort 0 t (IsKindedTerm-meets (kinds_of g) (k ∷ []) (positions_below (length g)) (kinds_below (length g) (kinds_of g) (k ∷ []) (length-kinds_of g)) [] t h)
-      ∙ ap (opened_term (length d)) (free_term-level (freely to shapes) (freely-IsFree to shapes maps.closed) 0 1 t)
+      ∙ ap (opened_term (length d)) (free_term-level (freely to shapes) (IsFree-freely to shapes maps.closed) 0 1 t)
 
 mutual
   map_exactly : {g : Context} {t : Term} {s : Shape} {c : Set} → TypedExactly g t s c → (d : Context) (to : ℕ → ℕ) (shapes : ℕ → Shape) → Maps g d to shapes → IsKindedContext g
@@ -158,7 +158,7 @@ mutual
       let under = maps_under g d to shapes maps formed (TermEntry takes c) entry in
       let body' = map_typed typed (TermEntry (act (freely to shapes) 0 takes) (act_set (freely to shapes) 0 c) ∷ d) (overridden to (length g) (length d)) (overridden shapes (length g) (TypeVariable (Free (length d)))) under (entry, formed) in
       exactly_below
-      (exactly_is refl (captured_variables-act (freely to shapes) (freely-PassesBinders to shapes) 0 (FunctionTerm takes c body))
+      (exactly_is refl (captured_variables-act (freely to shapes) (PassesBinders-freely to shapes) 0 (FunctionTerm takes c body))
       (exact_function (map_kinded g d to shapes maps (TermKind ∷ []) 1 gives kg) (map_kinded_set g d to shapes maps (TermKind ∷ []) e ke)
       (typed_is (opened_term_map g d to shapes maps formed TermKind body k.2) (opened_map g d to shapes maps formed (TermEntry takes c) entry TermKind gives kg) (opened_map_set g d to shapes maps formed (TermEntry takes c) entry TermKind e ke) body')))
   map_exactly (exact_type_function {g = g} {bound = bound} {gives = gives} {e = e} {body = body} kg ke typed) d to shapes maps formed k =
@@ -166,11 +166,11 @@ mutual
       let under = maps_under g d to shapes maps formed (TypeEntry bound) entry in
       let body' = map_typed typed (TypeEntry (act (freely to shapes) 0 bound) ∷ d) (overridden to (length g) (length d)) (overridden shapes (length g) (TypeVariable (Free (length d)))) under (entry, formed) in
       exactly_below
-      (exactly_is refl (captured_variables-act (freely to shapes) (freely-PassesBinders to shapes) 0 (TypeFunctionTerm bound body))
+      (exactly_is refl (captured_variables-act (freely to shapes) (PassesBinders-freely to shapes) 0 (TypeFunctionTerm bound body))
       (exact_type_function (map_kinded g d to shapes maps (TypeKind ∷ []) 1 gives kg) (map_kinded_set g d to shapes maps (TypeKind ∷ []) e ke)
       (typed_is (opened_term_map g d to shapes maps formed TypeKind body k.1) (opened_map g d to shapes maps formed (TypeEntry bound) entry TypeKind gives kg) (opened_map_set g d to shapes maps formed (TypeEntry bound) entry TypeKind e ke) body')))
   map_exactly (exact_application {g = g} {function = v} {argument = w} {takes = takes} {gives = gives} {c = c} {e = e} function argument) d to shapes maps formed k =
-      let f = freely-IsFree to shapes maps.closed in
+      let f = IsFree-freely to shapes maps.closed in
       let sends = sends_at g d to shapes maps formed argument in
       exactly_below
       (exactly_is
@@ -178,7 +178,7 @@ mutual
       (sym (free-putting (freely to shapes) f w (renamed_variable to w) sends SetSort 0 e))
       (exact_application (map_variable g d to shapes maps formed function) (map_variable g d to shapes maps formed argument)))
   map_exactly (exact_type_application {g = g} {function = v} {bound = bound} {gives = gives} {argument = r} {e = e} function below) d to shapes maps formed k =
-      let f = freely-IsFree to shapes maps.closed in
+      let f = IsFree-freely to shapes maps.closed in
       exactly_below
       (exactly_is
       (ap (act (putting_shape (act (freely to shapes) 0 r)) 0) (map_level g d to shapes maps 1 0 gives) ∙ sym (free-putting_shape (freely to shapes) f r ShapeSort 0 gives))
