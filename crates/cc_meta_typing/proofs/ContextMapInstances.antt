@@ -2,20 +2,18 @@
 use Rattle.cc_meta_typing.proofs.FormedContexts.{opened_kinded}
 use Rattle.std.proofs.Common.{◌≡◌, ℕ, ◌<◌, true, false, cond, List, [], ◌∷◌, ◌++◌, length, Some, refl, sym, ap, ◌∙◌, subst, inl, inr}
 use Rattle.std.specs.Prelude.{nat_eq}
-use Rattle.cc_capture.specs.declared.var.Var.{Var}
-use Rattle.cc_capture.specs.declared.var.Var.TheVariants.{Bound, Free}
+use Rattle.cc_capture.specs.declared.var.Var.TheVariants.{Free}
 use Rattle.cc_capture.specs.declared.var.Elem.TheVariants.{Var as Variable}
 use Rattle.cc_capture.specs.Sets.{Set}
 use Rattle.cc_core.specs.Shapes.{Shape, TypeVariable, CapturingType, capturing}
 use Rattle.cc_core.specs.Contexts.{Bind, TermEntry, TypeEntry, Context, lookup}
-use Rattle.cc_core.specs.Traversal.{act, act_set, act_type, keeping}
-use Rattle.cc_core.specs.Substitution.{freely, overridden, renaming, renamed_variable, opened, opened_set, opened_type, replaced_type_by_shape, putting_shape, single}
+use Rattle.cc_core.specs.Traversal.{act, act_set, act_type}
+use Rattle.cc_core.specs.Substitution.{freely, overridden, renaming, opened, opened_set, opened_type, replaced_type_by_shape, putting_shape, single}
 use Rattle.cc_core.specs.Occurrences.{Meets, MeetsInSet, bound_within, under_type_binder}
 use Rattle.cc_core.specs.WellFormed.{Kind, TermKind, TypeKind, kind_of, kinds_of, is_well_formed_shape, is_well_formed_type, is_well_formed_context}
 use Rattle.cc_core.specs.Subcapturing.{Subcaptures, variable, SubcapturesSet}
 use Rattle.cc_core.specs.Subtyping.{Subtypes, reflexive, type_variable, SubtypesType}
-use Rattle.cc_core.proofs.Actions.{act-keeping, act_set-keeping}
-use Rattle.cc_core.proofs.Moving.{same_moves, moving-identity, Member-single_itself}
+use Rattle.cc_core.proofs.Moving.{Member-single_itself}
 use Rattle.cc_core.proofs.Lookups.{length_map, lookup-newest, lookup-below, lookup-cases}
 use Rattle.cc_core.proofs.KindFacts.{IsKinded, IsKindedSet, IsKinded-from, IsKinded-test, IsKindedType-from}
 use Rattle.cc_core.proofs.KindedActions.{IsKinded-act, IsKinded-meets, IsKindedSet-meets}

@@ -1,7 +1,7 @@
 -- Each comparison of well-formed shapes ends, since weights fall.
 use Rattle.cc_meta_typing.proofs.FormedContexts.{opened_kinded}
 use Rattle.cc_core.proofs.Sorts.{ShapeSort}
-use Rattle.std.proofs.Common.{◌≡◌, ℕ, zero, suc, ◌+◌, ◌<◌, Bool, true, false, cond, List, [], ◌∷◌, ◌++◌, length, Option, Some, None, refl, sym, ap, ◌∙◌, subst, inl, inr, ◌⊎◌, arith}
+use Rattle.std.proofs.Common.{◌≡◌, ℕ, zero, suc, ◌+◌, ◌<◌, true, false, cond, List, [], ◌∷◌, ◌++◌, length, Option, Some, None, refl, sym, ap, ◌∙◌, subst, inl, inr, ◌⊎◌, arith}
 use Rattle.std.specs.Prelude.{nat_eq}
 use Rattle.std.proofs.lemmas.Bool.{cond-true, cond-false, ne_eqb, and_parts, eqb-true, eq-eqb}
 use Rattle.cc_capture.specs.declared.var.Var.TheVariants.{Bound, Free}

@@ -1,8 +1,8 @@
 -- Maps of contexts: variables of terms go to variables, and type variables to shapes. Subcapturing and subtyping go along
 -- with them, and weakening, substitution and narrowing are maps.
 use Rattle.cc_core.proofs.SubcapturingContexts.{IsKinded-added, IsKindedContext, IsKindedEntry, entry_kinded, entry_of_term, entry_of_type, kind_of_entry}
-use Rattle.std.proofs.Common.{◌≡◌, ℕ, zero, suc, ◌<◌, true, false, cond, List, [], ◌∷◌, ◌++◌, length, Some, inl, inr, ◌⊎◌, refl, sym, ap, ◌∙◌, subst}
-use Rattle.std.specs.Prelude.{nat_eq, slice_get}
+use Rattle.std.proofs.Common.{◌≡◌, ℕ, ◌<◌, true, false, cond, List, [], ◌∷◌, ◌++◌, length, Some, inl, inr, ◌⊎◌, refl, sym, ap, ◌∙◌, subst}
+use Rattle.std.specs.Prelude.{nat_eq}
 use Rattle.std.proofs.lemmas.Bool.{eqb-true}
 use Rattle.cc_capture.specs.declared.var.Var.{Var}
 use Rattle.cc_capture.specs.declared.var.Var.TheVariants.{Bound, Free}
@@ -13,7 +13,7 @@ use Rattle.cc_capture.proofs.Membership.{Member-flat_image}
 use Rattle.cc_core.specs.Shapes.{Shape, TypeVariable}
 use Rattle.cc_core.specs.Terms.{Term}
 use Rattle.cc_core.specs.Contexts.{Bind, TermEntry, TypeEntry, Context, lookup}
-use Rattle.cc_core.specs.Traversal.{Action, act, act_set, act_term, keeping}
+use Rattle.cc_core.specs.Traversal.{Action, act, act_set, act_term}
 use Rattle.cc_core.specs.Substitution.{single, moved_element, opened, opened_set, opened_term, putting, putting_shape, renamed_variable, free_shape, freely, overridden}
 use Rattle.cc_core.specs.Occurrences.{Meets, bound_within, positions_below, under_type_binder}
 use Rattle.cc_core.specs.WellFormed.{Kind, TermKind, TypeKind, kind_of, kinds_of}
@@ -21,13 +21,12 @@ use Rattle.cc_core.specs.Subcapturing.{Subcaptures, element, variable, Subcaptur
 use Rattle.cc_core.proofs.Lookups.{lookup-newest, lookup-older, lookup-below}
 use Rattle.cc_core.proofs.SubcapturingLemmas.{subcaptures_above, subcaptures_along}
 use Rattle.cc_core.proofs.Moving.{Member-single}
-use Rattle.cc_core.proofs.Actions.{same_actions, act-keeping, act_set-keeping}
-use Rattle.cc_core.proofs.TermActions.{act_term-keeping}
 use Rattle.cc_core.proofs.FreeActions.{free-level}
 use Rattle.cc_core.proofs.Levels.{freely-still}
 use Rattle.cc_core.proofs.Renaming.{IsFree-freely, overridden-same, overridden-below, freely-agree}
 use Rattle.cc_core.proofs.FreshOpenings.{fresh_opening, fresh_shape}
 use Rattle.cc_core.proofs.KindFacts.{IsOfKind, IsKindedElement, IsKindedSet, IsKinded, IsKindedTerm}
+use Rattle.cc_core.proofs.KindRespecting.{closed_kinded}
 use Rattle.cc_core.proofs.KindedActions.{KeepsKinds, IsKindedSet-act, IsKinded-act, IsKindedSet-meets, IsKinded-meets, IsKindedTerm-meets}
 use Rattle.cc_meta_typing.proofs.DirectSubtyping.{SubtypesDirectly, alike, under_any, through_bound, functions, type_functions, boxes, direct_transitive}
 use Rattle.cc_meta_typing.proofs.FormedContexts.{length-kinds_of, kinded_single, kinds_below, kinds_bound, kinds_under_type, some_is, HasKinds-opened}
@@ -87,31 +86,6 @@ abbrev pub acted_entry : Action → Bind → Bind
 acted_entry f (TermEntry s c) = TermEntry (act f 0 s) (act_set f 0 c)
 acted_entry f (TypeEntry b) = TypeEntry (act f 0 b)
 
--- what is well formed is so under more binders
-deeper_kinds : (kinds beyond : List Kind) → KeepsKinds keeping kinds [] kinds beyond
-deeper_kinds kinds beyond = record {
-  element = λ passed x h. kinded_single kinds (passed ++ beyond) x (each passed x h);
-  shape = λ passed v h. at passed v TypeKind h;
-  variable = λ passed v h. at passed v TermKind h;
-}
-  where
-    inside : {A : Type 0} (xs ys : List A) (i : ℕ) (a : A) → slice_get (xs ++ []) i ≡ Some a → slice_get (xs ++ ys) i ≡ Some a
-    inside [] ys i a e = cc
-    inside (x ∷ xs) ys zero a e = e
-    inside (x ∷ xs) ys (suc i) a e = inside xs ys i a e
-
-    at : (passed : List Kind) (v : Var) (k : Kind) → IsOfKind kinds (passed ++ []) v k → IsOfKind kinds (passed ++ beyond) v k
-    at passed (Free p) k h = h
-    at passed (Bound i) k h = inside passed beyond i k h
-
-    each : (passed : List Kind) (x : Elem) → IsKindedElement kinds (passed ++ []) x → IsKindedElement kinds (passed ++ beyond) x
-    each passed (Variable v) h = at passed v TermKind h
-    each passed Cap h = tt
-    each passed (Hole n) h = tt
-
-pub IsKinded-deeper : (kinds passed : List Kind) (s : Shape) → IsKinded kinds [] s → IsKinded kinds passed s
-IsKinded-deeper kinds passed s h = subst (IsKinded kinds passed) (act-keeping 0 s) (IsKinded-act keeping kinds [] kinds passed (deeper_kinds kinds passed) [] s h)
-
 module _ (g d : Context) (to : ℕ → ℕ) (shapes : ℕ → Shape) (maps : Maps g d to shapes) where
   -- a map takes what is of a kind to what is of it
   mapped_variable : (passed : List Kind) (v : Var) → IsOfKind (kinds_of g) passed v TermKind → IsOfKind (kinds_of d) passed (renamed_variable to v) TermKind
@@ -130,7 +104,7 @@ module _ (g d : Context) (to : ℕ → ℕ) (shapes : ℕ → Shape) (maps : Map
   mapped_type_variable passed (Bound i) h = h
   mapped_type_variable passed (Free p) h =
       let found = entry_of_type g p h in
-      IsKinded-deeper (kinds_of d) passed (shapes p) (maps.kinded p found.0 found.1)
+      closed_kinded ShapeSort (kinds_of d) passed (shapes p) (maps.kinded p found.0 found.1)
 
   pub maps_kinds : (beyond : List Kind) → KeepsKinds (freely to shapes) (kinds_of g) beyond (kinds_of d) beyond
   maps_kinds beyond = record {

@@ -1,17 +1,15 @@
 -- Typing by the form of the term, where each term's type is widened exactly once. It is the same relation as typing.
 use Rattle.cc_core.proofs.SubcapturingContexts.{IsKindedContext, entry_kinded}
 use Rattle.cc_core.proofs.Sorts.{SetSort, ShapeSort}
-use Rattle.std.proofs.Common.{◌≡◌, ℕ, zero, suc, Bool, true, false, cond, List, [], ◌∷◌, length, Option, Some, None, inl, inr, sym, subst}
+use Rattle.std.proofs.Common.{◌≡◌, ℕ, List, [], ◌∷◌, length, Some, None, sym, subst}
 use Rattle.cc_base.specs.declared.literal.Base.{Base}
 use Rattle.cc_base.specs.declared.literal.Base.TheVariants as bases
 use Rattle.cc_base.specs.declared.literal.Operator.{Operator}
 use Rattle.cc_base.specs.declared.literal.Op.{Op}
 use Rattle.cc_capture.specs.declared.var.Var.{Var}
-use Rattle.cc_capture.specs.declared.var.Var.TheVariants.{Bound, Free}
-use Rattle.cc_capture.specs.declared.var.Elem.{Elem}
-use Rattle.cc_capture.specs.declared.var.Elem.TheVariants.{Var as Variable, Cap, Hole}
-use Rattle.cc_capture.specs.Sets.{Set, empty, union}
-use Rattle.cc_capture.proofs.Membership.{Member-flat_image, Member-empty, Member-union}
+use Rattle.cc_capture.specs.declared.var.Var.TheVariants.{Free}
+use Rattle.cc_capture.specs.declared.var.Elem.TheVariants.{Var as Variable, Cap}
+use Rattle.cc_capture.specs.Sets.{Set, empty}
 use Rattle.cc_core.specs.Shapes.{Shape, BaseShape, TypeVariable, FunctionShape, TypeFunctionShape, BoxShape, ExitShape}
 use Rattle.cc_base.specs.Literals.{Literal}
 use Rattle.cc_core.specs.Terms.{Note, Written, Term, VariableTerm, LiteralTerm, FunctionTerm, TypeFunctionTerm, BoxTerm, Application, TypeApplication, Unboxing, Let, Primitive, Conditional, Repetition, Operation, Boundary, Leave}
@@ -19,11 +17,11 @@ use Rattle.cc_core.specs.Contexts.{TermEntry, TypeEntry, Context, lookup}
 use Rattle.cc_core.specs.Traversal.{act, act_set}
 use Rattle.cc_core.specs.Substitution.{single, putting, putting_shape, opened, opened_set, opened_term, overridden}
 use Rattle.cc_core.specs.WellFormed.{Kind, TermKind, TypeKind, kinds_of}
-use Rattle.cc_core.specs.Captured.{outside, without_binder, variable_set, optional_set, optional_variable_set, is_unused_value, captured_variables}
+use Rattle.cc_core.specs.Captured.{without_binder, variable_set, captured_variables}
 use Rattle.cc_core.specs.Subcapturing.{Subcaptures, SubcapturesSet}
 use Rattle.cc_core.specs.Typing.{base_of, base_given, base_operated, base_taken, base_answered, IsNoteOf, HasNoCap}
 use Rattle.cc_core.proofs.CapturedKinds.{empty_kinded, without_binder_kinded, captured_variables_kinded}
-use Rattle.cc_core.proofs.KindFacts.{IsOfKind, IsKindedElement, IsKindedSet, IsKinded, IsKindedTerm, IsKindedOptionalSet, IsKindedOptional}
+use Rattle.cc_core.proofs.KindFacts.{IsKindedSet, IsKinded, IsKindedTerm}
 use Rattle.cc_meta_typing.proofs.DirectSubtyping.{SubtypesDirectly}
 use Rattle.cc_meta_typing.proofs.FormedContexts.{length-kinds_of, kinded_single, HasKinds-opened}
 use Rattle.cc_meta_typing.proofs.FreeMaps.{same_position, same_variable, map_kinded_at0, map_kinded_set, maps_value, maps_shape, value_put, value_put_set, shape_put, shape_put_set}

@@ -1,9 +1,8 @@
 -- Typing is kept along each map of contexts.
-use Rattle.std.specs.Prelude.{◌≡◌, ℕ, zero, Some}
-use Rattle.cc_capture.specs.declared.var.Var.TheVariants.{Free}
-use Rattle.cc_core.specs.Shapes.{Shape, TypeVariable, CapturingType}
+use Rattle.std.specs.Prelude.{ℕ, zero}
+use Rattle.cc_core.specs.Shapes.{Shape, CapturingType}
 use Rattle.cc_core.specs.Terms.{Term}
-use Rattle.cc_core.specs.Contexts.{Bind, Context, lookup}
+use Rattle.cc_core.specs.Contexts.{Context}
 use Rattle.cc_core.specs.Traversal.{act_type, act_term}
 use Rattle.cc_core.specs.Substitution.{freely, renaming}
 use Rattle.cc_core.specs.WellFormed.{IsWellFormedContext}
