@@ -12,7 +12,7 @@ use Rattle.cc_core.specs.Traversal.{Action, act_set, act_type, act_note, act_ter
 use Rattle.cc_core.specs.Substitution.{single, moved_element, renamed_variable, free_shape, freely}
 use Rattle.cc_core.proofs.Actions.{same_actions}
 use Rattle.cc_core.proofs.FreeActions.{IsFree, free_set-level, free-level}
-use Rattle.cc_core.proofs.Sorts.{Sort, Syntax, acted, acted-keeping}
+use Rattle.cc_core.proofs.Sorts.{SetSort, ShapeSort, TypeSort, NoteSort, TermSort, Sort, Syntax, acted, acted-keeping}
 
 module _ (f : Action) (free : IsFree f) where
   pub free_type-level : (d e : ℕ) (t : CapturingType) → act_type f d t ≡ act_type f e t
@@ -56,6 +56,15 @@ module _ (f : Action) (free : IsFree f) where
   free_term-level d e (Leave s c v w) =
       λ i. Leave (free-level f free d e s i) (free_set-level f free d e c i) (free.variable_level d e v i)
       (free.variable_level d e w i)
+
+-- the same of any sort
+pub acted-level : (sort : Sort) (f : Action) → IsFree f → (d e : ℕ) (x : Syntax sort)
+    → acted sort f d x ≡ acted sort f e x
+acted-level SetSort = free_set-level
+acted-level ShapeSort = free-level
+acted-level TypeSort = free_type-level
+acted-level NoteSort = free_note-level
+acted-level TermSort = free_term-level
 
 -- the action that leaves each position
 renamed_variable-still : (v : Var) → renamed_variable (λ p. p) v ≡ v

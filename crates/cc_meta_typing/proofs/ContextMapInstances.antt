@@ -1,5 +1,5 @@
 -- The maps of contexts that the rules use.
-use Rattle.cc_meta_typing.proofs.FormedContexts.{opened_kinded}
+use Rattle.cc_meta_typing.proofs.FormedContexts.{opened_kinded, positions_of}
 use Rattle.std.proofs.Common.{◌≡◌, ℕ, ◌<◌, true, false, cond, List, [], ◌∷◌, ◌++◌, length, Some, refl, sym, ap, ◌∙◌, subst, inl, inr}
 use Rattle.std.specs.Prelude.{nat_eq}
 use Rattle.cc_capture.specs.declared.var.Var.TheVariants.{Free}
@@ -27,7 +27,7 @@ use Rattle.cc_meta_typing.specs.ContextMaps.{Extends, unchanged, added, mapped, 
 use Rattle.cc_meta_typing.specs.ContextMapLaws.{itself}
 use Rattle.cc_meta_typing.proofs.Extensions.{extends_more, lookup-extends, subcaptures_extends, subcaptures_set_extends}
 use Rattle.cc_meta_typing.proofs.DirectSubtyping.{Narrows, narrows_under, narrows_newest, direct_narrows, direct_from, direct_to}
-use Rattle.cc_meta_typing.proofs.ContextMapping.{positions_of, positions_of_set, mapped_subcaptures, mapped_subtypes}
+use Rattle.cc_meta_typing.proofs.ContextMapping.{mapped_subcaptures, mapped_subtypes}
 use Rattle.cc_core.proofs.Sorts.{SetSort, ShapeSort}
 
 -- the map that leaves each position leaves all
@@ -112,10 +112,10 @@ module _ (entry : Bind) (context : Context) (to : ℕ → ℕ) (shapes : ℕ →
     (same : (p : ℕ) → p < length context → to p ≡ p) (same_shapes : (p : ℕ) → p < length context → shapes p ≡ itself p)
     (g : IsKindedContext context) where
   pub stays_mapped : (passed : List Kind) (shape : Shape) → IsKinded (kinds_of context) passed shape → mapped to shapes shape ≡ shape
-  stays_mapped passed shape h = freely-agree (length context) (λ p. p) to itself shapes same same_shapes ShapeSort 0 shape (positions_of context passed shape h) ∙ identity_mapped shape
+  stays_mapped passed shape h = freely-agree (length context) (λ p. p) to itself shapes same same_shapes ShapeSort 0 shape (positions_of ShapeSort context passed shape h) ∙ identity_mapped shape
 
   pub stays_mapped_set : (passed : List Kind) (set : Set) → IsKindedSet (kinds_of context) passed set → mapped_set to shapes set ≡ set
-  stays_mapped_set passed set h = freely-agree (length context) (λ p. p) to itself shapes same same_shapes SetSort 0 set (positions_of_set context passed set h) ∙ identity_mapped_set set
+  stays_mapped_set passed set h = freely-agree (length context) (λ p. p) to itself shapes same same_shapes SetSort 0 set (positions_of SetSort context passed set h) ∙ identity_mapped_set set
 
   pub older_bounds : (target : Context) → Extends context target → (position : ℕ) (bound : Shape) → lookup context position ≡ Some (TypeEntry bound) → Subtypes target (shapes position) (mapped to shapes bound)
   older_bounds target more position bound there =
@@ -296,12 +296,12 @@ smaller_map context s s' c c' formed formed' below =
 pub variable_in_body : (context : Context) (position : ℕ) (shape : Shape) → IsKinded (kinds_of context) (TermKind ∷ []) shape
     → mapped (overridden (λ p. p) (length context) position) (overridden itself (length context) (TypeVariable (Free position))) (opened (length context) shape) ≡ opened position shape
 variable_in_body context position shape h =
-    fresh_opening (length context) position (λ p. p) itself (λ p. tt) ShapeSort 0 shape (positions_of context (TermKind ∷ []) shape h) ∙ ap (opened position) (identity_mapped shape)
+    fresh_opening (length context) position (λ p. p) itself (λ p. tt) ShapeSort 0 shape (positions_of ShapeSort context (TermKind ∷ []) shape h) ∙ ap (opened position) (identity_mapped shape)
 
 pub variable_in_body_set : (context : Context) (position : ℕ) (set : Set) → IsKindedSet (kinds_of context) (TermKind ∷ []) set
     → mapped_set (overridden (λ p. p) (length context) position) (overridden itself (length context) (TypeVariable (Free position))) (opened_set (length context) set) ≡ opened_set position set
 variable_in_body_set context position set h =
-    fresh_opening (length context) position (λ p. p) itself (λ p. tt) SetSort 0 set (positions_of_set context (TermKind ∷ []) set h) ∙ ap (opened_set position) (identity_mapped_set set)
+    fresh_opening (length context) position (λ p. p) itself (λ p. tt) SetSort 0 set (positions_of SetSort context (TermKind ∷ []) set h) ∙ ap (opened_set position) (identity_mapped_set set)
 
 pub shape_in_body : (context : Context) (by shape : Shape) → IsKinded (kinds_of context) (TypeKind ∷ []) shape
     → mapped (λ p. p) (overridden itself (length context) by) (opened (length context) shape) ≡ act (putting_shape by) 0 shape

@@ -1,5 +1,5 @@
 -- Subcapturing and subtyping are kept along a map of contexts. Under a binder the map goes on to the binder itself.
-use Rattle.cc_meta_typing.proofs.FormedContexts.{opened_kinded}
+use Rattle.cc_meta_typing.proofs.FormedContexts.{opened_kinded, positions_of}
 use Rattle.std.proofs.Common.{◌≡◌, ℕ, true, false, cond, List, [], ◌∷◌, length, Some, sym, ap, ◌∙◌, subst, inl, inr}
 use Rattle.std.specs.Prelude.{nat_eq}
 use Rattle.cc_capture.specs.declared.var.Var.TheVariants.{Free}
@@ -30,17 +30,6 @@ use Rattle.cc_meta_typing.proofs.Extensions.{extends_older, lookup-extends}
 use Rattle.cc_meta_typing.proofs.DirectSubtyping.{SubtypesDirectly, alike, under_any, through_bound, functions, type_functions, boxes, direct_transitive, direct_from, direct_to}
 use Rattle.cc_core.proofs.Sorts.{SetSort, ShapeSort}
 
--- what is well formed in a context has positions below its length
-pub positions_of : (context : Context) (passed : List Kind) (shape : Shape) → IsKinded (kinds_of context) passed shape → Meets (positions_below (length context)) 0 shape
-positions_of context passed shape h =
-    subst (λ n. Meets (positions_below n) 0 shape) (length_map kind_of context)
-    (IsKinded-meets (kinds_of context) passed (positions_below (length (kinds_of context))) (kinds-positions_below (kinds_of context) passed) [] shape h)
-
-pub positions_of_set : (context : Context) (passed : List Kind) (set : Set) → IsKindedSet (kinds_of context) passed set → MeetsInSet (positions_below (length context)) 0 set
-positions_of_set context passed set h =
-    subst (λ n. MeetsInSet (positions_below n) 0 set) (length_map kind_of context)
-    (IsKindedSet-meets (kinds_of context) passed (positions_below (length (kinds_of context))) (kinds-positions_below (kinds_of context) passed) [] set h)
-
 -- the map under a binder
 abbrev pub to_under : Context → Context → (ℕ → ℕ) → ℕ → ℕ
 to_under source target to = overridden to (length source) (length target)
@@ -55,14 +44,14 @@ module _ (source target : Context) (to : ℕ → ℕ) (shapes : ℕ → Shape) (
   same_under passed shape h =
       freely-agree (length source) to (to_under source target to) shapes (shapes_under source target shapes)
       (overridden-below to (length source) (length target)) (overridden-below shapes (length source) (TypeVariable (Free (length target)))) ShapeSort 0 shape
-      (positions_of source passed shape h)
+      (positions_of ShapeSort source passed shape h)
 
   same_set_under : (passed : List Kind) (set : Set) → IsKindedSet (kinds_of source) passed set
       → mapped_set (to_under source target to) (shapes_under source target shapes) set ≡ mapped_set to shapes set
   same_set_under passed set h =
       freely-agree (length source) to (to_under source target to) shapes (shapes_under source target shapes)
       (overridden-below to (length source) (length target)) (overridden-below shapes (length source) (TypeVariable (Free (length target)))) SetSort 0 set
-      (positions_of_set source passed set h)
+      (positions_of SetSort source passed set h)
 
   closed_under : (position : ℕ) → Meets (bound_within 0) 0 (shapes_under source target shapes position)
   closed_under position =
@@ -75,13 +64,13 @@ module _ (source target : Context) (to : ℕ → ℕ) (shapes : ℕ → Shape) (
   pub body_under : (passed : List Kind) (shape : Shape) → IsKinded (kinds_of source) passed shape
       → mapped (to_under source target to) (shapes_under source target shapes) (opened (length source) shape) ≡ opened (length target) (act (freely to shapes) 1 shape)
   body_under passed shape h =
-      fresh_opening (length source) (length target) to shapes map.closed ShapeSort 0 shape (positions_of source passed shape h)
+      fresh_opening (length source) (length target) to shapes map.closed ShapeSort 0 shape (positions_of ShapeSort source passed shape h)
       ∙ ap (opened (length target)) (free-level (freely to shapes) (IsFree-freely to shapes map.closed) 0 1 shape)
 
   pub body_set_under : (passed : List Kind) (set : Set) → IsKindedSet (kinds_of source) passed set
       → mapped_set (to_under source target to) (shapes_under source target shapes) (opened_set (length source) set) ≡ opened_set (length target) (act_set (freely to shapes) 1 set)
   body_set_under passed set h =
-      fresh_opening (length source) (length target) to shapes map.closed SetSort 0 set (positions_of_set source passed set h)
+      fresh_opening (length source) (length target) to shapes map.closed SetSort 0 set (positions_of SetSort source passed set h)
 
   -- a map keeps kinds
   pub mapped_kinded : (passed : List Kind) (shape : Shape) → IsKinded (kinds_of source) passed shape → IsKinded (kinds_of target) passed (mapped to shapes shape)

@@ -16,7 +16,7 @@ use Rattle.cc_core.proofs.Lookups.{length_map, lookup-other}
 use Rattle.cc_core.proofs.KindFacts.{IsOfKind, IsKindedElement, IsKindedSet, IsKinded, IsKindedTerm, IsKindedSet-test, IsKinded-test}
 use Rattle.cc_core.proofs.KindedActions.{KeepsKinds, KindsGive}
 use Rattle.cc_core.proofs.KindRespecting.{single_kinded, KeepsKinds-moving, MovesKinds-opening, MovesKinds-closing, MovesKinds-more, moved_kinds, kinds-positions_below, kinds-bound_within, kinds-under_type_binder}
-use Rattle.cc_core.proofs.Sorts.{TermSort, Sort, Syntax, acted, HasKinds, HasKinds-act}
+use Rattle.cc_core.proofs.Sorts.{MeetsIn, HasKinds-meets, TermSort, Sort, Syntax, acted, HasKinds, HasKinds-act}
 use Rattle.cc_core.proofs.SubcapturingContexts.{IsKindedEntry, IsKindedContext}
 
 IsKindedEntry-test : (kinds : List Kind) (b : Bind) → IsKindedEntry kinds b → is_well_formed_entry kinds b ≡ true
@@ -96,3 +96,15 @@ module _ (n : ℕ) (k : Kind) (kinds : List Kind) (len : length kinds ≡ n) whe
 pub opened_kinded : (sort : Sort) (context : Context) (entry : Bind) (x : Syntax sort) → HasKinds sort (kinds_of context) (kind_of entry ∷ []) x
     → HasKinds sort (kinds_of (entry ∷ context)) [] (acted sort (opening (length context)) 0 x)
 opened_kinded sort context entry x h = HasKinds-opened (length context) (kind_of entry) (kinds_of context) (length-kinds_of context) sort x h
+
+-- what is well formed in a context, maybe under binders, has positions below the number of its entries
+pub positions_of : (sort : Sort) (context : Context) (passed : List Kind) (x : Syntax sort) → HasKinds sort (kinds_of context) passed x
+    → MeetsIn sort (positions_below (length context)) 0 x
+positions_of sort context passed x h =
+    HasKinds-meets sort (kinds_of context) passed (positions_below (length context)) (kinds_below (length context) (kinds_of context) passed (length-kinds_of context)) [] x h
+
+-- and under the binder of a type variable its index stands at type variables alone
+pub places_of : (sort : Sort) (context : Context) (x : Syntax sort) → HasKinds sort (kinds_of context) (TypeKind ∷ []) x
+    → MeetsIn sort (under_type_binder (length context)) 0 x
+places_of sort context x h =
+    HasKinds-meets sort (kinds_of context) (TypeKind ∷ []) (under_type_binder (length context)) (kinds_under_type (length context) (kinds_of context) (length-kinds_of context)) [] x h

@@ -14,7 +14,7 @@ use Rattle.cc_core.specs.Shapes.{Shape, TypeVariable}
 use Rattle.cc_core.specs.Terms.{Term}
 use Rattle.cc_core.specs.Contexts.{Bind, TermEntry, TypeEntry, Context, lookup}
 use Rattle.cc_core.specs.Traversal.{Action, act, act_set, act_term}
-use Rattle.cc_core.specs.Substitution.{single, moved_element, opened, opened_set, opened_term, putting, putting_shape, renamed_variable, free_shape, freely, overridden}
+use Rattle.cc_core.specs.Substitution.{single, moved_element, opened, opened_set, opened_term, putting, putting_shape, renamed_variable, free_shape, freely, overridden, opening}
 use Rattle.cc_core.specs.Occurrences.{Meets, bound_within, positions_below, under_type_binder}
 use Rattle.cc_core.specs.WellFormed.{Kind, TermKind, TypeKind, kind_of, kinds_of}
 use Rattle.cc_core.specs.Subcapturing.{Subcaptures, element, variable, SubcapturesSet}
@@ -22,15 +22,15 @@ use Rattle.cc_core.proofs.Lookups.{lookup-newest, lookup-older, lookup-below}
 use Rattle.cc_core.proofs.SubcapturingLemmas.{subcaptures_above, subcaptures_along}
 use Rattle.cc_core.proofs.Moving.{Member-single}
 use Rattle.cc_core.proofs.FreeActions.{free-level}
-use Rattle.cc_core.proofs.Levels.{freely-still}
+use Rattle.cc_core.proofs.Levels.{freely-still, acted-level}
 use Rattle.cc_core.proofs.Renaming.{IsFree-freely, overridden-same, overridden-below, freely-agree}
 use Rattle.cc_core.proofs.FreshOpenings.{fresh_opening, fresh_shape}
 use Rattle.cc_core.proofs.KindFacts.{IsOfKind, IsKindedElement, IsKindedSet, IsKinded, IsKindedTerm}
 use Rattle.cc_core.proofs.KindRespecting.{closed_kinded}
 use Rattle.cc_core.proofs.KindedActions.{KeepsKinds, IsKindedSet-act, IsKinded-act, IsKindedSet-meets, IsKinded-meets, IsKindedTerm-meets}
 use Rattle.cc_meta_typing.proofs.DirectSubtyping.{SubtypesDirectly, alike, under_any, through_bound, functions, type_functions, boxes, direct_transitive}
-use Rattle.cc_meta_typing.proofs.FormedContexts.{length-kinds_of, kinded_single, kinds_below, kinds_bound, kinds_under_type, some_is, HasKinds-opened}
-use Rattle.cc_core.proofs.Sorts.{SetSort, ShapeSort, TermSort}
+use Rattle.cc_meta_typing.proofs.FormedContexts.{length-kinds_of, kinded_single, kinds_below, kinds_bound, kinds_under_type, some_is, HasKinds-opened, positions_of, places_of}
+use Rattle.cc_core.proofs.Sorts.{SetSort, ShapeSort, TermSort, Sort, Syntax, HasKinds, acted, HasKinds-act}
 
 -- a context with entries added
 pub data Longer (d : Context) : Context → Type 0 where
@@ -113,18 +113,15 @@ module _ (g d : Context) (to : ℕ → ℕ) (shapes : ℕ → Shape) (maps : Map
     variable = λ passed v h. mapped_variable (passed ++ beyond) v h;
   }
 
-  pub map_kinded_set : (beyond : List Kind) (c : Set) → IsKindedSet (kinds_of g) beyond c → IsKindedSet (kinds_of d) beyond (act_set (freely to shapes) 0 c)
-  map_kinded_set beyond c h = IsKindedSet-act (freely to shapes) (kinds_of g) beyond (kinds_of d) beyond (maps_kinds beyond) [] c h
-
-  pub map_kinded_at0 : (beyond : List Kind) (s : Shape) → IsKinded (kinds_of g) beyond s → IsKinded (kinds_of d) beyond (act (freely to shapes) 0 s)
-  map_kinded_at0 beyond s h = IsKinded-act (freely to shapes) (kinds_of g) beyond (kinds_of d) beyond (maps_kinds beyond) [] s h
+  pub map_kinds : (beyond : List Kind) (sort : Sort) (x : Syntax sort) → HasKinds sort (kinds_of g) beyond x → HasKinds sort (kinds_of d) beyond (acted sort (freely to shapes) 0 x)
+  map_kinds beyond sort x h = HasKinds-act sort (freely to shapes) (kinds_of g) beyond (kinds_of d) beyond (maps_kinds beyond) [] x h
 
   -- a map moves an open index nowhere, so the depth does not matter
   pub map_level : (m n : ℕ) (s : Shape) → act (freely to shapes) m s ≡ act (freely to shapes) n s
   map_level m n s = free-level (freely to shapes) (IsFree-freely to shapes maps.closed) m n s
 
   pub map_kinded : (beyond : List Kind) (n : ℕ) (s : Shape) → IsKinded (kinds_of g) beyond s → IsKinded (kinds_of d) beyond (act (freely to shapes) n s)
-  map_kinded beyond n s h = subst (IsKinded (kinds_of d) beyond) (map_level 0 n s) (map_kinded_at0 beyond s h)
+  map_kinded beyond n s h = subst (IsKinded (kinds_of d) beyond) (map_level 0 n s) (map_kinds beyond ShapeSort s h)
 
   -- subcapturing goes along
   pub map_element : {x : Elem} {above : Set} → Subcaptures g x above → SubcapturesSet d (single (moved_element (renamed_variable to) x)) (act_set (freely to shapes) 0 above)
@@ -144,11 +141,8 @@ module _ (g d : Context) (to : ℕ → ℕ) (shapes : ℕ → Shape) (maps : Map
 
 -- the two maps agree on what is well formed before the binder
 module _ (g : Context) (to to' : ℕ → ℕ) (shapes shapes' : ℕ → Shape) (same : (p : ℕ) → p < length g → to' p ≡ to p) (same_shapes : (p : ℕ) → p < length g → shapes' p ≡ shapes p) where
-  pub agree_shape : (n : ℕ) (s : Shape) → IsKinded (kinds_of g) [] s → act (freely to' shapes') 0 s ≡ act (freely to shapes) 0 s
-  agree_shape n s h = freely-agree (length g) to to' shapes shapes' same same_shapes ShapeSort 0 s (IsKinded-meets (kinds_of g) [] (positions_below (length g)) (kinds_below (length g) (kinds_of g) [] (length-kinds_of g)) [] s h)
-
-  pub agree_set : (c : Set) → IsKindedSet (kinds_of g) [] c → act_set (freely to' shapes') 0 c ≡ act_set (freely to shapes) 0 c
-  agree_set c h = freely-agree (length g) to to' shapes shapes' same same_shapes SetSort 0 c (IsKindedSet-meets (kinds_of g) [] (positions_below (length g)) (kinds_below (length g) (kinds_of g) [] (length-kinds_of g)) [] c h)
+  pub agree_kinded : (sort : Sort) (x : Syntax sort) → HasKinds sort (kinds_of g) [] x → acted sort (freely to' shapes') 0 x ≡ acted sort (freely to shapes) 0 x
+  agree_kinded sort x h = freely-agree (length g) to to' shapes shapes' same same_shapes sort 0 x (positions_of sort g [] x h)
 
 module _ (g d : Context) (to : ℕ → ℕ) (shapes : ℕ → Shape) (maps : Maps g d to shapes) (formed : IsKindedContext g) (b : Bind) (entry : IsKindedEntry (kinds_of g) b) where
   to_under : ℕ → ℕ
@@ -162,11 +156,11 @@ module _ (g d : Context) (to : ℕ → ℕ) (shapes : ℕ → Shape) (maps : Map
 
   same_shape : (s : Shape) → IsKinded (kinds_of g) [] s → act (freely to_under shapes_under) 0 s ≡ act (freely to shapes) 0 s
   unfolding to_under shapes_under
-  same_shape s h = agree_shape g to to_under shapes shapes_under (overridden-below to (length g) (length d)) (overridden-below shapes (length g) (TypeVariable (Free (length d)))) 0 s h
+  same_shape s h = agree_kinded g to to_under shapes shapes_under (overridden-below to (length g) (length d)) (overridden-below shapes (length g) (TypeVariable (Free (length d)))) ShapeSort s h
 
   same_set : (c : Set) → IsKindedSet (kinds_of g) [] c → act_set (freely to_under shapes_under) 0 c ≡ act_set (freely to shapes) 0 c
   unfolding to_under shapes_under
-  same_set c h = agree_set g to to_under shapes shapes_under (overridden-below to (length g) (length d)) (overridden-below shapes (length g) (TypeVariable (Free (length d)))) c h
+  same_set c h = agree_kinded g to to_under shapes shapes_under (overridden-below to (length g) (length d)) (overridden-below shapes (length g) (TypeVariable (Free (length d)))) SetSort c h
 
   newest_there : (e : Context) → Longer d_under e → (x : Bind) → x ≡ b → lookup e (length d) ≡ Some (acted_entry (freely to shapes) x)
   unfolding d_under
@@ -265,17 +259,13 @@ module _ (g d : Context) (to : ℕ → ℕ) (shapes : ℕ → Shape) (maps : Map
   unfolding to_under shapes_under d_under
   maps_under = record { closed = closed_under; kinded = kinded_under; sends = sends_under; sets = sets_under; bounds = bounds_under; entries = entries_under }
 
-  -- what stands under the binder, opened before the map or after it
-  pub opened_map : (k : Kind) (x : Shape) → IsKinded (kinds_of g) (k ∷ []) x
-      → act (freely (overridden to (length g) (length d)) (overridden shapes (length g) (TypeVariable (Free (length d))))) 0 (opened (length g) x) ≡ opened (length d) (act (freely to shapes) 1 x)
-  opened_map k x h =
-      fresh_opening (length g) (length d) to shapes maps.closed ShapeSort 0 x (IsKinded-meets (kinds_of g) (k ∷ []) (positions_below (length g)) (kinds_below (length g) (kinds_of g) (k ∷ []) (length-kinds_of g)) [] x h)
-      ∙ ap (opened (length d)) (map_level g d to shapes maps 0 1 x)
-
-  pub opened_map_set : (k : Kind) (x : Set) → IsKindedSet (kinds_of g) (k ∷ []) x
-      → act_set (freely (overridden to (length g) (length d)) (overridden shapes (length g) (TypeVariable (Free (length d))))) 0 (opened_set (length g) x) ≡ opened_set (length d) (act_set (freely to shapes) 1 x)
-  opened_map_set k x h =
-      fresh_opening (length g) (length d) to shapes maps.closed SetSort 0 x (IsKindedSet-meets (kinds_of g) (k ∷ []) (positions_below (length g)) (kinds_below (length g) (kinds_of g) (k ∷ []) (length-kinds_of g)) [] x h)
+-- what stands under a binder, opened before the map or after it
+pub opened_map : (g d : Context) (to : ℕ → ℕ) (shapes : ℕ → Shape) → Maps g d to shapes → (sort : Sort) (k : Kind) (x : Syntax sort) → HasKinds sort (kinds_of g) (k ∷ []) x
+    → acted sort (freely (overridden to (length g) (length d)) (overridden shapes (length g) (TypeVariable (Free (length d))))) 0 (acted sort (opening (length g)) 0 x)
+    ≡ acted sort (opening (length d)) 0 (acted sort (freely to shapes) 1 x)
+opened_map g d to shapes maps sort k x h =
+    fresh_opening (length g) (length d) to shapes maps.closed sort 0 x (positions_of sort g (k ∷ []) x h)
+    ∙ ap (acted sort (opening (length d)) 0) (acted-level sort (freely to shapes) (IsFree-freely to shapes maps.closed) 0 1 x)
 
 -- subtyping goes along
 pub map_subtypes : {g : Context} {left right : Shape} → SubtypesDirectly g left right → (d : Context) (to : ℕ → ℕ) (shapes : ℕ → Shape) → Maps g d to shapes → IsKindedContext g
@@ -290,8 +280,8 @@ map_subtypes (functions {context = g} {takes = t} {takes' = t'} {gives = u} {giv
     let d' : Context = TermEntry (act (freely to shapes) 0 t') (act_set (freely to shapes) 0 c') ∷ d in
     let to' : ℕ → ℕ = overridden to (length g) (length d) in
     let shapes' : ℕ → Shape = overridden shapes (length g) (TypeVariable (Free (length d))) in
-    let opens = opened_map g d to shapes maps formed (TermEntry t' c') entry TermKind in
-    let opens_set = opened_map_set g d to shapes maps formed (TermEntry t' c') entry TermKind in
+    let opens = opened_map g d to shapes maps ShapeSort TermKind in
+    let opens_set = opened_map g d to shapes maps SetSort TermKind in
     let len = length-kinds_of g in
     let body' : SubtypesDirectly d' (act (freely to' shapes') 0 (opened (length g) u)) (act (freely to' shapes') 0 (opened (length g) u')) =
     map_subtypes body d' to' shapes' under (entry, formed) (HasKinds-opened (length g) TermKind (kinds_of g) len ShapeSort u kl.2) (HasKinds-opened (length g) TermKind (kinds_of g) len ShapeSort u' kr.2) in
@@ -307,8 +297,8 @@ map_subtypes (type_functions {context = g} {bound = b} {gives = u} {gives' = u'}
     let d' : Context = TypeEntry (act (freely to shapes) 0 b) ∷ d in
     let to' : ℕ → ℕ = overridden to (length g) (length d) in
     let shapes' : ℕ → Shape = overridden shapes (length g) (TypeVariable (Free (length d))) in
-    let opens = opened_map g d to shapes maps formed (TypeEntry b) entry TypeKind in
-    let opens_set = opened_map_set g d to shapes maps formed (TypeEntry b) entry TypeKind in
+    let opens = opened_map g d to shapes maps ShapeSort TypeKind in
+    let opens_set = opened_map g d to shapes maps SetSort TypeKind in
     let len = length-kinds_of g in
     let body' : SubtypesDirectly d' (act (freely to' shapes') 0 (opened (length g) u)) (act (freely to' shapes') 0 (opened (length g) u')) =
     map_subtypes body d' to' shapes' under (entry, formed) (HasKinds-opened (length g) TypeKind (kinds_of g) len ShapeSort u kl.1) (HasKinds-opened (length g) TypeKind (kinds_of g) len ShapeSort u' kr.1) in
@@ -386,13 +376,13 @@ module _ (g : Context) (formed : IsKindedContext g) (s : Shape) (c : Set) (ks : 
   value_same : (x : Shape) → IsKinded (kinds_of g) [] x → act (freely value_to value_shapes) 0 x ≡ x
   unfolding value_to value_shapes
   value_same x h =
-      agree_shape g same_position value_to same_variable value_shapes (overridden-below same_position (length g) q) (overridden-below same_variable (length g) (TypeVariable (Free q))) 0 x h
+      agree_kinded g same_position value_to same_variable value_shapes (overridden-below same_position (length g) q) (overridden-below same_variable (length g) (TypeVariable (Free q))) ShapeSort x h
       ∙ still 0 x
 
   value_same_set : (x : Set) → IsKindedSet (kinds_of g) [] x → act_set (freely value_to value_shapes) 0 x ≡ x
   unfolding value_to value_shapes
   value_same_set x h =
-      agree_set g same_position value_to same_variable value_shapes (overridden-below same_position (length g) q) (overridden-below same_variable (length g) (TypeVariable (Free q))) x h
+      agree_kinded g same_position value_to same_variable value_shapes (overridden-below same_position (length g) q) (overridden-below same_variable (length g) (TypeVariable (Free q))) SetSort x h
       ∙ still_set 0 x
 
   value_new : (p : ℕ) → p ≡ length g → value_to p ≡ q
@@ -486,13 +476,13 @@ module _ (g : Context) (formed : IsKindedContext g) (b : Shape) (kb : IsKinded (
   shape_same : (x : Shape) → IsKinded (kinds_of g) [] x → act (freely same_position shape_shapes) 0 x ≡ x
   unfolding shape_shapes
   shape_same x h =
-      agree_shape g same_position same_position same_variable shape_shapes (λ p less. refl) (overridden-below same_variable (length g) r) 0 x h
+      agree_kinded g same_position same_position same_variable shape_shapes (λ p less. refl) (overridden-below same_variable (length g) r) ShapeSort x h
       ∙ still 0 x
 
   shape_same_set : (x : Set) → IsKindedSet (kinds_of g) [] x → act_set (freely same_position shape_shapes) 0 x ≡ x
   unfolding shape_shapes
   shape_same_set x h =
-      agree_set g same_position same_position same_variable shape_shapes (λ p less. refl) (overridden-below same_variable (length g) r) x h
+      agree_kinded g same_position same_position same_variable shape_shapes (λ p less. refl) (overridden-below same_variable (length g) r) SetSort x h
       ∙ still_set 0 x
 
   shape_new : (p : ℕ) → p ≡ length g → shape_shapes p ≡ r
@@ -566,34 +556,14 @@ module _ (g : Context) (formed : IsKindedContext g) (b : Shape) (kb : IsKinded (
 no_open_variable : (p : ℕ) → Meets (bound_within 0) 0 (same_variable p)
 no_open_variable p = tt
 
-module _ (g : Context) (q : ℕ) (k : Kind) where
-  pub value_put : (x : Shape) → IsKinded (kinds_of g) (k ∷ []) x → act (freely (overridden same_position (length g) q) (overridden same_variable (length g) (TypeVariable (Free q)))) 0 (opened (length g) x) ≡ act (putting (Free q)) 0 x
-  value_put x h =
-      fresh_opening (length g) q same_position same_variable no_open_variable ShapeSort 0 x (IsKinded-meets (kinds_of g) (k ∷ []) (positions_below (length g)) (kinds_below (length g) (kinds_of g) (k ∷ []) (length-kinds_of g)) [] x h)
-      ∙ ap (act (putting (Free q)) 0) (still 0 x)
+pub value_put : (g : Context) (q : ℕ) (k : Kind) (sort : Sort) (x : Syntax sort) → HasKinds sort (kinds_of g) (k ∷ []) x
+    → acted sort (freely (overridden same_position (length g) q) (overridden same_variable (length g) (TypeVariable (Free q)))) 0 (acted sort (opening (length g)) 0 x) ≡ acted sort (putting (Free q)) 0 x
+value_put g q k sort x h =
+    fresh_opening (length g) q same_position same_variable no_open_variable sort 0 x (positions_of sort g (k ∷ []) x h)
+    ∙ ap (acted sort (putting (Free q)) 0) (freely-still sort 0 x)
 
-  pub value_put_set : (x : Set) → IsKindedSet (kinds_of g) (k ∷ []) x → act_set (freely (overridden same_position (length g) q) (overridden same_variable (length g) (TypeVariable (Free q)))) 0 (opened_set (length g) x) ≡ act_set (putting (Free q)) 0 x
-  value_put_set x h =
-      fresh_opening (length g) q same_position same_variable no_open_variable SetSort 0 x (IsKindedSet-meets (kinds_of g) (k ∷ []) (positions_below (length g)) (kinds_below (length g) (kinds_of g) (k ∷ []) (length-kinds_of g)) [] x h)
-      ∙ ap (act_set (putting (Free q)) 0) (still_set 0 x)
-
-  pub value_put_term : (x : Term) → IsKindedTerm (kinds_of g) (k ∷ []) x → act_term (freely (overridden same_position (length g) q) (overridden same_variable (length g) (TypeVariable (Free q)))) 0 (opened_term (length g) x) ≡ act_term (putting (Free q)) 0 x
-  value_put_term x h =
-      fresh_opening (length g) q same_position same_variable no_open_variable TermSort 0 x (IsKindedTerm-meets (kinds_of g) (k ∷ []) (positions_below (length g)) (kinds_below (length g) (kinds_of g) (k ∷ []) (length-kinds_of g)) [] x h)
-      ∙ ap (act_term (putting (Free q)) 0) (still_term 0 x)
-
-module _ (g : Context) (r : Shape) where
-  pub shape_put : (x : Shape) → IsKinded (kinds_of g) (TypeKind ∷ []) x → act (freely same_position (overridden same_variable (length g) r)) 0 (opened (length g) x) ≡ act (putting_shape r) 0 x
-  shape_put x h =
-      fresh_shape (length g) r same_position same_position same_variable (λ p less. refl) no_open_variable ShapeSort 0 x (IsKinded-meets (kinds_of g) (TypeKind ∷ []) (under_type_binder (length g)) (kinds_under_type (length g) (kinds_of g) (length-kinds_of g)) [] x h)
-      ∙ ap (act (putting_shape r) 0) (still 0 x)
-
-  pub shape_put_set : (x : Set) → IsKindedSet (kinds_of g) (TypeKind ∷ []) x → act_set (freely same_position (overridden same_variable (length g) r)) 0 (opened_set (length g) x) ≡ act_set (putting_shape r) 0 x
-  shape_put_set x h =
-      fresh_shape (length g) r same_position same_position same_variable (λ p less. refl) no_open_variable SetSort 0 x (IsKindedSet-meets (kinds_of g) (TypeKind ∷ []) (under_type_binder (length g)) (kinds_under_type (length g) (kinds_of g) (length-kinds_of g)) [] x h)
-      ∙ ap (act_set (putting_shape r) 0) (still_set 0 x)
-
-  pub shape_put_term : (x : Term) → IsKindedTerm (kinds_of g) (TypeKind ∷ []) x → act_term (freely same_position (overridden same_variable (length g) r)) 0 (opened_term (length g) x) ≡ act_term (putting_shape r) 0 x
-  shape_put_term x h =
-      fresh_shape (length g) r same_position same_position same_variable (λ p less. refl) no_open_variable TermSort 0 x (IsKindedTerm-meets (kinds_of g) (TypeKind ∷ []) (under_type_binder (length g)) (kinds_under_type (length g) (kinds_of g) (length-kinds_of g)) [] x h)
-      ∙ ap (act_term (putting_shape r) 0) (still_term 0 x)
+pub shape_put : (g : Context) (r : Shape) (sort : Sort) (x : Syntax sort) → HasKinds sort (kinds_of g) (TypeKind ∷ []) x
+    → acted sort (freely same_position (overridden same_variable (length g) r)) 0 (acted sort (opening (length g)) 0 x) ≡ acted sort (putting_shape r) 0 x
+shape_put g r sort x h =
+    fresh_shape (length g) r same_position same_position same_variable (λ p less. refl) no_open_variable sort 0 x (places_of sort g x h)
+    ∙ ap (acted sort (putting_shape r) 0) (freely-still sort 0 x)

@@ -24,7 +24,7 @@ use Rattle.cc_core.proofs.CapturedKinds.{empty_kinded, without_binder_kinded, ca
 use Rattle.cc_core.proofs.KindFacts.{IsKindedSet, IsKinded, IsKindedTerm}
 use Rattle.cc_meta_typing.proofs.DirectSubtyping.{SubtypesDirectly}
 use Rattle.cc_meta_typing.proofs.FormedContexts.{length-kinds_of, kinded_single, HasKinds-opened}
-use Rattle.cc_meta_typing.proofs.FreeMaps.{same_position, same_variable, map_kinded_at0, map_kinded_set, maps_value, maps_shape, value_put, value_put_set, shape_put, shape_put_set}
+use Rattle.cc_meta_typing.proofs.FreeMaps.{same_position, same_variable, map_kinds, maps_value, maps_shape, value_put, shape_put}
 
 -- a variable has the type: its entry's shape is below the shape, and it is below the set
 pub record HasVariable (g : Context) (v : Var) (s : Shape) (c : Set) : Type 0 where
@@ -106,29 +106,29 @@ module _ (g : Context) (formed : IsKindedContext g) where
   pub put_kinded : (v : Var) (s : Shape) (c : Set) → HasVariable g v s c → (x : Shape) → IsKinded (kinds_of g) (TermKind ∷ []) x → IsKinded (kinds_of g) [] (act (putting v) 0 x)
   put_kinded v s c has x h =
       subst (λ w. IsKinded (kinds_of g) [] (act (putting w) 0 x)) (sym has.is)
-      (subst (IsKinded (kinds_of g) []) (value_put g has.position TermKind x h)
-      (map_kinded_at0 (TermEntry s c ∷ g) g (overridden same_position (length g) has.position) (overridden same_variable (length g) (TypeVariable (Free has.position)))
-      (maps_value g formed s c has.kinded has.kinded_set has.position has.shape has.set has.there has.below has.captured) []
+      (subst (IsKinded (kinds_of g) []) (value_put g has.position TermKind ShapeSort x h)
+      (map_kinds (TermEntry s c ∷ g) g (overridden same_position (length g) has.position) (overridden same_variable (length g) (TypeVariable (Free has.position)))
+      (maps_value g formed s c has.kinded has.kinded_set has.position has.shape has.set has.there has.below has.captured) [] ShapeSort
       (opened (length g) x) (HasKinds-opened (length g) TermKind (kinds_of g) (length-kinds_of g) ShapeSort x h)))
 
   pub put_kinded_set : (v : Var) (s : Shape) (c : Set) → HasVariable g v s c → (x : Set) → IsKindedSet (kinds_of g) (TermKind ∷ []) x → IsKindedSet (kinds_of g) [] (act_set (putting v) 0 x)
   put_kinded_set v s c has x h =
       subst (λ w. IsKindedSet (kinds_of g) [] (act_set (putting w) 0 x)) (sym has.is)
-      (subst (IsKindedSet (kinds_of g) []) (value_put_set g has.position TermKind x h)
-      (map_kinded_set (TermEntry s c ∷ g) g (overridden same_position (length g) has.position) (overridden same_variable (length g) (TypeVariable (Free has.position)))
-      (maps_value g formed s c has.kinded has.kinded_set has.position has.shape has.set has.there has.below has.captured) []
+      (subst (IsKindedSet (kinds_of g) []) (value_put g has.position TermKind SetSort x h)
+      (map_kinds (TermEntry s c ∷ g) g (overridden same_position (length g) has.position) (overridden same_variable (length g) (TypeVariable (Free has.position)))
+      (maps_value g formed s c has.kinded has.kinded_set has.position has.shape has.set has.there has.below has.captured) [] SetSort
       (opened_set (length g) x) (HasKinds-opened (length g) TermKind (kinds_of g) (length-kinds_of g) SetSort x h)))
 
   pub shape_put_kinded : (b r : Shape) → IsKinded (kinds_of g) [] b → IsKinded (kinds_of g) [] r → SubtypesDirectly g r b → (x : Shape) → IsKinded (kinds_of g) (TypeKind ∷ []) x → IsKinded (kinds_of g) [] (act (putting_shape r) 0 x)
   shape_put_kinded b r kb kr below x h =
-      subst (IsKinded (kinds_of g) []) (shape_put g r x h)
-      (map_kinded_at0 (TypeEntry b ∷ g) g same_position (overridden same_variable (length g) r) (maps_shape g formed b kb r kr below) []
+      subst (IsKinded (kinds_of g) []) (shape_put g r ShapeSort x h)
+      (map_kinds (TypeEntry b ∷ g) g same_position (overridden same_variable (length g) r) (maps_shape g formed b kb r kr below) [] ShapeSort
       (opened (length g) x) (HasKinds-opened (length g) TypeKind (kinds_of g) (length-kinds_of g) ShapeSort x h))
 
   pub shape_put_kinded_set : (b r : Shape) → IsKinded (kinds_of g) [] b → IsKinded (kinds_of g) [] r → SubtypesDirectly g r b → (x : Set) → IsKindedSet (kinds_of g) (TypeKind ∷ []) x → IsKindedSet (kinds_of g) [] (act_set (putting_shape r) 0 x)
   shape_put_kinded_set b r kb kr below x h =
-      subst (IsKindedSet (kinds_of g) []) (shape_put_set g r x h)
-      (map_kinded_set (TypeEntry b ∷ g) g same_position (overridden same_variable (length g) r) (maps_shape g formed b kb r kr below) []
+      subst (IsKindedSet (kinds_of g) []) (shape_put g r SetSort x h)
+      (map_kinds (TypeEntry b ∷ g) g same_position (overridden same_variable (length g) r) (maps_shape g formed b kb r kr below) [] SetSort
       (opened_set (length g) x) (HasKinds-opened (length g) TypeKind (kinds_of g) (length-kinds_of g) SetSort x h))
 
 -- the type that the form of a well-formed term gives is well formed
