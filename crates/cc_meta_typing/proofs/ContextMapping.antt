@@ -11,15 +11,15 @@ use Rattle.cc_core.specs.Shapes.{Shape, TypeVariable}
 use Rattle.cc_core.specs.Contexts.{Bind, TermEntry, TypeEntry, Context, lookup}
 use Rattle.cc_core.specs.Traversal.{act, act_set}
 use Rattle.cc_core.specs.Substitution.{freely, overridden, moved_element, renamed_variable, opened, opened_set}
-use Rattle.cc_core.specs.Occurrences.{Meets, MeetsInSet, bound_within, positions_below}
+use Rattle.cc_core.specs.Occurrences.{Meets, bound_within}
 use Rattle.cc_core.specs.WellFormed.{Kind, TermKind, TypeKind, kind_of, kinds_of, is_well_formed_shape}
 use Rattle.cc_core.specs.Subcapturing.{Subcaptures, element, variable, SubcapturesSet}
 use Rattle.cc_core.specs.Subtyping.{Subtypes, reflexive, type_variable}
-use Rattle.cc_core.proofs.Lookups.{length_map, lookup-newest, lookup-older, lookup-below, lookup-cases}
+use Rattle.cc_core.proofs.Lookups.{lookup-newest, lookup-older, lookup-below, lookup-cases}
 use Rattle.cc_core.proofs.Moving.{Member-single, Member-single_itself}
 use Rattle.cc_core.proofs.KindFacts.{IsKinded, IsKindedSet, IsKinded-from, IsKinded-test}
-use Rattle.cc_core.proofs.KindedActions.{IsKinded-act, IsKinded-meets, IsKindedSet-meets}
-use Rattle.cc_core.proofs.KindRespecting.{KeepsKinds-freely, kinds-positions_below}
+use Rattle.cc_core.proofs.KindedActions.{IsKinded-act}
+use Rattle.cc_core.proofs.KindRespecting.{KeepsKinds-freely}
 use Rattle.cc_core.proofs.FreeActions.{free-level}
 use Rattle.cc_core.proofs.Renaming.{IsFree-freely, overridden-same, overridden-below, freely-agree}
 use Rattle.cc_core.proofs.FreshOpenings.{fresh_opening}

@@ -14,8 +14,8 @@ use Rattle.cc_core.specs.Shapes.{Shape, TypeVariable}
 use Rattle.cc_core.specs.Terms.{Term}
 use Rattle.cc_core.specs.Contexts.{Bind, TermEntry, TypeEntry, Context, lookup}
 use Rattle.cc_core.specs.Traversal.{Action, act, act_set, act_term}
-use Rattle.cc_core.specs.Substitution.{single, moved_element, opened, opened_set, opened_term, putting, putting_shape, renamed_variable, free_shape, freely, overridden, opening}
-use Rattle.cc_core.specs.Occurrences.{Meets, bound_within, positions_below, under_type_binder}
+use Rattle.cc_core.specs.Substitution.{single, moved_element, opened, opened_set, putting, putting_shape, renamed_variable, free_shape, freely, overridden, opening}
+use Rattle.cc_core.specs.Occurrences.{Meets, bound_within}
 use Rattle.cc_core.specs.WellFormed.{Kind, TermKind, TypeKind, kind_of, kinds_of}
 use Rattle.cc_core.specs.Subcapturing.{Subcaptures, element, variable, SubcapturesSet}
 use Rattle.cc_core.proofs.Lookups.{lookup-newest, lookup-older, lookup-below}
@@ -25,11 +25,11 @@ use Rattle.cc_core.proofs.FreeActions.{free-level}
 use Rattle.cc_core.proofs.Levels.{freely-still, acted-level}
 use Rattle.cc_core.proofs.Renaming.{IsFree-freely, overridden-same, overridden-below, freely-agree}
 use Rattle.cc_core.proofs.FreshOpenings.{fresh_opening, fresh_shape}
-use Rattle.cc_core.proofs.KindFacts.{IsOfKind, IsKindedElement, IsKindedSet, IsKinded, IsKindedTerm}
+use Rattle.cc_core.proofs.KindFacts.{IsOfKind, IsKindedElement, IsKindedSet, IsKinded}
 use Rattle.cc_core.proofs.KindRespecting.{closed_kinded}
-use Rattle.cc_core.proofs.KindedActions.{KeepsKinds, IsKindedSet-act, IsKinded-act, IsKindedSet-meets, IsKinded-meets, IsKindedTerm-meets}
+use Rattle.cc_core.proofs.KindedActions.{KeepsKinds, IsKinded-meets}
 use Rattle.cc_meta_typing.proofs.DirectSubtyping.{SubtypesDirectly, alike, under_any, through_bound, functions, type_functions, boxes, direct_transitive}
-use Rattle.cc_meta_typing.proofs.FormedContexts.{length-kinds_of, kinded_single, kinds_below, kinds_bound, kinds_under_type, some_is, HasKinds-opened, positions_of, places_of}
+use Rattle.cc_meta_typing.proofs.FormedContexts.{length-kinds_of, kinded_single, kinds_bound, some_is, HasKinds-opened, positions_of, places_of}
 use Rattle.cc_core.proofs.Sorts.{SetSort, ShapeSort, TermSort, Sort, Syntax, HasKinds, acted, HasKinds-act}
 
 -- a context with entries added

@@ -1,23 +1,23 @@
 -- Terms that have a type, by their derivations.
-use Rattle.std.proofs.Common.{◌≡◌, ◌≢◌, ℕ, suc, ◌∷◌, Some, refl, subst, sym, arith}
+use Rattle.std.proofs.Common.{◌≡◌, ◌≢◌, ℕ, suc, ◌∷◌, Some, refl, subst, sym, arith, []}
 use Rattle.cc_capture.specs.declared.var.Var.TheVariants.{Free}
 use Rattle.cc_capture.specs.declared.var.Elem.TheVariants.{Var as Variable, Cap}
 use Rattle.cc_capture.specs.Elements.{element_order}
 use Rattle.cc_capture.specs.Rising.{placed}
 use Rattle.cc_capture.specs.Sets.{Set, empty, insert, from_list, flat_image, union}
 use Rattle.cc_capture.proofs.Membership.{Member-empty}
-use Rattle.cc_core.specs.Shapes.{Shape, BoxShape}
-use Rattle.cc_core.specs.Terms.{BoxTerm, Application}
+use Rattle.cc_core.specs.Shapes.{Shape, BoxShape, ExitShape}
+use Rattle.cc_core.specs.Terms.{BoxTerm, Application, Leave}
 use Rattle.cc_core.specs.Contexts.{TermEntry, Context, lookup}
 use Rattle.cc_core.specs.Occurrences.{MeetsInSet, IsAskedOf, without}
 use Rattle.cc_core.specs.Substitution.{single}
 use Rattle.cc_core.specs.Subcapturing.{Subcaptures, variable, SubcapturesSet}
 use Rattle.cc_core.specs.Subtyping.{reflexive}
-use Rattle.cc_core.specs.Typing.{HasTyping, t-var, t-lit, t-abs, t-app, t-box, t-unbox, t-let, t-op, t-sub, HasNoCap}
+use Rattle.cc_core.specs.Typing.{HasTyping, t-var, t-lit, t-abs, t-app, t-box, t-unbox, t-let, t-op, t-boundary, t-exit, t-sub, HasNoCap}
 use Rattle.cc_core.proofs.Moving.{Member-single}
 use Rattle.cc_core.proofs.SubcapturingLemmas.{subcaptures_reflexive}
 use Rattle.cc_sets.specs.Examples.{number, nothing, printing, first, with_console}
-use Rattle.cc_meta_typing.specs.Examples.{printer, PrinterHasItsSet, box_and_call, BoxOpensUnderItsSet}
+use Rattle.cc_meta_typing.specs.Examples.{printer, PrinterHasItsSet, box_and_call, BoxOpensUnderItsSet, exit_inside, ExitsInsideAreTyped}
 
 printer_typing : HasTyping with_console printer printing (single first)
 unfolding flat_image from_list insert placed element_order empty union
@@ -83,3 +83,18 @@ box_opens =
 pub box_opens_under_its_set : BoxOpensUnderItsSet
 unfolding flat_image from_list insert placed element_order empty union
 box_opens_under_its_set = record { context_formed = refl; term_formed = refl; type_formed = refl; typing = box_opens }
+
+-- the body of the boundary, under its exit and the number
+leaves : HasTyping (TermEntry number empty ∷ TermEntry (ExitShape number) (single Cap) ∷ []) (Leave number empty (Free 0) (Free 1)) number empty
+unfolding flat_image from_list insert placed element_order empty
+leaves =
+    let all : Context = TermEntry number empty ∷ TermEntry (ExitShape number) (single Cap) ∷ [] in
+    t-exit (t-var refl) (t-sub (t-var refl) (by_declared all 1 number empty refl) reflexive refl) refl
+
+exit_typing : HasTyping [] exit_inside number empty
+unfolding flat_image from_list insert placed element_order empty
+exit_typing = t-boundary refl (t-let t-lit tt leaves tt (unnamed_empty 1))
+
+pub exits_inside_are_typed : ExitsInsideAreTyped
+unfolding flat_image from_list insert placed element_order empty
+exits_inside_are_typed = record { context_formed = refl; term_formed = refl; type_formed = refl; typing = exit_typing }

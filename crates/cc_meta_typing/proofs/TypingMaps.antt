@@ -15,7 +15,6 @@ use Rattle.cc_core.specs.Terms.{Note, Absent, Written, Own, Term, FunctionTerm, 
 use Rattle.cc_core.specs.Contexts.{TermEntry, TypeEntry, Context}
 use Rattle.cc_core.specs.Traversal.{act, act_set, act_note, act_term}
 use Rattle.cc_core.specs.Substitution.{single, moved_element, putting, putting_shape, opened_term, renamed_variable, freely, overridden}
-use Rattle.cc_core.specs.Occurrences.{positions_below}
 use Rattle.cc_core.specs.WellFormed.{Kind, TermKind, TypeKind, kinds_of}
 use Rattle.cc_core.specs.Captured.{variable_set}
 use Rattle.cc_core.specs.Subcapturing.{SubcapturesSet}
@@ -23,16 +22,14 @@ use Rattle.cc_core.specs.Typing.{IsNoteOf, HasNoCap}
 use Rattle.cc_core.proofs.SubcapturingLemmas.{subcaptures_reflexive, subcaptures_transitive}
 use Rattle.cc_core.proofs.Moving.{flat_image-of_single, Member-single, Member-single_itself}
 use Rattle.cc_core.proofs.FreeActions.{Sends, free-putting, free-putting_shape, putting_shape_set}
-use Rattle.cc_core.proofs.Levels.{free_term-level}
 use Rattle.cc_core.proofs.Renaming.{IsFree-freely, Sends-freely, overridden-below}
 use Rattle.cc_core.proofs.KindFacts.{IsKindedSet, IsKinded, IsKindedTerm}
-use Rattle.cc_core.proofs.KindedActions.{IsKindedTerm-act, IsKindedTerm-meets}
+use Rattle.cc_core.proofs.KindedActions.{IsKindedTerm-act}
 use Rattle.cc_meta_typing.proofs.DirectSubtyping.{SubtypesDirectly, alike, direct_transitive}
 use Rattle.cc_core.proofs.CapturedActions.{captured_variables-act, PassesBinders-freely}
-use Rattle.cc_meta_typing.proofs.FormedContexts.{length-kinds_of, kinded_single, kinds_below}
+use Rattle.cc_meta_typing.proofs.FormedContexts.{kinded_single}
 use Rattle.cc_meta_typing.proofs.FreeMaps.{as_is, Maps, maps_kinds, map_kinded, map_kinds, map_level, map_element, map_subcaptures, agree_kinded, maps_under, opened_map, map_subtypes}
 use Rattle.cc_meta_typing.proofs.InternalTyping.{HasVariable, TypedExactly, exact_variable, exact_literal, exact_function, exact_type_function, exact_application, exact_type_application, exact_box, exact_unboxing, exact_let, exact_primitive, exact_conditional, exact_repetition, exact_operation, exact_operation_alone, exact_boundary, exact_leave, Typed, widened, exactly_kinded}
-use Rattle.cc_core.proofs.FreshOpenings.{fresh_opening}
 use Rattle.cc_core.proofs.Sorts.{SetSort, ShapeSort, TermSort}
 
 -- equal terms have the types of each other

@@ -113,6 +113,15 @@ FunctionsDoNotTakeExitsOut = (context : Context) (type : CapturingType) → HasT
 abbrev pub BoxesDoNotTakeExitsOut : Type 0
 BoxesDoNotTakeExitsOut = (context : Context) (type : CapturingType) → HasType context exit_in_a_box type → ⊥
 
+-- boundary [Int] z => val n = 5; exit [Int] (z, n)
+abbrev pub exit_inside : Term
+exit_inside =
+    Boundary number (Let Absent (LiteralTerm (NumberLiteral (pos 5))) (Leave number empty (Bound 1) (Bound 0)))
+
+-- An exit that is used inside its boundary is typed.
+abbrev pub ExitsInsideAreTyped : Type 0
+ExitsInsideAreTyped = HasType [] exit_inside (capturing number empty)
+
 -- A let of a number that is written as a truth value has no type, whatever its body, and with whatever set it is
 -- written.
 abbrev pub NotesAreHeeded : Type 0

@@ -36,8 +36,9 @@ pub fn boxes_are_opened_under_their_sets()
     ensures of_cap { example.BoxOfCapIsNotOpened }
 {}
 
-/// A boundary that would give its own exit has no type, bare and in a box.
+/// A boundary that would give its own exit has no type, bare and in a box; one that uses it inside has.
 pub fn boundaries_keep_their_exits()
+    ensures inside { example.ExitsInsideAreTyped }
     ensures bare { example.FunctionsDoNotTakeExitsOut }
     ensures boxed { example.BoxesDoNotTakeExitsOut }
 {}
