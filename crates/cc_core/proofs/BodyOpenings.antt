@@ -6,18 +6,15 @@ use Rattle.cc_capture.specs.declared.var.Var.{Var}
 use Rattle.cc_capture.specs.declared.var.Var.TheVariants.{Bound, Free}
 use Rattle.cc_capture.specs.declared.var.Elem.{Elem}
 use Rattle.cc_capture.specs.declared.var.Elem.TheVariants.{Var as Variable, Cap, Hole}
-use Rattle.cc_capture.specs.Sets.{Set}
-use Rattle.cc_core.specs.Shapes.{Shape, TypeVariable, CapturingType}
-use Rattle.cc_core.specs.Terms.{Note, Term}
-use Rattle.cc_core.specs.Traversal.{act, act_set, act_type, act_note, act_term, composed}
+use Rattle.cc_core.specs.Shapes.{Shape, TypeVariable}
+use Rattle.cc_core.specs.Traversal.{act, composed}
 use Rattle.cc_core.specs.Substitution.{single, moved_element, put_variable, opening, renamed_variable, free_shape, freely}
-use Rattle.cc_core.specs.Occurrences.{Condition, Meets, MeetsInSet, MeetsInType, MeetsInNote, MeetsInTerm, IsAskedOf, agreement, bound_within, IsPositionBelow, no_outermost_type, under_term_binder}
-use Rattle.cc_core.proofs.Actions.{act_set-congruent, act-congruent, act_type-congruent, act_set-act_set, act-act, act_type-act_type}
-use Rattle.cc_core.proofs.TermActions.{act_note-congruent, act_term-congruent, act_note-act_note, act_term-act_term}
-use Rattle.cc_core.proofs.Conditions.{GivesHere, MeetsInSet-here, Meets-here, MeetsInType-here, MeetsInNote-here, MeetsInTerm-here}
+use Rattle.cc_core.specs.Occurrences.{Condition, Meets, IsAskedOf, agreement, bound_within, IsPositionBelow, no_outermost_type, under_term_binder}
+use Rattle.cc_core.proofs.Conditions.{GivesHere}
 use Rattle.cc_core.proofs.Moving.{flat_image-of_single}
 use Rattle.cc_core.proofs.Opening.{put_variable-same, put_variable-other, putting-still}
 use Rattle.cc_core.proofs.FreeActions.{no_open_index-deeper}
+use Rattle.cc_core.proofs.Sorts.{MeetsIn, MeetsIn-here, ShapeSort, Sort, Syntax, acted, acted-acted, acted-congruent}
 
 module _ (n q : ℕ) (to other : ℕ → ℕ) (shapes others : ℕ → Shape) (sent : other n ≡ q) (closed : (p : ℕ) → Meets (bound_within 0) 0 (shapes p)) where
   -- the two actions do the same to the variable, as one of terms and as one of types
@@ -58,7 +55,7 @@ module _ (n q : ℕ) (to other : ℕ → ℕ) (shapes others : ℕ → Shape) (s
   shape_after : (d : ℕ) (v : Var) → IsReplacedAlike v × (v ≢ Bound d)
       → free_shape others (put_variable (Free n) d v) ≡ act (opening q) d (free_shape shapes v)
   shape_after d (Free p) h =
-      h.0 ∙ sym (putting-still (Free q) d (shapes p) (no_open_index-deeper d (shapes p) (closed p)))
+      h.0 ∙ sym (putting-still ShapeSort (Free q) d (shapes p) (no_open_index-deeper d (shapes p) (closed p)))
   shape_after d (Bound i) h =
       ap (free_shape others) (put_variable-other (Free n) d i (λ e. h.1 (ap Bound e)))
       ∙ ap (λ v. TypeVariable v) (sym (put_variable-other (Free q) d i (λ e. h.1 (ap Bound e))))
@@ -73,44 +70,13 @@ module _ (n q : ℕ) (to other : ℕ → ℕ) (shapes others : ℕ → Shape) (s
     variable = variable_after;
   }
 
-  pub opened_alike_set : (d : ℕ) (x : Set) → MeetsInSet sent_alike d x
-      → act_set (freely other others) d (act_set (opening n) d x)
-      ≡ act_set (opening q) d (act_set (freely to shapes) d x)
-  opened_alike_set d x m =
-      act_set-act_set (freely other others) (opening n) d x
-      ∙ act_set-congruent (composed (freely other others) (opening n)) (composed (opening q) (freely to shapes)) d x (MeetsInSet-here sent_alike _ opens_alike d x m)
-      ∙ sym (act_set-act_set (opening q) (freely to shapes) d x)
-
-  pub opened_alike : (d : ℕ) (x : Shape) → Meets sent_alike d x
-      → act (freely other others) d (act (opening n) d x) ≡ act (opening q) d (act (freely to shapes) d x)
-  opened_alike d x m =
-      act-act (freely other others) (opening n) d x
-      ∙ act-congruent (composed (freely other others) (opening n)) (composed (opening q) (freely to shapes)) d x (Meets-here sent_alike _ opens_alike d x m)
-      ∙ sym (act-act (opening q) (freely to shapes) d x)
-
-  pub opened_alike_type : (d : ℕ) (x : CapturingType) → MeetsInType sent_alike d x
-      → act_type (freely other others) d (act_type (opening n) d x)
-      ≡ act_type (opening q) d (act_type (freely to shapes) d x)
-  opened_alike_type d x m =
-      act_type-act_type (freely other others) (opening n) d x
-      ∙ act_type-congruent (composed (freely other others) (opening n)) (composed (opening q) (freely to shapes)) d x (MeetsInType-here sent_alike _ opens_alike d x m)
-      ∙ sym (act_type-act_type (opening q) (freely to shapes) d x)
-
-  pub opened_alike_note : (d : ℕ) (x : Note) → MeetsInNote sent_alike d x
-      → act_note (freely other others) d (act_note (opening n) d x)
-      ≡ act_note (opening q) d (act_note (freely to shapes) d x)
-  opened_alike_note d x m =
-      act_note-act_note (freely other others) (opening n) d x
-      ∙ act_note-congruent (composed (freely other others) (opening n)) (composed (opening q) (freely to shapes)) d x (MeetsInNote-here sent_alike _ opens_alike d x m)
-      ∙ sym (act_note-act_note (opening q) (freely to shapes) d x)
-
-  pub opened_alike_term : (d : ℕ) (x : Term) → MeetsInTerm sent_alike d x
-      → act_term (freely other others) d (act_term (opening n) d x)
-      ≡ act_term (opening q) d (act_term (freely to shapes) d x)
-  opened_alike_term d x m =
-      act_term-act_term (freely other others) (opening n) d x
-      ∙ act_term-congruent (composed (freely other others) (opening n)) (composed (opening q) (freely to shapes)) d x (MeetsInTerm-here sent_alike _ opens_alike d x m)
-      ∙ sym (act_term-act_term (opening q) (freely to shapes) d x)
+  pub opened_alike : (sort : Sort) (d : ℕ) (x : Syntax sort) → MeetsIn sort sent_alike d x
+      → acted sort (freely other others) d (acted sort (opening n) d x)
+      ≡ acted sort (opening q) d (acted sort (freely to shapes) d x)
+  opened_alike sort d x m =
+      acted-acted sort (freely other others) (opening n) d x
+      ∙ acted-congruent sort (composed (freely other others) (opening n)) (composed (opening q) (freely to shapes)) d x (MeetsIn-here sort sent_alike _ opens_alike d x m)
+      ∙ sym (acted-acted sort (opening q) (freely to shapes) d x)
 
 -- one action, at any position
 module _ (q : ℕ) (to : ℕ → ℕ) (shapes : ℕ → Shape) (closed : (p : ℕ) → Meets (bound_within 0) 0 (shapes p)) where
@@ -134,38 +100,12 @@ module _ (q : ℕ) (to : ℕ → ℕ) (shapes : ℕ → Shape) (closed : (p : �
     variable = λ d v m. always_sent v;
   }
 
-  pub opened_body_set : (d : ℕ) (x : Set) → MeetsInSet no_outermost_type d x
-      → act_set (freely to shapes) d (act_set (opening q) d x)
-      ≡ act_set (opening (to q)) d (act_set (freely to shapes) d x)
-  opened_body_set d x m =
-      opened_alike_set q (to q) to to shapes shapes refl closed d x
-      (MeetsInSet-here no_outermost_type _ opens_body d x m)
-
-  pub opened_body : (d : ℕ) (x : Shape) → Meets no_outermost_type d x
-      → act (freely to shapes) d (act (opening q) d x) ≡ act (opening (to q)) d (act (freely to shapes) d x)
-  opened_body d x m =
-      opened_alike q (to q) to to shapes shapes refl closed d x (Meets-here no_outermost_type _ opens_body d x m)
-
-  pub opened_body_type : (d : ℕ) (x : CapturingType) → MeetsInType no_outermost_type d x
-      → act_type (freely to shapes) d (act_type (opening q) d x)
-      ≡ act_type (opening (to q)) d (act_type (freely to shapes) d x)
-  opened_body_type d x m =
-      opened_alike_type q (to q) to to shapes shapes refl closed d x
-      (MeetsInType-here no_outermost_type _ opens_body d x m)
-
-  pub opened_body_note : (d : ℕ) (x : Note) → MeetsInNote no_outermost_type d x
-      → act_note (freely to shapes) d (act_note (opening q) d x)
-      ≡ act_note (opening (to q)) d (act_note (freely to shapes) d x)
-  opened_body_note d x m =
-      opened_alike_note q (to q) to to shapes shapes refl closed d x
-      (MeetsInNote-here no_outermost_type _ opens_body d x m)
-
-  pub opened_body_term : (d : ℕ) (x : Term) → MeetsInTerm no_outermost_type d x
-      → act_term (freely to shapes) d (act_term (opening q) d x)
-      ≡ act_term (opening (to q)) d (act_term (freely to shapes) d x)
-  opened_body_term d x m =
-      opened_alike_term q (to q) to to shapes shapes refl closed d x
-      (MeetsInTerm-here no_outermost_type _ opens_body d x m)
+  pub opened_body : (sort : Sort) (d : ℕ) (x : Syntax sort) → MeetsIn sort no_outermost_type d x
+      → acted sort (freely to shapes) d (acted sort (opening q) d x)
+      ≡ acted sort (opening (to q)) d (acted sort (freely to shapes) d x)
+  opened_body sort d x m =
+      opened_alike q (to q) to to shapes shapes refl closed sort d x
+      (MeetsIn-here sort no_outermost_type _ opens_body d x m)
 
 -- two actions that agree below a fresh position, which one of them sends to another position
 module _ (n q : ℕ) (to other : ℕ → ℕ) (shapes others : ℕ → Shape) (sent : other n ≡ q) (closed : (p : ℕ) → Meets (bound_within 0) 0 (shapes p)) (same : (p : ℕ) → p < n → other p ≡ to p) (same_shapes : (p : ℕ) → p < n → others p ≡ shapes p) where
@@ -190,35 +130,9 @@ module _ (n q : ℕ) (to other : ℕ → ℕ) (shapes others : ℕ → Shape) (s
     variable = λ d v m. sent_below v m;
   }
 
-  pub fresh_body_set : (d : ℕ) (x : Set) → MeetsInSet (under_term_binder n) d x
-      → act_set (freely other others) d (act_set (opening n) d x)
-      ≡ act_set (opening q) d (act_set (freely to shapes) d x)
-  fresh_body_set d x m =
-      opened_alike_set n q to other shapes others sent closed d x
-      (MeetsInSet-here (under_term_binder n) _ opens_fresh d x m)
-
-  pub fresh_body : (d : ℕ) (x : Shape) → Meets (under_term_binder n) d x
-      → act (freely other others) d (act (opening n) d x) ≡ act (opening q) d (act (freely to shapes) d x)
-  fresh_body d x m =
-      opened_alike n q to other shapes others sent closed d x (Meets-here (under_term_binder n) _ opens_fresh d x m)
-
-  pub fresh_body_type : (d : ℕ) (x : CapturingType) → MeetsInType (under_term_binder n) d x
-      → act_type (freely other others) d (act_type (opening n) d x)
-      ≡ act_type (opening q) d (act_type (freely to shapes) d x)
-  fresh_body_type d x m =
-      opened_alike_type n q to other shapes others sent closed d x
-      (MeetsInType-here (under_term_binder n) _ opens_fresh d x m)
-
-  pub fresh_body_note : (d : ℕ) (x : Note) → MeetsInNote (under_term_binder n) d x
-      → act_note (freely other others) d (act_note (opening n) d x)
-      ≡ act_note (opening q) d (act_note (freely to shapes) d x)
-  fresh_body_note d x m =
-      opened_alike_note n q to other shapes others sent closed d x
-      (MeetsInNote-here (under_term_binder n) _ opens_fresh d x m)
-
-  pub fresh_body_term : (d : ℕ) (x : Term) → MeetsInTerm (under_term_binder n) d x
-      → act_term (freely other others) d (act_term (opening n) d x)
-      ≡ act_term (opening q) d (act_term (freely to shapes) d x)
-  fresh_body_term d x m =
-      opened_alike_term n q to other shapes others sent closed d x
-      (MeetsInTerm-here (under_term_binder n) _ opens_fresh d x m)
+  pub fresh_body : (sort : Sort) (d : ℕ) (x : Syntax sort) → MeetsIn sort (under_term_binder n) d x
+      → acted sort (freely other others) d (acted sort (opening n) d x)
+      ≡ acted sort (opening q) d (acted sort (freely to shapes) d x)
+  fresh_body sort d x m =
+      opened_alike n q to other shapes others sent closed sort d x
+      (MeetsIn-here sort (under_term_binder n) _ opens_fresh d x m)

@@ -130,10 +130,10 @@ pub record MovesOutwards (move : ℕ → Var → Var) : Type 0 where
   pub index : (d i : ℕ) → outside (Variable (move (suc d) (Bound (suc i)))) ≡ single (Variable (move d (Bound i)))
   pub position : (d p : ℕ) → outside (Variable (move (suc d) (Free p))) ≡ single (Variable (move d (Free p)))
 
-pub moves-PassBinders : (f : Action) (move : ℕ → Var → Var)
+pub PassesBinders-moves : (f : Action) (move : ℕ → Var → Var)
     → ((d : ℕ) (x : Elem) → f.element d x ≡ single (moved_element (move d) x))
     → ((d : ℕ) (v : Var) → f.variable d v ≡ move d v) → MovesOutwards move → PassesBinders f
-moves-PassBinders f move elements variables moves = record {
+PassesBinders-moves f move elements variables moves = record {
   variables = λ d v. elements d (Variable v) ∙ ap (λ w. single (Variable w)) (sym (variables d v));
   outwards = outwards;
   newest =
@@ -195,9 +195,9 @@ putting_moves p = record {
           | inr other ↦ sym (put_variable-other (Free p) (suc d) i other) ∙ e
         ]
 
-pub putting-PassesBinders : (p : ℕ) → PassesBinders (putting (Free p))
-putting-PassesBinders p =
-    moves-PassBinders (putting (Free p)) (put_variable (Free p)) (λ d x. refl) (λ d v. refl) (putting_moves p)
+pub PassesBinders-putting : (p : ℕ) → PassesBinders (putting (Free p))
+PassesBinders-putting p =
+    PassesBinders-moves (putting (Free p)) (put_variable (Free p)) (λ d x. refl) (λ d v. refl) (putting_moves p)
 
 closing_moves : (n : ℕ) → MovesOutwards (closed_variable n)
 closing_moves n = record { newest = newest; newest_stays = λ d. refl; index = λ d i. refl; position = position }
@@ -221,9 +221,9 @@ closing_moves n = record { newest = newest; newest_stays = λ d. refl; index = �
               ap (λ v. outside (Variable v)) (closed_variable-other n (suc d) p other) ∙ ap (λ v. single (Variable v)) (sym (closed_variable-other n d p other))
         ]
 
-pub closing-PassesBinders : (n : ℕ) → PassesBinders (closing n)
-closing-PassesBinders n =
-    moves-PassBinders (closing n) (closed_variable n) (λ d x. refl) (λ d v. refl) (closing_moves n)
+pub PassesBinders-closing : (n : ℕ) → PassesBinders (closing n)
+PassesBinders-closing n =
+    PassesBinders-moves (closing n) (closed_variable n) (λ d x. refl) (λ d v. refl) (closing_moves n)
 
 renaming_moves : (to : ℕ → ℕ) → MovesOutwards (λ d v. renamed_variable to v)
 renaming_moves to = record { newest = newest; newest_stays = λ d. refl; index = λ d i. refl; position = λ d p. refl }
@@ -232,13 +232,13 @@ renaming_moves to = record { newest = newest; newest_stays = λ d. refl; index =
     newest d (Bound i) e = e
     newest d (Free q) e = cc
 
-pub renaming-PassesBinders : (to : ℕ → ℕ) → PassesBinders (renaming to)
-renaming-PassesBinders to =
-    moves-PassBinders (renaming to) (λ d v. renamed_variable to v) (λ d x. refl) (λ d v. refl) (renaming_moves to)
+pub PassesBinders-renaming : (to : ℕ → ℕ) → PassesBinders (renaming to)
+PassesBinders-renaming to =
+    PassesBinders-moves (renaming to) (λ d v. renamed_variable to v) (λ d x. refl) (λ d v. refl) (renaming_moves to)
 
-pub freely-PassesBinders : (to : ℕ → ℕ) (shapes : ℕ → Shape) → PassesBinders (freely to shapes)
-freely-PassesBinders to shapes =
-    moves-PassBinders (freely to shapes) (λ d v. renamed_variable to v) (λ d x. refl) (λ d v. refl)
+pub PassesBinders-freely : (to : ℕ → ℕ) (shapes : ℕ → Shape) → PassesBinders (freely to shapes)
+PassesBinders-freely to shapes =
+    PassesBinders-moves (freely to shapes) (λ d v. renamed_variable to v) (λ d x. refl) (λ d v. refl)
     (renaming_moves to)
 
 -- putting a shape changes no captured variable
@@ -250,14 +250,14 @@ still_element (Variable v) = refl
 still_element Cap = refl
 still_element (Hole n) = refl
 
-pub putting_shape-PassesBinders : (by : Shape) → PassesBinders (putting_shape by)
-putting_shape-PassesBinders by =
-    moves-PassBinders (putting_shape by) (λ d v. v) (λ d x. still_element x) (λ d v. refl) still_moves
+pub PassesBinders-putting_shape : (by : Shape) → PassesBinders (putting_shape by)
+PassesBinders-putting_shape by =
+    PassesBinders-moves (putting_shape by) (λ d v. v) (λ d x. still_element x) (λ d v. refl) still_moves
 
 pub captured_variables-putting_shape : (by : Shape) (d : ℕ) (t : Term)
     → captured_variables (act_term (putting_shape by) d t) ≡ captured_variables t
 captured_variables-putting_shape by d t =
-    captured_variables-act (putting_shape by) (putting_shape-PassesBinders by) d t
+    captured_variables-act (putting_shape by) (PassesBinders-putting_shape by) d t
     ∙ act_set-keeping d (captured_variables t)
 
 -- filling, where no filling has an index
@@ -271,9 +271,9 @@ pub without_binder-closed : (c : Set) → MeetsInSet (bound_within 0) 0 c → wi
 without_binder-closed c m =
     flat_image-congruent outside single c (λ x h. outside_closed x (m x h)) ∙ act_set-keeping 0 c
 
-pub filling_in-PassesBinders : (filling : ℕ → Set) → ((h : ℕ) → MeetsInSet (bound_within 0) 0 (filling h))
+pub PassesBinders-filling_in : (filling : ℕ → Set) → ((h : ℕ) → MeetsInSet (bound_within 0) 0 (filling h))
     → PassesBinders (filling_in filling)
-filling_in-PassesBinders filling closed = record {
+PassesBinders-filling_in filling closed = record {
   variables = λ d v. refl;
   outwards = outwards;
   newest = λ d x h. newest x h;

@@ -18,16 +18,16 @@ use Rattle.cc_core.proofs.KindFacts.{IsOfKind, IsKindedElement, IsKindedSet, IsK
 use Rattle.cc_core.proofs.KindRespecting.{single_kinded}
 
 module _ (kinds : List Kind) where
-  empty_kinded : (passed : List Kind) → IsKindedSet kinds passed empty
+  pub empty_kinded : (passed : List Kind) → IsKindedSet kinds passed empty
   empty_kinded passed x h = absurd (Member-empty x h)
 
-  union_kinded : (passed : List Kind) (a b : Set) → IsKindedSet kinds passed a → IsKindedSet kinds passed b
+  pub union_kinded : (passed : List Kind) (a b : Set) → IsKindedSet kinds passed a → IsKindedSet kinds passed b
       → IsKindedSet kinds passed (union a b)
   union_kinded passed a b p q x h =
       elim ((Member-union x a b).0 h) as (λ _. IsKindedElement kinds passed x)
       [ inl left ↦ p x left | inr right ↦ q x right ]
 
-  outside_kinded : (passed : List Kind) (kind : Kind) (x : Elem) → IsKindedElement kinds (kind ∷ passed) x
+  pub outside_kinded : (passed : List Kind) (kind : Kind) (x : Elem) → IsKindedElement kinds (kind ∷ passed) x
       → IsKindedSet kinds passed (outside x)
   outside_kinded passed kind (Variable (Bound zero)) k = empty_kinded passed
   outside_kinded passed kind (Variable (Bound (suc i))) k = single_kinded kinds passed (Variable (Bound i)) k
@@ -41,21 +41,21 @@ module _ (kinds : List Kind) where
       let from = (Member-flat_image outside x c).0 h in
       outside_kinded passed kind from.0 (k from.0 from.1) x from.2
 
-  variable_kinded : (passed : List Kind) (v : Var) → IsOfKind kinds passed v TermKind
+  pub variable_kinded : (passed : List Kind) (v : Var) → IsOfKind kinds passed v TermKind
       → IsKindedSet kinds passed (variable_set v)
   variable_kinded passed v k = single_kinded kinds passed (Variable v) k
 
-  two_kinded : (passed : List Kind) (v w : Var) → IsOfKind kinds passed v TermKind → IsOfKind kinds passed w TermKind
+  pub two_kinded : (passed : List Kind) (v w : Var) → IsOfKind kinds passed v TermKind → IsOfKind kinds passed w TermKind
       → IsKindedSet kinds passed (union (variable_set v) (variable_set w))
   two_kinded passed v w p q =
       union_kinded passed (variable_set v) (variable_set w) (variable_kinded passed v p) (variable_kinded passed w q)
 
-  optional_set_kinded : (passed : List Kind) (o : Option Set) → IsKindedOptionalSet kinds passed o
+  pub optional_set_kinded : (passed : List Kind) (o : Option Set) → IsKindedOptionalSet kinds passed o
       → IsKindedSet kinds passed (optional_set o)
   optional_set_kinded passed None k = empty_kinded passed
   optional_set_kinded passed (Some c) k = k
 
-  optional_kinded : (passed : List Kind) (o : Option Var) → IsKindedOptional kinds passed o
+  pub optional_kinded : (passed : List Kind) (o : Option Var) → IsKindedOptional kinds passed o
       → IsKindedSet kinds passed (optional_variable_set o)
   optional_kinded passed None k = empty_kinded passed
   optional_kinded passed (Some v) k = variable_kinded passed v k

@@ -7,16 +7,15 @@ use Rattle.cc_capture.specs.declared.var.Var.TheVariants.{Bound, Free}
 use Rattle.cc_capture.specs.declared.var.Elem.{Elem}
 use Rattle.cc_capture.specs.declared.var.Elem.TheVariants.{Var as Variable, Cap, Hole}
 use Rattle.cc_capture.specs.Sets.{Set, flat_image}
-use Rattle.cc_core.specs.Shapes.{Shape, BaseShape, AnyShape, TypeVariable, FunctionShape, TypeFunctionShape, BoxShape, ExitShape, CapturingType}
-use Rattle.cc_core.specs.Terms.{Note, Term}
-use Rattle.cc_core.specs.Traversal.{Action, act, act_set, act_type, act_note, act_term, keeping, composed}
+use Rattle.cc_core.specs.Shapes.{Shape, BaseShape, AnyShape, TypeVariable, FunctionShape, TypeFunctionShape, BoxShape, ExitShape}
+use Rattle.cc_core.specs.Traversal.{Action, act, act_set, keeping, composed}
 use Rattle.cc_core.specs.Substitution.{single, moved_element, put_variable, put_shape, putting, putting_shape}
 use Rattle.cc_core.specs.Occurrences.{agreement, Meets, MeetsInSet, IsAskedOf, HasBinder, bound_within}
-use Rattle.cc_core.proofs.Actions.{same_actions, act-congruent, act_set-act_set, act-act, act_type-act_type, act_set-keeping, act-keeping}
-use Rattle.cc_core.proofs.TermActions.{act_note-act_note, act_term-act_term}
+use Rattle.cc_core.proofs.Actions.{same_actions, act-congruent, act_set-keeping, act-keeping}
 use Rattle.cc_core.proofs.Conditions.{Gives, gives_on_variables, MeetsInSet-along, Meets-along, GivesHere, Meets-here}
 use Rattle.cc_core.proofs.Moving.{flat_image-of_single}
-use Rattle.cc_core.proofs.Opening.{put_variable-same, put_variable-other, put_still, putting_set-still, putting-still}
+use Rattle.cc_core.proofs.Opening.{put_variable-same, put_variable-other, put_still, putting-still}
+use Rattle.cc_core.proofs.Sorts.{SetSort, ShapeSort, Sort, Syntax, acted, acted-acted}
 
 -- what has no open index has none at any depth
 closed_deeper : Gives (λ d e. d ≤ e) (bound_within 0) (bound_within 0)
@@ -139,13 +138,13 @@ module _ (f : Action) (free : IsFree f) (by : Var) (to : Var) (sends : Sends f b
           ∙ flat_image-of_single (λ y. single (moved_element (put_variable to d) y)) (Variable (Bound j))
   element_commutes d (Variable (Free p)) =
       sym
-      (putting_set-still to d (f.element d (Variable (Free p))) (element_closed_at f free d (Variable (Free p)) tt))
-  element_commutes d Cap = sym (putting_set-still to d (f.element d Cap) (element_closed_at f free d Cap tt))
+      (putting-still SetSort to d (f.element d (Variable (Free p))) (element_closed_at f free d (Variable (Free p)) tt))
+  element_commutes d Cap = sym (putting-still SetSort to d (f.element d Cap) (element_closed_at f free d Cap tt))
   element_commutes d (Hole n) =
-      sym (putting_set-still to d (f.element d (Hole n)) (element_closed_at f free d (Hole n) tt))
+      sym (putting-still SetSort to d (f.element d (Hole n)) (element_closed_at f free d (Hole n) tt))
 
   shape_commutes : (d : ℕ) (v : Var) → f.shape d (put_variable by d v) ≡ act (putting to) d (f.shape d v)
-  shape_commutes d (Free p) = sym (putting-still to d (f.shape d (Free p)) (shape_closed_at f free d p))
+  shape_commutes d (Free p) = sym (putting-still ShapeSort to d (f.shape d (Free p)) (shape_closed_at f free d p))
   shape_commutes d (Bound i) =
       elim (cases_eq i d) as (λ _. f.shape d (put_variable by d (Bound i)) ≡ act (putting to) d (f.shape d (Bound i))) [
         | inl e ↦
@@ -179,33 +178,11 @@ module _ (f : Action) (free : IsFree f) (by : Var) (to : Var) (sends : Sends f b
       shape_commutes
       variable_commutes
 
-  pub free-putting_set : (d : ℕ) (c : Set)
-      → act_set f d (act_set (putting by) d c) ≡ act_set (putting to) d (act_set f d c)
-  free-putting_set d c =
-      act_set-act_set f (putting by) d c ∙ ap (λ a. act_set a d c) free-after_putting
-      ∙ sym (act_set-act_set (putting to) f d c)
-
-  pub free-putting : (d : ℕ) (s : Shape) → act f d (act (putting by) d s) ≡ act (putting to) d (act f d s)
-  free-putting d s =
-      act-act f (putting by) d s ∙ ap (λ a. act a d s) free-after_putting ∙ sym (act-act (putting to) f d s)
-
-  pub free-putting_type : (d : ℕ) (t : CapturingType)
-      → act_type f d (act_type (putting by) d t) ≡ act_type (putting to) d (act_type f d t)
-  free-putting_type d t =
-      act_type-act_type f (putting by) d t ∙ ap (λ a. act_type a d t) free-after_putting
-      ∙ sym (act_type-act_type (putting to) f d t)
-
-  pub free-putting_note : (d : ℕ) (n : Note)
-      → act_note f d (act_note (putting by) d n) ≡ act_note (putting to) d (act_note f d n)
-  free-putting_note d n =
-      act_note-act_note f (putting by) d n ∙ ap (λ a. act_note a d n) free-after_putting
-      ∙ sym (act_note-act_note (putting to) f d n)
-
-  pub free-putting_term : (d : ℕ) (t : Term)
-      → act_term f d (act_term (putting by) d t) ≡ act_term (putting to) d (act_term f d t)
-  free-putting_term d t =
-      act_term-act_term f (putting by) d t ∙ ap (λ a. act_term a d t) free-after_putting
-      ∙ sym (act_term-act_term (putting to) f d t)
+  pub free-putting : (sort : Sort) (d : ℕ) (x : Syntax sort)
+      → acted sort f d (acted sort (putting by) d x) ≡ acted sort (putting to) d (acted sort f d x)
+  free-putting sort d x =
+      acted-acted sort f (putting by) d x ∙ ap (λ a. acted sort a d x) free-after_putting
+      ∙ sym (acted-acted sort (putting to) f d x)
 
 -- An action on free positions commutes with putting a shape.
 module _ (f : Action) (free : IsFree f) (by : Shape) where
@@ -231,26 +208,9 @@ module _ (f : Action) (free : IsFree f) (by : Shape) where
       put_shape_commutes
       (λ d v. refl)
 
-  pub free-putting_shape : (d : ℕ) (s : Shape)
-      → act f d (act (putting_shape by) d s) ≡ act (putting_shape (act f 0 by)) d (act f d s)
-  free-putting_shape d s =
-      act-act f (putting_shape by) d s ∙ ap (λ a. act a d s) free-after_putting_shape
-      ∙ sym (act-act (putting_shape (act f 0 by)) f d s)
-
-  pub free-putting_shape_type : (d : ℕ) (t : CapturingType)
-      → act_type f d (act_type (putting_shape by) d t) ≡ act_type (putting_shape (act f 0 by)) d (act_type f d t)
-  free-putting_shape_type d t =
-      act_type-act_type f (putting_shape by) d t ∙ ap (λ a. act_type a d t) free-after_putting_shape
-      ∙ sym (act_type-act_type (putting_shape (act f 0 by)) f d t)
-
-  pub free-putting_shape_note : (d : ℕ) (n : Note)
-      → act_note f d (act_note (putting_shape by) d n) ≡ act_note (putting_shape (act f 0 by)) d (act_note f d n)
-  free-putting_shape_note d n =
-      act_note-act_note f (putting_shape by) d n ∙ ap (λ a. act_note a d n) free-after_putting_shape
-      ∙ sym (act_note-act_note (putting_shape (act f 0 by)) f d n)
-
-  pub free-putting_shape_term : (d : ℕ) (t : Term)
-      → act_term f d (act_term (putting_shape by) d t) ≡ act_term (putting_shape (act f 0 by)) d (act_term f d t)
-  free-putting_shape_term d t =
-      act_term-act_term f (putting_shape by) d t ∙ ap (λ a. act_term a d t) free-after_putting_shape
-      ∙ sym (act_term-act_term (putting_shape (act f 0 by)) f d t)
+  pub free-putting_shape : (sort : Sort) (d : ℕ) (x : Syntax sort)
+      → acted sort f d (acted sort (putting_shape by) d x)
+      ≡ acted sort (putting_shape (act f 0 by)) d (acted sort f d x)
+  free-putting_shape sort d x =
+      acted-acted sort f (putting_shape by) d x ∙ ap (λ a. acted sort a d x) free-after_putting_shape
+      ∙ sym (acted-acted sort (putting_shape (act f 0 by)) f d x)

@@ -7,19 +7,16 @@ use Rattle.cc_capture.specs.declared.var.Var.{Var}
 use Rattle.cc_capture.specs.declared.var.Var.TheVariants.{Bound, Free}
 use Rattle.cc_capture.specs.declared.var.Elem.{Elem}
 use Rattle.cc_capture.specs.declared.var.Elem.TheVariants.{Var as Variable, Cap, Hole}
-use Rattle.cc_capture.specs.Sets.{Set}
-use Rattle.cc_core.specs.Shapes.{Shape, TypeVariable, CapturingType}
-use Rattle.cc_core.specs.Terms.{Note, Term}
-use Rattle.cc_core.specs.Traversal.{act, act_set, act_type, act_note, act_term, composed}
+use Rattle.cc_core.specs.Shapes.{Shape, TypeVariable}
+use Rattle.cc_core.specs.Traversal.{act, composed}
 use Rattle.cc_core.specs.Substitution.{single, moved_element, put_variable, put_shape, opening, putting_shape, renamed_variable, free_shape, freely, overridden}
-use Rattle.cc_core.specs.Occurrences.{agreement, Meets, MeetsInSet, MeetsInType, MeetsInNote, MeetsInTerm, IsAskedOf, bound_within, IsPositionBelow, positions_below, under_type_binder}
-use Rattle.cc_core.proofs.Actions.{act_set-congruent, act-congruent, act_type-congruent, act_set-act_set, act-act, act_type-act_type}
-use Rattle.cc_core.proofs.TermActions.{act_note-congruent, act_term-congruent, act_note-act_note, act_term-act_term}
-use Rattle.cc_core.proofs.Conditions.{GivesHere, MeetsInSet-here, Meets-here, MeetsInType-here, MeetsInNote-here, MeetsInTerm-here}
+use Rattle.cc_core.specs.Occurrences.{agreement, Meets, IsAskedOf, bound_within, IsPositionBelow, positions_below, under_type_binder}
+use Rattle.cc_core.proofs.Conditions.{GivesHere}
 use Rattle.cc_core.proofs.Moving.{flat_image-of_single}
 use Rattle.cc_core.proofs.Opening.{put_variable-same, put_variable-other}
-use Rattle.cc_core.proofs.FreeActions.{Sends, no_open_index-deeper, put_shape-same, put_shape-other, putting_shape_set, putting_shape-still, free-putting_set, free-putting, free-putting_type, free-putting_note, free-putting_term}
-use Rattle.cc_core.proofs.Renaming.{freely-IsFree, overridden-same, overridden-below, freely-agree_set, freely-agree, freely-agree_type, freely-agree_note, freely-agree_term}
+use Rattle.cc_core.proofs.FreeActions.{Sends, no_open_index-deeper, put_shape-same, put_shape-other, putting_shape_set, putting_shape-still, free-putting}
+use Rattle.cc_core.proofs.Renaming.{IsFree-freely, overridden-same, overridden-below, freely-agree}
+use Rattle.cc_core.proofs.Sorts.{MeetsIn, MeetsIn-here, Sort, Syntax, acted, acted-acted, acted-congruent}
 
 module _ (n q : ℕ) (to : ℕ → ℕ) (shapes : ℕ → Shape) (closed : (p : ℕ) → Meets (bound_within 0) 0 (shapes p)) where
   closed_still : (p : ℕ) → Meets (bound_within 0) 0 (overridden shapes n (TypeVariable (Free q)) p)
@@ -33,40 +30,12 @@ module _ (n q : ℕ) (to : ℕ → ℕ) (shapes : ℕ → Shape) (closed : (p : 
     variable = λ d. ap Free (overridden-same to n q);
   }
 
-  pub fresh_opening_set : (d : ℕ) (x : Set) → MeetsInSet (positions_below n) d x
-      → act_set (freely (overridden to n q) (overridden shapes n (TypeVariable (Free q)))) d (act_set (opening n) d x)
-      ≡ act_set (opening q) d (act_set (freely to shapes) d x)
-  fresh_opening_set d x m =
-      free-putting_set (freely (overridden to n q) (overridden shapes n (TypeVariable (Free q)))) (freely-IsFree (overridden to n q) (overridden shapes n (TypeVariable (Free q))) closed_still) (Free n) (Free q) sends_fresh d x
-      ∙ ap (act_set (opening q) d) (freely-agree_set n to (overridden to n q) shapes (overridden shapes n (TypeVariable (Free q))) (overridden-below to n q) (overridden-below shapes n (TypeVariable (Free q))) d x m)
-
-  pub fresh_opening : (d : ℕ) (x : Shape) → Meets (positions_below n) d x
-      → act (freely (overridden to n q) (overridden shapes n (TypeVariable (Free q)))) d (act (opening n) d x)
-      ≡ act (opening q) d (act (freely to shapes) d x)
-  fresh_opening d x m =
-      free-putting (freely (overridden to n q) (overridden shapes n (TypeVariable (Free q)))) (freely-IsFree (overridden to n q) (overridden shapes n (TypeVariable (Free q))) closed_still) (Free n) (Free q) sends_fresh d x
-      ∙ ap (act (opening q) d) (freely-agree n to (overridden to n q) shapes (overridden shapes n (TypeVariable (Free q))) (overridden-below to n q) (overridden-below shapes n (TypeVariable (Free q))) d x m)
-
-  pub fresh_opening_type : (d : ℕ) (x : CapturingType) → MeetsInType (positions_below n) d x
-      → act_type (freely (overridden to n q) (overridden shapes n (TypeVariable (Free q)))) d (act_type (opening n) d x)
-      ≡ act_type (opening q) d (act_type (freely to shapes) d x)
-  fresh_opening_type d x m =
-      free-putting_type (freely (overridden to n q) (overridden shapes n (TypeVariable (Free q)))) (freely-IsFree (overridden to n q) (overridden shapes n (TypeVariable (Free q))) closed_still) (Free n) (Free q) sends_fresh d x
-      ∙ ap (act_type (opening q) d) (freely-agree_type n to (overridden to n q) shapes (overridden shapes n (TypeVariable (Free q))) (overridden-below to n q) (overridden-below shapes n (TypeVariable (Free q))) d x m)
-
-  pub fresh_opening_note : (d : ℕ) (x : Note) → MeetsInNote (positions_below n) d x
-      → act_note (freely (overridden to n q) (overridden shapes n (TypeVariable (Free q)))) d (act_note (opening n) d x)
-      ≡ act_note (opening q) d (act_note (freely to shapes) d x)
-  fresh_opening_note d x m =
-      free-putting_note (freely (overridden to n q) (overridden shapes n (TypeVariable (Free q)))) (freely-IsFree (overridden to n q) (overridden shapes n (TypeVariable (Free q))) closed_still) (Free n) (Free q) sends_fresh d x
-      ∙ ap (act_note (opening q) d) (freely-agree_note n to (overridden to n q) shapes (overridden shapes n (TypeVariable (Free q))) (overridden-below to n q) (overridden-below shapes n (TypeVariable (Free q))) d x m)
-
-  pub fresh_opening_term : (d : ℕ) (x : Term) → MeetsInTerm (positions_below n) d x
-      → act_term (freely (overridden to n q) (overridden shapes n (TypeVariable (Free q)))) d (act_term (opening n) d x)
-      ≡ act_term (opening q) d (act_term (freely to shapes) d x)
-  fresh_opening_term d x m =
-      free-putting_term (freely (overridden to n q) (overridden shapes n (TypeVariable (Free q)))) (freely-IsFree (overridden to n q) (overridden shapes n (TypeVariable (Free q))) closed_still) (Free n) (Free q) sends_fresh d x
-      ∙ ap (act_term (opening q) d) (freely-agree_term n to (overridden to n q) shapes (overridden shapes n (TypeVariable (Free q))) (overridden-below to n q) (overridden-below shapes n (TypeVariable (Free q))) d x m)
+  pub fresh_opening : (sort : Sort) (d : ℕ) (x : Syntax sort) → MeetsIn sort (positions_below n) d x
+      → acted sort (freely (overridden to n q) (overridden shapes n (TypeVariable (Free q)))) d (acted sort (opening n) d x)
+      ≡ acted sort (opening q) d (acted sort (freely to shapes) d x)
+  fresh_opening sort d x m =
+      free-putting (freely (overridden to n q) (overridden shapes n (TypeVariable (Free q)))) (IsFree-freely (overridden to n q) (overridden shapes n (TypeVariable (Free q))) closed_still) (Free n) (Free q) sends_fresh sort d x
+      ∙ ap (acted sort (opening q) d) (freely-agree n to (overridden to n q) shapes (overridden shapes n (TypeVariable (Free q))) (overridden-below to n q) (overridden-below shapes n (TypeVariable (Free q))) sort d x m)
 
 -- the same of a shape, at a body under the binder of a type variable, whatever the position is as a variable of terms
 module _ (n : ℕ) (by : Shape) (to other : ℕ → ℕ) (shapes : ℕ → Shape) (same : (p : ℕ) → p < n → other p ≡ to p) (closed : (p : ℕ) → Meets (bound_within 0) 0 (shapes p)) where
@@ -106,42 +75,10 @@ module _ (n : ℕ) (by : Shape) (to other : ℕ → ℕ) (shapes : ℕ → Shape
     variable = λ d v m. variable_put d v m;
   }
 
-  pub fresh_shape_set : (d : ℕ) (x : Set) → MeetsInSet (under_type_binder n) d x
-      → act_set (freely other (overridden shapes n by)) d (act_set (opening n) d x)
-      ≡ act_set (putting_shape by) d (act_set (freely to shapes) d x)
-  fresh_shape_set d x m =
-      act_set-act_set (freely other (overridden shapes n by)) (opening n) d x
-      ∙ act_set-congruent (composed (freely other (overridden shapes n by)) (opening n)) (composed (putting_shape by) (freely to shapes)) d x (MeetsInSet-here _ _ puts_shape d x m)
-      ∙ sym (act_set-act_set (putting_shape by) (freely to shapes) d x)
-
-  pub fresh_shape : (d : ℕ) (x : Shape) → Meets (under_type_binder n) d x
-      → act (freely other (overridden shapes n by)) d (act (opening n) d x)
-      ≡ act (putting_shape by) d (act (freely to shapes) d x)
-  fresh_shape d x m =
-      act-act (freely other (overridden shapes n by)) (opening n) d x
-      ∙ act-congruent (composed (freely other (overridden shapes n by)) (opening n)) (composed (putting_shape by) (freely to shapes)) d x (Meets-here _ _ puts_shape d x m)
-      ∙ sym (act-act (putting_shape by) (freely to shapes) d x)
-
-  pub fresh_shape_type : (d : ℕ) (x : CapturingType) → MeetsInType (under_type_binder n) d x
-      → act_type (freely other (overridden shapes n by)) d (act_type (opening n) d x)
-      ≡ act_type (putting_shape by) d (act_type (freely to shapes) d x)
-  fresh_shape_type d x m =
-      act_type-act_type (freely other (overridden shapes n by)) (opening n) d x
-      ∙ act_type-congruent (composed (freely other (overridden shapes n by)) (opening n)) (composed (putting_shape by) (freely to shapes)) d x (MeetsInType-here _ _ puts_shape d x m)
-      ∙ sym (act_type-act_type (putting_shape by) (freely to shapes) d x)
-
-  pub fresh_shape_note : (d : ℕ) (x : Note) → MeetsInNote (under_type_binder n) d x
-      → act_note (freely other (overridden shapes n by)) d (act_note (opening n) d x)
-      ≡ act_note (putting_shape by) d (act_note (freely to shapes) d x)
-  fresh_shape_note d x m =
-      act_note-act_note (freely other (overridden shapes n by)) (opening n) d x
-      ∙ act_note-congruent (composed (freely other (overridden shapes n by)) (opening n)) (composed (putting_shape by) (freely to shapes)) d x (MeetsInNote-here _ _ puts_shape d x m)
-      ∙ sym (act_note-act_note (putting_shape by) (freely to shapes) d x)
-
-  pub fresh_shape_term : (d : ℕ) (x : Term) → MeetsInTerm (under_type_binder n) d x
-      → act_term (freely other (overridden shapes n by)) d (act_term (opening n) d x)
-      ≡ act_term (putting_shape by) d (act_term (freely to shapes) d x)
-  fresh_shape_term d x m =
-      act_term-act_term (freely other (overridden shapes n by)) (opening n) d x
-      ∙ act_term-congruent (composed (freely other (overridden shapes n by)) (opening n)) (composed (putting_shape by) (freely to shapes)) d x (MeetsInTerm-here _ _ puts_shape d x m)
-      ∙ sym (act_term-act_term (putting_shape by) (freely to shapes) d x)
+  pub fresh_shape : (sort : Sort) (d : ℕ) (x : Syntax sort) → MeetsIn sort (under_type_binder n) d x
+      → acted sort (freely other (overridden shapes n by)) d (acted sort (opening n) d x)
+      ≡ acted sort (putting_shape by) d (acted sort (freely to shapes) d x)
+  fresh_shape sort d x m =
+      acted-acted sort (freely other (overridden shapes n by)) (opening n) d x
+      ∙ acted-congruent sort (composed (freely other (overridden shapes n by)) (opening n)) (composed (putting_shape by) (freely to shapes)) d x (MeetsIn-here sort _ _ puts_shape d x m)
+      ∙ sym (acted-acted sort (putting_shape by) (freely to shapes) d x)

@@ -8,21 +8,18 @@ use Rattle.cc_capture.specs.declared.var.Var.TheVariants.{Bound, Free}
 use Rattle.cc_capture.specs.declared.var.Elem.{Elem}
 use Rattle.cc_capture.specs.declared.var.Elem.TheVariants.{Var as Variable, Cap, Hole}
 use Rattle.cc_capture.specs.Sets.{Set}
-use Rattle.cc_core.specs.Shapes.{Shape, CapturingType}
-use Rattle.cc_core.specs.Terms.{Note, Term}
+use Rattle.cc_core.specs.Shapes.{Shape}
 use Rattle.cc_core.specs.Contexts.{lookup}
-use Rattle.cc_core.specs.Traversal.{act, act_set, act_type, act_note, act_term}
 use Rattle.cc_core.specs.Substitution.{single, moved_element, moving, put_variable, closed_variable, put_shape, putting_shape, renamed_variable, free_shape, freely, filled_element, filling_in}
 use Rattle.cc_core.specs.WellFormed.{Kind, TermKind, TypeKind}
 use Rattle.cc_core.specs.Occurrences.{IsAskedOf, HasBinder, bound_within, IsPositionBelow, positions_below, under_type_binder, no_outermost_type, under_term_binder}
-use Rattle.cc_core.proofs.Actions.{act_set-keeping, act-keeping, act_type-keeping}
-use Rattle.cc_core.proofs.TermActions.{act_note-keeping, act_term-keeping}
 use Rattle.cc_core.proofs.Moving.{Member-single, moving-identity}
 use Rattle.cc_core.proofs.Opening.{put_variable-same, put_variable-other, closed_variable-same, closed_variable-other}
 use Rattle.cc_core.proofs.FreeActions.{put_shape-same, put_shape-other}
 use Rattle.cc_core.proofs.Lookups.{lookup-newest, lookup-below, lookup-older, lookup-more, lookup-cases, slice_get-within, slice_get-last, slice_get-not_last, slice_get-beyond}
-use Rattle.cc_core.proofs.KindFacts.{IsOfKind, IsKindedElement, IsKindedSet, IsKinded, IsKindedType, IsKindedNote, IsKindedTerm}
-use Rattle.cc_core.proofs.KindedActions.{KeepsKinds, IsKindedSet-act, IsKinded-act, IsKindedType-act, IsKindedNote-act, IsKindedTerm-act, KindsGive}
+use Rattle.cc_core.proofs.KindFacts.{IsOfKind, IsKindedElement, IsKindedSet, IsKinded}
+use Rattle.cc_core.proofs.KindedActions.{KeepsKinds, KindsGive}
+use Rattle.cc_core.proofs.Sorts.{HasKinds, HasKinds-act, SetSort, ShapeSort, Sort, Syntax, acted, acted-keeping}
 
 -- a move that takes each variable to one of the same kind
 abbrev pub MovesKinds : (ℕ → Var → Var) → List Kind → List Kind → List Kind → List Kind → Type 0
@@ -34,9 +31,9 @@ pub single_kinded : (kinds passed : List Kind) (x : Elem) → IsKindedElement ki
     → IsKindedSet kinds passed (single x)
 single_kinded kinds passed x k y h = subst (IsKindedElement kinds passed) (sym (Member-single y x h)) k
 
-pub moving-KeepsKinds : (move : ℕ → Var → Var) (kinds beyond new_kinds new_beyond : List Kind)
+pub KeepsKinds-moving : (move : ℕ → Var → Var) (kinds beyond new_kinds new_beyond : List Kind)
     → MovesKinds move kinds beyond new_kinds new_beyond → KeepsKinds (moving move) kinds beyond new_kinds new_beyond
-moving-KeepsKinds move kinds beyond new_kinds new_beyond moves = record {
+KeepsKinds-moving move kinds beyond new_kinds new_beyond moves = record {
   element =
       λ passed x k. single_kinded new_kinds (passed ++ new_beyond) (moved_element (move (length passed)) x)
       (moved passed x k);
@@ -51,10 +48,10 @@ moving-KeepsKinds move kinds beyond new_kinds new_beyond moves = record {
     moved passed (Hole n) k = tt
 
 -- opening at the fresh position of an entry of the binder's kind
-pub opening-MovesKinds : (kinds : List Kind) (kind : Kind)
+pub MovesKinds-opening : (kinds : List Kind) (kind : Kind)
     → MovesKinds (put_variable (Free (length kinds))) kinds (kind ∷ []) (kind ∷ kinds) []
-opening-MovesKinds kinds kind passed (Free p) k e = lookup-older kind kinds p k e
-opening-MovesKinds kinds kind passed (Bound i) k e =
+MovesKinds-opening kinds kind passed (Free p) k e = lookup-older kind kinds p k e
+MovesKinds-opening kinds kind passed (Bound i) k e =
     elim (cases_eq i (length passed)) as (λ _. IsOfKind (kind ∷ kinds) (passed ++ []) (put_variable (Free (length kinds)) (length passed) (Bound i)) k) [
       | inl same ↦
           subst (λ v. IsOfKind (kind ∷ kinds) (passed ++ []) v k)
@@ -67,10 +64,10 @@ opening-MovesKinds kinds kind passed (Bound i) k e =
     ]
 
 -- closing the newest position
-pub closing-MovesKinds : (kinds : List Kind) (kind : Kind)
+pub MovesKinds-closing : (kinds : List Kind) (kind : Kind)
     → MovesKinds (closed_variable (length kinds)) (kind ∷ kinds) [] kinds (kind ∷ [])
-closing-MovesKinds kinds kind passed (Bound i) k e = slice_get-beyond passed (kind ∷ []) i k e
-closing-MovesKinds kinds kind passed (Free p) k e =
+MovesKinds-closing kinds kind passed (Bound i) k e = slice_get-beyond passed (kind ∷ []) i k e
+MovesKinds-closing kinds kind passed (Free p) k e =
     elim (lookup-cases kind kinds p k e) as (λ _. IsOfKind kinds (passed ++ kind ∷ []) (closed_variable (length kinds) (length passed) (Free p)) k) [
       | inl here ↦
           subst (λ v. IsOfKind kinds (passed ++ kind ∷ []) v k)
@@ -82,11 +79,11 @@ closing-MovesKinds kinds kind passed (Free p) k e =
     ]
 
 -- putting a variable of the binder's kind
-pub putting-MovesKinds : (kinds : List Kind) (kind : Kind) (by : Var) → IsOfKind kinds [] by kind
+pub MovesKinds-putting : (kinds : List Kind) (kind : Kind) (by : Var) → IsOfKind kinds [] by kind
     → MovesKinds (put_variable by) kinds (kind ∷ []) kinds []
-putting-MovesKinds kinds kind (Bound j) of passed v k e = cc
-putting-MovesKinds kinds kind (Free q) of passed (Free p) k e = e
-putting-MovesKinds kinds kind (Free q) of passed (Bound i) k e =
+MovesKinds-putting kinds kind (Bound j) of passed v k e = cc
+MovesKinds-putting kinds kind (Free q) of passed (Free p) k e = e
+MovesKinds-putting kinds kind (Free q) of passed (Bound i) k e =
     elim (cases_eq i (length passed)) as (λ _. IsOfKind kinds (passed ++ []) (put_variable (Free q) (length passed) (Bound i)) k) [
       | inl same ↦
           subst (λ v. IsOfKind kinds (passed ++ []) v k)
@@ -97,67 +94,38 @@ putting-MovesKinds kinds kind (Free q) of passed (Bound i) k e =
     ]
 
 -- renaming to positions of the same kinds
-pub renaming-MovesKinds : (to : ℕ → ℕ) (kinds new_kinds beyond : List Kind)
+pub MovesKinds-renaming : (to : ℕ → ℕ) (kinds new_kinds beyond : List Kind)
     → ((p : ℕ) (k : Kind) → lookup kinds p ≡ Some k → lookup new_kinds (to p) ≡ Some k)
     → MovesKinds (λ d v. renamed_variable to v) kinds beyond new_kinds beyond
-renaming-MovesKinds to kinds new_kinds beyond same passed (Bound i) k e = e
-renaming-MovesKinds to kinds new_kinds beyond same passed (Free p) k e = same p k e
+MovesKinds-renaming to kinds new_kinds beyond same passed (Bound i) k e = e
+MovesKinds-renaming to kinds new_kinds beyond same passed (Free p) k e = same p k e
 
 -- more entries, and more binders beyond
-pub more-MovesKinds : (more kinds beyond : List Kind) → MovesKinds (λ d v. v) kinds beyond (more ++ kinds) beyond
-more-MovesKinds more kinds beyond passed (Bound i) k e = e
-more-MovesKinds more kinds beyond passed (Free p) k e = lookup-more more kinds p k e
+pub MovesKinds-more : (more kinds beyond : List Kind) → MovesKinds (λ d v. v) kinds beyond (more ++ kinds) beyond
+MovesKinds-more more kinds beyond passed (Bound i) k e = e
+MovesKinds-more more kinds beyond passed (Free p) k e = lookup-more more kinds p k e
 
-pub beyond-MovesKinds : (kinds beyond : List Kind) → MovesKinds (λ d v. v) kinds [] kinds beyond
-beyond-MovesKinds kinds beyond passed (Bound i) k e = slice_get-beyond passed beyond i k e
-beyond-MovesKinds kinds beyond passed (Free p) k e = e
+pub MovesKinds-beyond : (kinds beyond : List Kind) → MovesKinds (λ d v. v) kinds [] kinds beyond
+MovesKinds-beyond kinds beyond passed (Bound i) k e = slice_get-beyond passed beyond i k e
+MovesKinds-beyond kinds beyond passed (Free p) k e = e
 
-pub moved_kinds_set : (kinds beyond new_kinds new_beyond : List Kind)
-    → MovesKinds (λ d v. v) kinds beyond new_kinds new_beyond → (passed : List Kind) (x : Set)
-    → IsKindedSet kinds (passed ++ beyond) x → IsKindedSet new_kinds (passed ++ new_beyond) x
-moved_kinds_set kinds beyond new_kinds new_beyond moves passed x k =
-    subst (IsKindedSet new_kinds (passed ++ new_beyond)) (ap (λ r. act_set r (length passed) x) moving-identity ∙ act_set-keeping (length passed) x)
-    (IsKindedSet-act (moving (λ d v. v)) kinds beyond new_kinds new_beyond (moving-KeepsKinds (λ d v. v) kinds beyond new_kinds new_beyond moves) passed x k)
-
-pub moved_kinds : (kinds beyond new_kinds new_beyond : List Kind)
-    → MovesKinds (λ d v. v) kinds beyond new_kinds new_beyond → (passed : List Kind) (x : Shape)
-    → IsKinded kinds (passed ++ beyond) x → IsKinded new_kinds (passed ++ new_beyond) x
-moved_kinds kinds beyond new_kinds new_beyond moves passed x k =
-    subst (IsKinded new_kinds (passed ++ new_beyond)) (ap (λ r. act r (length passed) x) moving-identity ∙ act-keeping (length passed) x)
-    (IsKinded-act (moving (λ d v. v)) kinds beyond new_kinds new_beyond (moving-KeepsKinds (λ d v. v) kinds beyond new_kinds new_beyond moves) passed x k)
-
-pub moved_kinds_type : (kinds beyond new_kinds new_beyond : List Kind)
-    → MovesKinds (λ d v. v) kinds beyond new_kinds new_beyond → (passed : List Kind) (x : CapturingType)
-    → IsKindedType kinds (passed ++ beyond) x → IsKindedType new_kinds (passed ++ new_beyond) x
-moved_kinds_type kinds beyond new_kinds new_beyond moves passed x k =
-    subst (IsKindedType new_kinds (passed ++ new_beyond)) (ap (λ r. act_type r (length passed) x) moving-identity ∙ act_type-keeping (length passed) x)
-    (IsKindedType-act (moving (λ d v. v)) kinds beyond new_kinds new_beyond (moving-KeepsKinds (λ d v. v) kinds beyond new_kinds new_beyond moves) passed x k)
-
-pub moved_kinds_note : (kinds beyond new_kinds new_beyond : List Kind)
-    → MovesKinds (λ d v. v) kinds beyond new_kinds new_beyond → (passed : List Kind) (x : Note)
-    → IsKindedNote kinds (passed ++ beyond) x → IsKindedNote new_kinds (passed ++ new_beyond) x
-moved_kinds_note kinds beyond new_kinds new_beyond moves passed x k =
-    subst (IsKindedNote new_kinds (passed ++ new_beyond)) (ap (λ r. act_note r (length passed) x) moving-identity ∙ act_note-keeping (length passed) x)
-    (IsKindedNote-act (moving (λ d v. v)) kinds beyond new_kinds new_beyond (moving-KeepsKinds (λ d v. v) kinds beyond new_kinds new_beyond moves) passed x k)
-
-pub moved_kinds_term : (kinds beyond new_kinds new_beyond : List Kind)
-    → MovesKinds (λ d v. v) kinds beyond new_kinds new_beyond → (passed : List Kind) (x : Term)
-    → IsKindedTerm kinds (passed ++ beyond) x → IsKindedTerm new_kinds (passed ++ new_beyond) x
-moved_kinds_term kinds beyond new_kinds new_beyond moves passed x k =
-    subst (IsKindedTerm new_kinds (passed ++ new_beyond)) (ap (λ r. act_term r (length passed) x) moving-identity ∙ act_term-keeping (length passed) x)
-    (IsKindedTerm-act (moving (λ d v. v)) kinds beyond new_kinds new_beyond (moving-KeepsKinds (λ d v. v) kinds beyond new_kinds new_beyond moves) passed x k)
+pub moved_kinds : (sort : Sort) (kinds beyond new_kinds new_beyond : List Kind)
+    → MovesKinds (λ d v. v) kinds beyond new_kinds new_beyond → (passed : List Kind) (x : Syntax sort)
+    → HasKinds sort kinds (passed ++ beyond) x → HasKinds sort new_kinds (passed ++ new_beyond) x
+moved_kinds sort kinds beyond new_kinds new_beyond moves passed x k =
+    subst (HasKinds sort new_kinds (passed ++ new_beyond)) (ap (λ r. acted sort r (length passed) x) moving-identity ∙ acted-keeping sort (length passed) x)
+    (HasKinds-act sort (moving (λ d v. v)) kinds beyond new_kinds new_beyond (KeepsKinds-moving (λ d v. v) kinds beyond new_kinds new_beyond moves) passed x k)
 
 -- what is well formed under no binder is so under any
-pub closed_kinded : (kinds passed : List Kind) (s : Shape) → IsKinded kinds [] s → IsKinded kinds passed s
-closed_kinded kinds passed s k = moved_kinds kinds [] kinds passed (beyond-MovesKinds kinds passed) [] s k
-
-pub closed_kinded_set : (kinds passed : List Kind) (c : Set) → IsKindedSet kinds [] c → IsKindedSet kinds passed c
-closed_kinded_set kinds passed c k = moved_kinds_set kinds [] kinds passed (beyond-MovesKinds kinds passed) [] c k
+pub closed_kinded : (sort : Sort) (kinds passed : List Kind) (x : Syntax sort) → HasKinds sort kinds [] x
+    → HasKinds sort kinds passed x
+closed_kinded sort kinds passed x k =
+    moved_kinds sort kinds [] kinds passed (MovesKinds-beyond kinds passed) [] x k
 
 -- putting a well-formed shape
-pub putting_shape-KeepsKinds : (kinds : List Kind) (by : Shape) → IsKinded kinds [] by
+pub KeepsKinds-putting_shape : (kinds : List Kind) (by : Shape) → IsKinded kinds [] by
     → KeepsKinds (putting_shape by) kinds (TypeKind ∷ []) kinds []
-putting_shape-KeepsKinds kinds by kinded = record {
+KeepsKinds-putting_shape kinds by kinded = record {
   element = λ passed x k. single_kinded kinds (passed ++ []) x (element_stays passed x k);
   shape = shape_put;
   variable = variable_stays;
@@ -184,17 +152,17 @@ putting_shape-KeepsKinds kinds by kinded = record {
           | inl same ↦
               subst (IsKinded kinds (passed ++ []))
               (sym (ap (λ j. put_shape by (length passed) (Bound j)) same ∙ put_shape-same by (length passed)))
-              (closed_kinded kinds (passed ++ []) by kinded)
+              (closed_kinded ShapeSort kinds (passed ++ []) by kinded)
           | inr other ↦
               subst (IsKinded kinds (passed ++ [])) (sym (put_shape-other by (length passed) i other)) (slice_get-not_last passed TypeKind i TypeKind k other)
         ]
 
 -- an action on free positions that respects their kinds
-pub freely-KeepsKinds : (to : ℕ → ℕ) (shapes : ℕ → Shape) (kinds new_kinds beyond : List Kind)
+pub KeepsKinds-freely : (to : ℕ → ℕ) (shapes : ℕ → Shape) (kinds new_kinds beyond : List Kind)
     → ((p : ℕ) → lookup kinds p ≡ Some TermKind → lookup new_kinds (to p) ≡ Some TermKind)
     → ((p : ℕ) → lookup kinds p ≡ Some TypeKind → IsKinded new_kinds [] (shapes p))
     → KeepsKinds (freely to shapes) kinds beyond new_kinds beyond
-freely-KeepsKinds to shapes kinds new_kinds beyond terms types = record {
+KeepsKinds-freely to shapes kinds new_kinds beyond terms types = record {
   element =
       λ passed x k. single_kinded new_kinds (passed ++ beyond) (moved_element (renamed_variable to) x)
       (element_moves passed x k);
@@ -216,19 +184,19 @@ freely-KeepsKinds to shapes kinds new_kinds beyond terms types = record {
     shape_moves : (passed : List Kind) (v : Var) → IsOfKind kinds (passed ++ beyond) v TypeKind
         → IsKinded new_kinds (passed ++ beyond) (free_shape shapes v)
     shape_moves passed (Bound i) k = k
-    shape_moves passed (Free p) k = closed_kinded new_kinds (passed ++ beyond) (shapes p) (types p k)
+    shape_moves passed (Free p) k = closed_kinded ShapeSort new_kinds (passed ++ beyond) (shapes p) (types p k)
 
 -- filling with well-formed sets
-pub filling_in-KeepsKinds : (filling : ℕ → Set) (kinds beyond : List Kind)
+pub KeepsKinds-filling_in : (filling : ℕ → Set) (kinds beyond : List Kind)
     → ((h : ℕ) → IsKindedSet kinds [] (filling h)) → KeepsKinds (filling_in filling) kinds beyond kinds beyond
-filling_in-KeepsKinds filling kinds beyond kinded =
+KeepsKinds-filling_in filling kinds beyond kinded =
     record { element = element_filled; shape = λ passed v k. k; variable = λ passed v k. k }
   where
     element_filled : (passed : List Kind) (x : Elem) → IsKindedElement kinds (passed ++ beyond) x
         → IsKindedSet kinds (passed ++ beyond) (filled_element filling x)
     element_filled passed (Variable v) k = single_kinded kinds (passed ++ beyond) (Variable v) k
     element_filled passed Cap k = single_kinded kinds (passed ++ beyond) Cap tt
-    element_filled passed (Hole n) k = closed_kinded_set kinds (passed ++ beyond) (filling n) (kinded n)
+    element_filled passed (Hole n) k = closed_kinded SetSort kinds (passed ++ beyond) (filling n) (kinded n)
 
 -- what follows from kinds: positions are below the length, and each index has its binder
 on_elements : (kinds passed : List Kind) (asked : Var → Type 0)

@@ -6,13 +6,13 @@ use Rattle.cc_capture.specs.declared.var.Var.TheVariants.{Bound, Free}
 use Rattle.cc_capture.specs.declared.var.Elem.{Elem}
 use Rattle.cc_capture.specs.declared.var.Elem.TheVariants.{Var as Variable, Cap, Hole}
 use Rattle.cc_capture.specs.Sets.{Set}
-use Rattle.cc_core.specs.Shapes.{Shape, TypeVariable, CapturingType, capturing}
+use Rattle.cc_core.specs.Shapes.{TypeVariable, CapturingType, capturing}
 use Rattle.cc_core.specs.Terms.{Note, Absent, Written, Own, Term, VariableTerm, LiteralTerm, FunctionTerm, TypeFunctionTerm, BoxTerm, Application, TypeApplication, Unboxing, Let, Primitive, Conditional, Repetition, Operation, Boundary, Leave}
-use Rattle.cc_core.specs.Traversal.{Action, act, act_set, act_type, act_note, act_term, keeping}
+use Rattle.cc_core.specs.Traversal.{Action, act_set, act_type, act_note, act_term, keeping}
 use Rattle.cc_core.specs.Substitution.{single, moved_element, renamed_variable, free_shape, freely}
-use Rattle.cc_core.proofs.Actions.{same_actions, act_set-keeping, act-keeping, act_type-keeping}
-use Rattle.cc_core.proofs.TermActions.{act_note-keeping, act_term-keeping}
+use Rattle.cc_core.proofs.Actions.{same_actions}
 use Rattle.cc_core.proofs.FreeActions.{IsFree, free_set-level, free-level}
+use Rattle.cc_core.proofs.Sorts.{SetSort, ShapeSort, TypeSort, NoteSort, TermSort, Sort, Syntax, acted, acted-keeping}
 
 module _ (f : Action) (free : IsFree f) where
   pub free_type-level : (d e : ℕ) (t : CapturingType) → act_type f d t ≡ act_type f e t
@@ -57,6 +57,15 @@ module _ (f : Action) (free : IsFree f) where
       λ i. Leave (free-level f free d e s i) (free_set-level f free d e c i) (free.variable_level d e v i)
       (free.variable_level d e w i)
 
+-- the same of any sort
+pub acted-level : (sort : Sort) (f : Action) → IsFree f → (d e : ℕ) (x : Syntax sort)
+    → acted sort f d x ≡ acted sort f e x
+acted-level SetSort = free_set-level
+acted-level ShapeSort = free-level
+acted-level TypeSort = free_type-level
+acted-level NoteSort = free_note-level
+acted-level TermSort = free_term-level
+
 -- the action that leaves each position
 renamed_variable-still : (v : Var) → renamed_variable (λ p. p) v ≡ v
 renamed_variable-still (Bound i) = refl
@@ -75,17 +84,6 @@ pub freely-identity : freely (λ p. p) (λ p. TypeVariable (Free p)) ≡ keeping
 freely-identity =
     same_actions (freely (λ p. p) (λ p. TypeVariable (Free p))) keeping (λ d x. ap single (element_still x)) (λ d v. shape_still v) (λ d v. renamed_variable-still v)
 
-pub freely_set-still : (d : ℕ) (x : Set) → act_set (freely (λ p. p) (λ p. TypeVariable (Free p))) d x ≡ x
-freely_set-still d x = ap (λ r. act_set r d x) freely-identity ∙ act_set-keeping d x
-
-pub freely-still : (d : ℕ) (x : Shape) → act (freely (λ p. p) (λ p. TypeVariable (Free p))) d x ≡ x
-freely-still d x = ap (λ r. act r d x) freely-identity ∙ act-keeping d x
-
-pub freely_type-still : (d : ℕ) (x : CapturingType) → act_type (freely (λ p. p) (λ p. TypeVariable (Free p))) d x ≡ x
-freely_type-still d x = ap (λ r. act_type r d x) freely-identity ∙ act_type-keeping d x
-
-pub freely_note-still : (d : ℕ) (x : Note) → act_note (freely (λ p. p) (λ p. TypeVariable (Free p))) d x ≡ x
-freely_note-still d x = ap (λ r. act_note r d x) freely-identity ∙ act_note-keeping d x
-
-pub freely_term-still : (d : ℕ) (x : Term) → act_term (freely (λ p. p) (λ p. TypeVariable (Free p))) d x ≡ x
-freely_term-still d x = ap (λ r. act_term r d x) freely-identity ∙ act_term-keeping d x
+pub freely-still : (sort : Sort) (d : ℕ) (x : Syntax sort)
+    → acted sort (freely (λ p. p) (λ p. TypeVariable (Free p))) d x ≡ x
+freely-still sort d x = ap (λ r. acted sort r d x) freely-identity ∙ acted-keeping sort d x

@@ -25,8 +25,8 @@ pub mod Renaming
 pub mod ShapeSizes
 pub mod Shifting
 pub mod SizeLemmas
+pub mod Sorts
 pub mod SubcapturingContexts
 pub mod SubcapturingLemmas
 pub mod TermActions
-pub mod TermWellFormedness
 pub mod WellFormedness

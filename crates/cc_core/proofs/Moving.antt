@@ -7,14 +7,13 @@ use Rattle.cc_capture.specs.Sets.{Set, Member, empty, union, flat_image}
 use Rattle.cc_capture.proofs.Membership.{Member-insert, Member-empty}
 use Rattle.cc_capture.proofs.Images.{flat_image-empty, flat_image-insert}
 use Rattle.cc_capture.proofs.Unions.{union-empty}
-use Rattle.cc_core.specs.Shapes.{Shape, TypeVariable, CapturingType}
-use Rattle.cc_core.specs.Terms.{Note, Term}
-use Rattle.cc_core.specs.Traversal.{act, act_set, act_type, act_note, act_term, keeping, composed}
+use Rattle.cc_core.specs.Shapes.{TypeVariable}
+use Rattle.cc_core.specs.Traversal.{keeping, composed}
 use Rattle.cc_core.specs.Substitution.{single, moved_element, moving}
-use Rattle.cc_core.specs.Occurrences.{agreement, Meets, MeetsInSet, MeetsInType, MeetsInNote, MeetsInTerm, IsAskedOf, on_variables}
-use Rattle.cc_core.proofs.Actions.{same_actions, act_set-congruent, act-congruent, act_type-congruent, act_set-act_set, act-act, act_type-act_type, act_set-keeping, act-keeping, act_type-keeping}
-use Rattle.cc_core.proofs.TermActions.{act_note-congruent, act_term-congruent, act_note-act_note, act_term-act_term, act_note-keeping, act_term-keeping}
-use Rattle.cc_core.proofs.Conditions.{GivesHere, MeetsInSet-here, Meets-here, MeetsInType-here, MeetsInNote-here, MeetsInTerm-here, Brings}
+use Rattle.cc_core.specs.Occurrences.{agreement, IsAskedOf, on_variables}
+use Rattle.cc_core.proofs.Actions.{same_actions}
+use Rattle.cc_core.proofs.Conditions.{GivesHere, Brings}
+use Rattle.cc_core.proofs.Sorts.{MeetsIn, MeetsIn-here, Sort, Syntax, acted, acted-acted, acted-congruent, acted-keeping}
 
 -- sets with one element
 pub flat_image-of_single : (f : Elem → Set) (e : Elem) → flat_image f (single e) ≡ f e
@@ -67,74 +66,22 @@ module _ (f g : ℕ → Var → Var) where
     variable = λ d v m. m;
   }
 
-  pub moving_set-congruent : (d : ℕ) (c : Set) → MeetsInSet (on_variables (λ d v. f d v ≡ g d v)) d c
-      → act_set (moving f) d c ≡ act_set (moving g) d c
-  moving_set-congruent d c m = act_set-congruent (moving f) (moving g) d c (MeetsInSet-here _ _ moves_agree d c m)
-
-  pub moving-congruent : (d : ℕ) (s : Shape) → Meets (on_variables (λ d v. f d v ≡ g d v)) d s
-      → act (moving f) d s ≡ act (moving g) d s
-  moving-congruent d s m = act-congruent (moving f) (moving g) d s (Meets-here _ _ moves_agree d s m)
-
-  pub moving_type-congruent : (d : ℕ) (t : CapturingType) → MeetsInType (on_variables (λ d v. f d v ≡ g d v)) d t
-      → act_type (moving f) d t ≡ act_type (moving g) d t
-  moving_type-congruent d t m = act_type-congruent (moving f) (moving g) d t (MeetsInType-here _ _ moves_agree d t m)
-
-  pub moving_note-congruent : (d : ℕ) (n : Note) → MeetsInNote (on_variables (λ d v. f d v ≡ g d v)) d n
-      → act_note (moving f) d n ≡ act_note (moving g) d n
-  moving_note-congruent d n m = act_note-congruent (moving f) (moving g) d n (MeetsInNote-here _ _ moves_agree d n m)
-
-  pub moving_term-congruent : (d : ℕ) (t : Term) → MeetsInTerm (on_variables (λ d v. f d v ≡ g d v)) d t
-      → act_term (moving f) d t ≡ act_term (moving g) d t
-  moving_term-congruent d t m = act_term-congruent (moving f) (moving g) d t (MeetsInTerm-here _ _ moves_agree d t m)
+  pub moving-congruent : (sort : Sort) (d : ℕ) (x : Syntax sort)
+      → MeetsIn sort (on_variables (λ d v. f d v ≡ g d v)) d x → acted sort (moving f) d x ≡ acted sort (moving g) d x
+  moving-congruent sort d x m =
+      acted-congruent sort (moving f) (moving g) d x (MeetsIn-here sort _ _ moves_agree d x m)
 
   -- two moves in a row are one
-  pub moving_set-moving : (d : ℕ) (c : Set)
-      → act_set (moving f) d (act_set (moving g) d c) ≡ act_set (moving (λ d v. f d (g d v))) d c
-  moving_set-moving d c = act_set-act_set (moving f) (moving g) d c ∙ ap (λ a. act_set a d c) (composed-moving f g)
-
-  pub moving-moving : (d : ℕ) (s : Shape)
-      → act (moving f) d (act (moving g) d s) ≡ act (moving (λ d v. f d (g d v))) d s
-  moving-moving d s = act-act (moving f) (moving g) d s ∙ ap (λ a. act a d s) (composed-moving f g)
-
-  pub moving_type-moving : (d : ℕ) (t : CapturingType)
-      → act_type (moving f) d (act_type (moving g) d t) ≡ act_type (moving (λ d v. f d (g d v))) d t
-  moving_type-moving d t =
-      act_type-act_type (moving f) (moving g) d t ∙ ap (λ a. act_type a d t) (composed-moving f g)
-
-  pub moving_note-moving : (d : ℕ) (n : Note)
-      → act_note (moving f) d (act_note (moving g) d n) ≡ act_note (moving (λ d v. f d (g d v))) d n
-  moving_note-moving d n =
-      act_note-act_note (moving f) (moving g) d n ∙ ap (λ a. act_note a d n) (composed-moving f g)
-
-  pub moving_term-moving : (d : ℕ) (t : Term)
-      → act_term (moving f) d (act_term (moving g) d t) ≡ act_term (moving (λ d v. f d (g d v))) d t
-  moving_term-moving d t =
-      act_term-act_term (moving f) (moving g) d t ∙ ap (λ a. act_term a d t) (composed-moving f g)
+  pub moving-moving : (sort : Sort) (d : ℕ) (x : Syntax sort)
+      → acted sort (moving f) d (acted sort (moving g) d x) ≡ acted sort (moving (λ d v. f d (g d v))) d x
+  moving-moving sort d x =
+      acted-acted sort (moving f) (moving g) d x ∙ ap (λ a. acted sort a d x) (composed-moving f g)
 
 -- a move that leaves each variable that occurs leaves all
-module _ (f : ℕ → Var → Var) where
-  pub moving_set-still : (d : ℕ) (c : Set) → MeetsInSet (on_variables (λ d v. f d v ≡ v)) d c
-      → act_set (moving f) d c ≡ c
-  moving_set-still d c m =
-      moving_set-congruent f (λ d v. v) d c m ∙ ap (λ a. act_set a d c) moving-identity ∙ act_set-keeping d c
-
-  pub moving-still : (d : ℕ) (s : Shape) → Meets (on_variables (λ d v. f d v ≡ v)) d s → act (moving f) d s ≡ s
-  moving-still d s m = moving-congruent f (λ d v. v) d s m ∙ ap (λ a. act a d s) moving-identity ∙ act-keeping d s
-
-  pub moving_type-still : (d : ℕ) (t : CapturingType) → MeetsInType (on_variables (λ d v. f d v ≡ v)) d t
-      → act_type (moving f) d t ≡ t
-  moving_type-still d t m =
-      moving_type-congruent f (λ d v. v) d t m ∙ ap (λ a. act_type a d t) moving-identity ∙ act_type-keeping d t
-
-  pub moving_note-still : (d : ℕ) (n : Note) → MeetsInNote (on_variables (λ d v. f d v ≡ v)) d n
-      → act_note (moving f) d n ≡ n
-  moving_note-still d n m =
-      moving_note-congruent f (λ d v. v) d n m ∙ ap (λ a. act_note a d n) moving-identity ∙ act_note-keeping d n
-
-  pub moving_term-still : (d : ℕ) (t : Term) → MeetsInTerm (on_variables (λ d v. f d v ≡ v)) d t
-      → act_term (moving f) d t ≡ t
-  moving_term-still d t m =
-      moving_term-congruent f (λ d v. v) d t m ∙ ap (λ a. act_term a d t) moving-identity ∙ act_term-keeping d t
+pub moving-still : (f : ℕ → Var → Var) (sort : Sort) (d : ℕ) (x : Syntax sort)
+    → MeetsIn sort (on_variables (λ d v. f d v ≡ v)) d x → acted sort (moving f) d x ≡ x
+moving-still f sort d x m =
+    moving-congruent f (λ d v. v) sort d x m ∙ ap (λ a. acted sort a d x) moving-identity ∙ acted-keeping sort d x
 
 -- what holds of each variable that is moved to holds of each variable afterwards
 asked_single : (asked : Var → Type 0) (f : Var → Var) (e : Elem) → IsAskedOf (λ v. asked (f v)) e → (x : Elem)

@@ -7,16 +7,14 @@ use Rattle.cc_capture.specs.declared.var.Var.TheVariants.{Bound, Free}
 use Rattle.cc_capture.specs.declared.var.Elem.{Elem}
 use Rattle.cc_capture.specs.declared.var.Elem.TheVariants.{Var as Variable, Cap, Hole}
 use Rattle.cc_capture.specs.Sets.{Set}
-use Rattle.cc_core.specs.Shapes.{Shape, TypeVariable, CapturingType}
-use Rattle.cc_core.specs.Terms.{Note, Term}
-use Rattle.cc_core.specs.Traversal.{act, act_set, act_type, act_note, act_term}
+use Rattle.cc_core.specs.Shapes.{Shape, TypeVariable}
 use Rattle.cc_core.specs.Substitution.{single, moved_element, moving, renamed_variable, renaming, free_shape, freely, overridden, filled_element, filling_in}
-use Rattle.cc_core.specs.Occurrences.{agreement, Meets, MeetsInSet, MeetsInType, MeetsInNote, MeetsInTerm, IsAskedOf, HasBinder, bound_within, IsPositionBelow, positions_below}
-use Rattle.cc_core.proofs.Actions.{same_actions, act_set-congruent, act-congruent, act_type-congruent}
-use Rattle.cc_core.proofs.TermActions.{act_note-congruent, act_term-congruent}
-use Rattle.cc_core.proofs.Conditions.{GivesHere, MeetsInSet-here, Meets-here, MeetsInType-here, MeetsInNote-here, MeetsInTerm-here}
-use Rattle.cc_core.proofs.Moving.{Member-single, same_moves, moving_set-moving, moving-moving, moving_type-moving, moving_note-moving, moving_term-moving}
+use Rattle.cc_core.specs.Occurrences.{agreement, Meets, MeetsInSet, IsAskedOf, HasBinder, bound_within, IsPositionBelow, positions_below}
+use Rattle.cc_core.proofs.Actions.{same_actions}
+use Rattle.cc_core.proofs.Conditions.{GivesHere}
+use Rattle.cc_core.proofs.Moving.{Member-single, same_moves, moving-moving}
 use Rattle.cc_core.proofs.FreeActions.{IsFree, Sends}
+use Rattle.cc_core.proofs.Sorts.{MeetsIn, MeetsIn-here, Sort, Syntax, acted, acted-congruent}
 
 -- an action on free positions is free where the shapes that it puts in have no open index
 moved_closed : (to : ℕ → ℕ) (x : Elem) → IsAskedOf (HasBinder 0) x
@@ -29,9 +27,9 @@ moved_closed to (Hole n) h = tt
 single_closed : (x : Elem) → IsAskedOf (HasBinder 0) x → MeetsInSet (bound_within 0) 0 (single x)
 single_closed x h y m = subst (IsAskedOf (HasBinder 0)) (sym (Member-single y x m)) h
 
-pub freely-IsFree : (to : ℕ → ℕ) (shapes : ℕ → Shape) → ((p : ℕ) → Meets (bound_within 0) 0 (shapes p))
+pub IsFree-freely : (to : ℕ → ℕ) (shapes : ℕ → Shape) → ((p : ℕ) → Meets (bound_within 0) 0 (shapes p))
     → IsFree (freely to shapes)
-freely-IsFree to shapes closed = record {
+IsFree-freely to shapes closed = record {
   element_index = λ d i. refl;
   shape_index = λ d i. refl;
   variable_index = λ d i. refl;
@@ -43,9 +41,9 @@ freely-IsFree to shapes closed = record {
   variable_closed = λ p. tt;
 }
 
-pub freely-Sends : (to : ℕ → ℕ) (shapes : ℕ → Shape) (q : ℕ) → shapes q ≡ TypeVariable (Free (to q))
+pub Sends-freely : (to : ℕ → ℕ) (shapes : ℕ → Shape) (q : ℕ) → shapes q ≡ TypeVariable (Free (to q))
     → Sends (freely to shapes) (Free q) (Free (to q))
-freely-Sends to shapes q e = record { element = λ d. refl; shape = λ d. e; variable = λ d. refl }
+Sends-freely to shapes q e = record { element = λ d. refl; shape = λ d. e; variable = λ d. refl }
 
 -- renaming is such an action
 pub renaming_as_free : (to : ℕ → ℕ) → renaming to ≡ freely to (λ p. TypeVariable (Free (to p)))
@@ -56,12 +54,12 @@ renaming_as_free to =
     at (Bound i) = refl
     at (Free p) = refl
 
-pub renaming-IsFree : (to : ℕ → ℕ) → IsFree (renaming to)
-renaming-IsFree to =
-    subst IsFree (sym (renaming_as_free to)) (freely-IsFree to (λ p. TypeVariable (Free (to p))) (λ p. tt))
+pub IsFree-renaming : (to : ℕ → ℕ) → IsFree (renaming to)
+IsFree-renaming to =
+    subst IsFree (sym (renaming_as_free to)) (IsFree-freely to (λ p. TypeVariable (Free (to p))) (λ p. tt))
 
-pub renaming-Sends : (to : ℕ → ℕ) (q : ℕ) → Sends (renaming to) (Free q) (Free (to q))
-renaming-Sends to q = record { element = λ d. refl; shape = λ d. refl; variable = λ d. refl }
+pub Sends-renaming : (to : ℕ → ℕ) (q : ℕ) → Sends (renaming to) (Free q) (Free (to q))
+Sends-renaming to q = record { element = λ d. refl; shape = λ d. refl; variable = λ d. refl }
 
 -- renamings compose
 renamed_twice : (f g : ℕ → ℕ) (v : Var)
@@ -74,35 +72,11 @@ renamed_same f g =
     same_moves (λ d v. renamed_variable f (renamed_variable g v)) (λ d v. renamed_variable (λ p. f (g p)) v)
     (λ d v. renamed_twice f g v)
 
-pub renaming_set-renaming : (f g : ℕ → ℕ) (d : ℕ) (x : Set)
-    → act_set (renaming f) d (act_set (renaming g) d x) ≡ act_set (renaming (λ p. f (g p))) d x
-renaming_set-renaming f g d x =
-    moving_set-moving (λ k v. renamed_variable f v) (λ k v. renamed_variable g v) d x
-    ∙ ap (λ r. act_set r d x) (renamed_same f g)
-
-pub renaming-renaming : (f g : ℕ → ℕ) (d : ℕ) (x : Shape)
-    → act (renaming f) d (act (renaming g) d x) ≡ act (renaming (λ p. f (g p))) d x
-renaming-renaming f g d x =
-    moving-moving (λ k v. renamed_variable f v) (λ k v. renamed_variable g v) d x
-    ∙ ap (λ r. act r d x) (renamed_same f g)
-
-pub renaming_type-renaming : (f g : ℕ → ℕ) (d : ℕ) (x : CapturingType)
-    → act_type (renaming f) d (act_type (renaming g) d x) ≡ act_type (renaming (λ p. f (g p))) d x
-renaming_type-renaming f g d x =
-    moving_type-moving (λ k v. renamed_variable f v) (λ k v. renamed_variable g v) d x
-    ∙ ap (λ r. act_type r d x) (renamed_same f g)
-
-pub renaming_note-renaming : (f g : ℕ → ℕ) (d : ℕ) (x : Note)
-    → act_note (renaming f) d (act_note (renaming g) d x) ≡ act_note (renaming (λ p. f (g p))) d x
-renaming_note-renaming f g d x =
-    moving_note-moving (λ k v. renamed_variable f v) (λ k v. renamed_variable g v) d x
-    ∙ ap (λ r. act_note r d x) (renamed_same f g)
-
-pub renaming_term-renaming : (f g : ℕ → ℕ) (d : ℕ) (x : Term)
-    → act_term (renaming f) d (act_term (renaming g) d x) ≡ act_term (renaming (λ p. f (g p))) d x
-renaming_term-renaming f g d x =
-    moving_term-moving (λ k v. renamed_variable f v) (λ k v. renamed_variable g v) d x
-    ∙ ap (λ r. act_term r d x) (renamed_same f g)
+pub renaming-renaming : (sort : Sort) (f g : ℕ → ℕ) (d : ℕ) (x : Syntax sort)
+    → acted sort (renaming f) d (acted sort (renaming g) d x) ≡ acted sort (renaming (λ p. f (g p))) d x
+renaming-renaming sort f g d x =
+    moving-moving (λ k v. renamed_variable f v) (λ k v. renamed_variable g v) sort d x
+    ∙ ap (λ r. acted sort r d x) (renamed_same f g)
 
 -- filling is a free action where no filling has an index
 filled_closed : (filling : ℕ → Set) → ((h : ℕ) → MeetsInSet (bound_within 0) 0 (filling h)) → (x : Elem)
@@ -111,9 +85,9 @@ filled_closed filling closed (Variable v) h = single_closed (Variable v) h
 filled_closed filling closed Cap h = single_closed Cap h
 filled_closed filling closed (Hole n) h = closed n
 
-pub filling_in-IsFree : (filling : ℕ → Set) → ((h : ℕ) → MeetsInSet (bound_within 0) 0 (filling h))
+pub IsFree-filling_in : (filling : ℕ → Set) → ((h : ℕ) → MeetsInSet (bound_within 0) 0 (filling h))
     → IsFree (filling_in filling)
-filling_in-IsFree filling closed = record {
+IsFree-filling_in filling closed = record {
   element_index = λ d i. refl;
   shape_index = λ d i. refl;
   variable_index = λ d i. refl;
@@ -125,8 +99,8 @@ filling_in-IsFree filling closed = record {
   variable_closed = λ p. tt;
 }
 
-pub filling_in-Sends : (filling : ℕ → Set) (v : Var) → Sends (filling_in filling) v v
-filling_in-Sends filling v = record { element = λ d. refl; shape = λ d. refl; variable = λ d. refl }
+pub Sends-filling_in : (filling : ℕ → Set) (v : Var) → Sends (filling_in filling) v v
+Sends-filling_in filling v = record { element = λ d. refl; shape = λ d. refl; variable = λ d. refl }
 
 -- an override
 pub overridden-same : {A : Type 0} (f : ℕ → A) (n : ℕ) (a : A) → overridden f n a n ≡ a
@@ -158,27 +132,7 @@ module _ (n : ℕ) (to other : ℕ → ℕ) (shapes others : ℕ → Shape) (sam
     variable = λ d v m. renamed_agree v m;
   }
 
-  pub freely-agree_set : (d : ℕ) (x : Set) → MeetsInSet (positions_below n) d x
-      → act_set (freely other others) d x ≡ act_set (freely to shapes) d x
-  freely-agree_set d x m =
-      act_set-congruent (freely other others) (freely to shapes) d x (MeetsInSet-here _ _ freely_agreement d x m)
-
-  pub freely-agree : (d : ℕ) (x : Shape) → Meets (positions_below n) d x
-      → act (freely other others) d x ≡ act (freely to shapes) d x
-  freely-agree d x m =
-      act-congruent (freely other others) (freely to shapes) d x (Meets-here _ _ freely_agreement d x m)
-
-  pub freely-agree_type : (d : ℕ) (x : CapturingType) → MeetsInType (positions_below n) d x
-      → act_type (freely other others) d x ≡ act_type (freely to shapes) d x
-  freely-agree_type d x m =
-      act_type-congruent (freely other others) (freely to shapes) d x (MeetsInType-here _ _ freely_agreement d x m)
-
-  pub freely-agree_note : (d : ℕ) (x : Note) → MeetsInNote (positions_below n) d x
-      → act_note (freely other others) d x ≡ act_note (freely to shapes) d x
-  freely-agree_note d x m =
-      act_note-congruent (freely other others) (freely to shapes) d x (MeetsInNote-here _ _ freely_agreement d x m)
-
-  pub freely-agree_term : (d : ℕ) (x : Term) → MeetsInTerm (positions_below n) d x
-      → act_term (freely other others) d x ≡ act_term (freely to shapes) d x
-  freely-agree_term d x m =
-      act_term-congruent (freely other others) (freely to shapes) d x (MeetsInTerm-here _ _ freely_agreement d x m)
+  pub freely-agree : (sort : Sort) (d : ℕ) (x : Syntax sort) → MeetsIn sort (positions_below n) d x
+      → acted sort (freely other others) d x ≡ acted sort (freely to shapes) d x
+  freely-agree sort d x m =
+      acted-congruent sort (freely other others) (freely to shapes) d x (MeetsIn-here sort _ _ freely_agreement d x m)

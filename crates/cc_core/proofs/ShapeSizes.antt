@@ -16,9 +16,10 @@ use Rattle.cc_core.specs.Substitution.{moved_element, moving, put_variable, clos
 use Rattle.cc_core.specs.Occurrences.{Meets, MeetsInSet, MeetsInType, on_variables, without, bound_within}
 use Rattle.cc_core.specs.Sizes.{set_size, shape_size, type_size, size_with, counted_variable, counted_shape, counted_type}
 use Rattle.cc_core.proofs.Conditions.{gives_here, Meets-here, MeetsInType-here}
-use Rattle.cc_core.proofs.Moving.{moving_set-moving, moving_set-still}
 use Rattle.cc_core.proofs.Opening.{closed_put, put_closed}
 use Rattle.cc_core.proofs.FreeActions.{putting_shape_set}
+use Rattle.cc_core.proofs.Moving.{moving-moving, moving-still}
+use Rattle.cc_core.proofs.Sorts.{SetSort}
 
 -- the size with a shape put for the outermost index, counted
 counted_variable-put : (by : Shape) (d : ℕ) (v : Var)
@@ -91,7 +92,7 @@ module _ (f back : ℕ → Var → Var) where
       let there : set_size (act_set (moving f) d c) ≤ set_size c = set_size_moved f d c in
       let again : set_size (act_set (moving back) d (act_set (moving f) d c)) ≤ set_size (act_set (moving f) d c) = set_size_moved back d (act_set (moving f) d c) in
       let same : set_size (act_set (moving back) d (act_set (moving f) d c)) ≡ set_size c =
-      ap set_size (moving_set-moving back f d c ∙ moving_set-still (λ k v. back k (f k v)) d c m) in
+      ap set_size (moving-moving back f SetSort d c ∙ moving-still (λ k v. back k (f k v)) SetSort d c m) in
       omega arith
 
   pub shape_size-undone : (d : ℕ) (s : Shape) → Meets (on_variables (λ k v. back k (f k v) ≡ v)) d s

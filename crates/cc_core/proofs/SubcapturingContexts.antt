@@ -9,7 +9,8 @@ use Rattle.cc_core.specs.Contexts.{Bind, TermEntry, TypeEntry, Context, lookup}
 use Rattle.cc_core.specs.WellFormed.{Kind, TermKind, TypeKind, kind_of, kinds_of, is_well_formed_set, is_well_formed_shape, is_well_formed_entry, is_well_formed_context}
 use Rattle.cc_core.proofs.Lookups.{lookup-cases, lookup-map}
 use Rattle.cc_core.proofs.KindFacts.{IsKinded, IsKindedSet, IsKinded-from, IsKindedSet-from}
-use Rattle.cc_core.proofs.KindRespecting.{more-MovesKinds, moved_kinds, moved_kinds_set}
+use Rattle.cc_core.proofs.KindRespecting.{MovesKinds-more, moved_kinds}
+use Rattle.cc_core.proofs.Sorts.{SetSort, ShapeSort}
 
 pub length-later : {A : Type 0} (later : List A) (a b : A) (older : List A) → length (later ++ (a ∷ older)) ≡ length (later ++ (b ∷ older))
 length-later [] a b older = refl
@@ -80,10 +81,10 @@ IsKindedContext-from (entry ∷ context) h =
 
 -- with one kind more
 pub IsKinded-added : (kind : Kind) (kinds passed : List Kind) (shape : Shape) → IsKinded kinds passed shape → IsKinded (kind ∷ kinds) passed shape
-IsKinded-added kind kinds passed shape h = moved_kinds kinds passed (kind ∷ kinds) passed (more-MovesKinds (kind ∷ []) kinds passed) [] shape h
+IsKinded-added kind kinds passed shape h = moved_kinds ShapeSort kinds passed (kind ∷ kinds) passed (MovesKinds-more (kind ∷ []) kinds passed) [] shape h
 
 pub IsKindedSet-added : (kind : Kind) (kinds passed : List Kind) (set : Set) → IsKindedSet kinds passed set → IsKindedSet (kind ∷ kinds) passed set
-IsKindedSet-added kind kinds passed set h = moved_kinds_set kinds passed (kind ∷ kinds) passed (more-MovesKinds (kind ∷ []) kinds passed) [] set h
+IsKindedSet-added kind kinds passed set h = moved_kinds SetSort kinds passed (kind ∷ kinds) passed (MovesKinds-more (kind ∷ []) kinds passed) [] set h
 
 pub IsKindedEntry-added : (kind : Kind) (kinds : List Kind) (entry : Bind) → IsKindedEntry kinds entry → IsKindedEntry (kind ∷ kinds) entry
 IsKindedEntry-added kind kinds (TermEntry shape set) h = (IsKinded-added kind kinds [] shape h.0, IsKindedSet-added kind kinds [] set h.1)

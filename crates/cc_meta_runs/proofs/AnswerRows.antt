@@ -1,4 +1,5 @@
 -- Steps of answers: what a variable or a value does to the top frame.
+use Rattle.cc_core.proofs.SubcapturingContexts.{IsKinded-added, IsKindedContext, IsKindedSet-added}
 use Rattle.std.proofs.Common.{◌≡◌, ℕ, zero, suc, ◌≤◌, true, [], ◌∷◌, length, Some, None, inl, inr, ◌⊎◌, refl, sym, subst, arith}
 use Rattle.std.specs.Prelude.{nat_eq, pos}
 use Rattle.std.proofs.lemmas.Bool.{cases_eq, cond-true, cond-false, eq-eqb, ne_eqb}
@@ -27,7 +28,6 @@ use Rattle.cc_meta_runs.specs.Machine.{LetFrame, ScopeFrame, RepetitionFrame, St
 use Rattle.cc_meta_runs.specs.Reach.{SetReaches, captured_by_stack}
 use Rattle.cc_meta_runs.specs.Soundness.{repeated, scopes_of, IsListed, IsFalling, ReachesOnlyScopes, FramesReachScopes}
 use Rattle.cc_meta_typing.proofs.DirectSubtyping.{SubtypesDirectly}
-use Rattle.cc_meta_typing.proofs.FormedContexts.{IsKindedContext, IsKinded-added, IsKindedSet-added}
 use Rattle.cc_meta_typing.proofs.FreeMaps.{as_is, more}
 use Rattle.cc_meta_typing.proofs.InternalTyping.{HasVariable, TypedExactly, exact_application, Typed, captured_kinded}
 use Rattle.cc_meta_typing.proofs.TypingMaps.{typed_is, typed_kinded_term, typed_wider, typed_exactly}

@@ -1,4 +1,6 @@
 -- The invariant of runs, with typing by form, and how it goes along as the store grows.
+use Rattle.cc_core.proofs.SubcapturingContexts.{IsKinded-added, IsKindedContext, IsKindedContext-from, IsKindedSet-added, entry_kinded}
+use Rattle.cc_core.proofs.Sorts.{TermSort}
 use Rattle.std.proofs.Common.{◌≡◌, ℕ, suc, ◌≤◌, true, List, [], ◌∷◌, length, Option, Some, None, inl, inr, ap, ◌∙◌, subst}
 use Rattle.std.proofs.lemmas.Bool.{and_parts}
 use Rattle.cc_base.specs.declared.literal.Base.TheVariants as bases
@@ -26,7 +28,7 @@ use Rattle.cc_meta_runs.specs.Machine.{LetFrame, ScopeFrame, RepetitionFrame, St
 use Rattle.cc_meta_runs.specs.Reach.{SetReaches, captured_by_stack}
 use Rattle.cc_meta_runs.specs.Soundness.{repeated, HasStackTyping, no_frame, let_frame, scope_frame, repetition_frame, labels_in, countdown, scopes_of, IsFalling, ReachesOnlyScopes, FramesReachScopes, IsSound, ReachesNoNewDevice, HasNoNewDeviceCell, FitsScopes, OperatesNoDevice, IsSoundStep, IsSoundOutcome}
 use Rattle.cc_meta_typing.proofs.DirectSubtyping.{SubtypesDirectly, direct_from, direct_to}
-use Rattle.cc_meta_typing.proofs.FormedContexts.{IsKindedContext, IsKindedContext-from, length-kinds_of, kinded_single, entry_kinded, IsKinded-added, IsKindedSet-added, IsKindedTerm-added, IsKindedTerm-opened}
+use Rattle.cc_meta_typing.proofs.FormedContexts.{length-kinds_of, kinded_single, IsKindedTerm-added, HasKinds-opened}
 use Rattle.cc_meta_typing.proofs.FreeMaps.{as_is, more, subtypes-kept, same_position, same_variable, still, still_set, still_term, maps_longer, maps_under}
 use Rattle.cc_meta_typing.proofs.InternalTyping.{HasVariable, Typed, kinded_without_binder, captured_kinded}
 use Rattle.cc_meta_typing.proofs.TypingMaps.{typed_is, typed_kinded_term, map_typed, opened_term_map, same_under, same_set_under}
@@ -170,7 +172,7 @@ stack_typing_from : {st : Store} {g : Context} {stack : Stack} {s : Shape} {c : 
 stack_typing_from {g = g} (bottom {s = s} {c = c} ks kc) formed = no_frame (formed_type_from g s c ks kc)
 stack_typing_from {g = g} (let_on {body = body} kb kt kc typed stacked) formed =
     let_frame (IsKindedTerm-test (kinds_of g) (TermKind ∷ []) body kb)
-    (type_from ((kt, kc), formed) (IsKindedTerm-opened (length g) TermKind (kinds_of g) (length-kinds_of g) body kb) typed) (stack_typing_from stacked formed)
+    (type_from ((kt, kc), formed) (HasKinds-opened (length g) TermKind (kinds_of g) (length-kinds_of g) TermSort body kb) typed) (stack_typing_from stacked formed)
 stack_typing_from {g = g} (scope_on p {e = e} at entry ks less stacked) formed = scope_frame p at entry (nothing_captures g e, direct_to less) (stack_typing_from stacked formed)
 stack_typing_from {g = g} (repetition_on {e = e} has one most less stacked) formed =
     let typed = has_variable_typed has in

@@ -12,13 +12,13 @@ use Rattle.cc_core.specs.Substitution.{single, moved_element, put_variable, putt
 use Rattle.cc_core.specs.Captured.{outside, without_binder, captured_variables}
 use Rattle.cc_core.proofs.Moving.{Member-single, Member-single_itself}
 use Rattle.cc_core.proofs.Opening.{put_variable-other}
-use Rattle.cc_core.proofs.CapturedActions.{captured_variables-act, putting-PassesBinders, captured_variables-putting_shape}
+use Rattle.cc_core.proofs.CapturedActions.{captured_variables-act, PassesBinders-putting, captured_variables-putting_shape}
 
 -- What a body captures with a position for its variable is that position, or captured outside the binder too.
 pub captured_when_put : (q p : ℕ) (t : Term) → Member (Variable (Free p)) (captured_variables (act_term (putting (Free q)) zero t))
     → ((p ≡ q) × Member (Variable (Bound zero)) (captured_variables t)) ⊎ Member (Variable (Free p)) (without_binder (captured_variables t))
 captured_when_put q p t h =
-    let there = subst (Member (Variable (Free p))) (captured_variables-act (putting (Free q)) (putting-PassesBinders q) zero t) h in
+    let there = subst (Member (Variable (Free p))) (captured_variables-act (putting (Free q)) (PassesBinders-putting q) zero t) h in
     let from = (Member-flat_image ((putting (Free q)).element zero) (Variable (Free p)) (captured_variables t)).0 there in
     by_cases from.0 from.1 (Member-single (Variable (Free p)) (moved_element (put_variable (Free q) zero) from.0) from.2)
   where

@@ -1,4 +1,5 @@
 -- What sets reach through a typed store: a set without the universal capability reaches all that is reached from below it.
+use Rattle.cc_core.proofs.SubcapturingContexts.{IsKindedContext, entry_kinded}
 use Rattle.std.proofs.Common.{◌≡◌, ℕ, ◌<◌, [], ◌∷◌, length, Option, Some, None, inl, inr, ◌⊎◌, refl, sym, ap, ◌∙◌, subst, arith}
 use Rattle.cc_capture.specs.declared.var.Var.TheVariants.{Free}
 use Rattle.cc_capture.specs.declared.var.Elem.{Elem}
@@ -19,7 +20,7 @@ use Rattle.cc_core.proofs.SubcapturingLemmas.{cap_below}
 use Rattle.cc_core.proofs.Moving.{Member-single, Member-single_itself}
 use Rattle.cc_core.proofs.KindFacts.{IsKindedElement, IsKindedSet}
 use Rattle.cc_meta_runs.specs.Reach.{IsEnd, Reaches, here, through, SetReaches}
-use Rattle.cc_meta_typing.proofs.FormedContexts.{IsKindedContext, length-kinds_of, entry_kinded}
+use Rattle.cc_meta_typing.proofs.FormedContexts.{length-kinds_of}
 use Rattle.cc_meta_typing.proofs.FreeMaps.{lookup_cases}
 use Rattle.cc_meta_typing.proofs.InternalTyping.{Typed, captured_kinded}
 use Rattle.cc_meta_typing.proofs.TypingMaps.{typed_kinded_term}

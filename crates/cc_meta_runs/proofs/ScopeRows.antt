@@ -1,4 +1,5 @@
 -- Steps of operations, boundaries and exits.
+use Rattle.cc_core.proofs.SubcapturingContexts.{IsKinded-added}
 use Rattle.std.proofs.Common.{◌≡◌, ℕ, zero, suc, ◌<◌, Bool, true, false, ◌&&◌, List, [], ◌∷◌, ◌++◌, length, Option, Some, None, inl, inr, ◌⊎◌, refl, sym, ap, ◌∙◌, subst, arith}
 use Rattle.std.specs.Prelude.{nat_eq}
 use Rattle.std.specs.Option.{option_map}
@@ -28,7 +29,7 @@ use Rattle.cc_meta_runs.specs.Machine.{Frame, LetFrame, ScopeFrame, RepetitionFr
 use Rattle.cc_meta_runs.specs.Reach.{IsEnd, Reaches, here, through, SetReaches, captured_by_frame, captured_by_stack}
 use Rattle.cc_meta_runs.specs.Soundness.{labels_in, countdown, scopes_of, IsListed, IsFalling, FramesReachScopes}
 use Rattle.cc_meta_typing.proofs.DirectSubtyping.{SubtypesDirectly}
-use Rattle.cc_meta_typing.proofs.FormedContexts.{some_is, IsKinded-added}
+use Rattle.cc_meta_typing.proofs.FormedContexts.{some_is}
 use Rattle.cc_meta_typing.proofs.FreeMaps.{as_is, more, lookup_cases, subtypes-kept}
 use Rattle.cc_meta_typing.proofs.InternalTyping.{HasVariable, exact_operation, exact_operation_alone, exact_boundary, exact_leave, Typed, widened, kinded_without_binder, captured_kinded}
 use Rattle.cc_meta_typing.proofs.TypingMaps.{typed_is, typed_wider}

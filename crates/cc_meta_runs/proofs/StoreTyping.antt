@@ -1,4 +1,5 @@
 -- Typed stores: what stands in the cell of a variable that has a type.
+use Rattle.cc_core.proofs.SubcapturingContexts.{IsKindedContext, IsKindedContext-from}
 use Rattle.std.proofs.Common.{◌≡◌, ℕ, suc, true, [], ◌∷◌, length, Option, Some, inl, inr, refl, sym, ap, ◌∙◌, subst, arith}
 use Rattle.cc_base.specs.declared.literal.Base.{Base}
 use Rattle.cc_capture.specs.declared.var.Var.{Var}
@@ -16,7 +17,7 @@ use Rattle.cc_core.proofs.Lookups.{lookup-newest, lookup-other}
 use Rattle.cc_core.proofs.SubcapturingLemmas.{subcaptures_reflexive}
 use Rattle.cc_core.proofs.KindFacts.{IsKindedSet, IsKinded, IsKindedTerm, IsKinded-from}
 use Rattle.cc_meta_typing.proofs.DirectSubtyping.{SubtypesDirectly, alike, under_any, through_bound, functions, type_functions, boxes, direct_transitive}
-use Rattle.cc_meta_typing.proofs.FormedContexts.{IsKindedContext, IsKindedContext-from, kinded_single}
+use Rattle.cc_meta_typing.proofs.FormedContexts.{kinded_single}
 use Rattle.cc_meta_typing.proofs.FreeMaps.{Longer, as_is, more, lookup_cases}
 use Rattle.cc_meta_typing.proofs.InternalTyping.{HasVariable, TypedExactly, exact_variable, exact_literal, exact_function, exact_type_function, exact_application, exact_type_application, exact_box, exact_unboxing, exact_let, exact_primitive, exact_conditional, exact_repetition, exact_operation, exact_operation_alone, exact_boundary, exact_leave, Typed, widened}
 use Rattle.cc_meta_typing.proofs.TypingMaps.{typed_kinded, typed_kinded_set}

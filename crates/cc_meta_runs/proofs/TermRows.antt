@@ -1,4 +1,5 @@
 -- Steps of lets, applications, unboxings, operators, choices and repetitions.
+use Rattle.cc_core.proofs.SubcapturingContexts.{IsKinded-added, IsKindedContext, IsKindedSet-added}
 use Rattle.std.proofs.Common.{◌≡◌, ℕ, zero, suc, ◌≤◌, Bool, true, false, cond, [], ◌∷◌, length, Option, Some, None, inl, inr, refl, sym, ap, subst, arith}
 use Rattle.std.specs.Prelude.{ℤ, pos, negsuc}
 use Rattle.cc_base.specs.declared.literal.Operator.{Operator}
@@ -23,7 +24,6 @@ use Rattle.cc_meta_runs.specs.Machine.{LetFrame, Stack, Configuration, configure
 use Rattle.cc_meta_runs.specs.Reach.{through, SetReaches, captured_by_stack}
 use Rattle.cc_meta_typing.proofs.DirectSubtyping.{SubtypesDirectly}
 use Rattle.cc_meta_runs.proofs.PutCaptures.{free_outside, captured_when_shape_put}
-use Rattle.cc_meta_typing.proofs.FormedContexts.{IsKindedContext, IsKinded-added, IsKindedSet-added}
 use Rattle.cc_meta_typing.proofs.FreeMaps.{as_is, more, subcaptures-kept, subtypes-kept}
 use Rattle.cc_meta_typing.proofs.InternalTyping.{HasVariable, exact_application, exact_type_application, exact_unboxing, exact_let, exact_primitive, exact_conditional, exact_repetition, Typed, widened, captured_kinded, put_kinded, put_kinded_set, shape_put_kinded, shape_put_kinded_set}
 use Rattle.cc_meta_typing.proofs.TypingMaps.{typed_is, typed_kinded, typed_kinded_set, typed_wider}

@@ -21,10 +21,11 @@ use Rattle.cc_core.specs.Subcapturing.{Subcaptures, element, variable, Subcaptur
 use Rattle.cc_core.specs.Subtyping.{SubtypesType}
 use Rattle.cc_core.proofs.Lookups.{lookup-older, lookup-below}
 use Rattle.cc_core.proofs.Moving.{Member-single, Member-single_itself}
-use Rattle.cc_core.proofs.Opening.{putting_set-still}
 use Rattle.cc_core.proofs.FreeActions.{no_open_index-deeper_set}
 use Rattle.cc_sets.specs.Avoidance.{Sign, Positive, Negative, opposite, has_position, is_position, is_free_in, avoided_set, with_both, unless_free, avoided, avoided_type}
 use Rattle.cc_meta_typing.proofs.DirectSubtyping.{SubtypesDirectly, alike, functions, type_functions, boxes, height, height-opened, direct_to}
+use Rattle.cc_core.proofs.Sorts.{SetSort}
+use Rattle.cc_core.proofs.Opening.{putting-still}
 
 -- the answers of the parts
 pub both_some : (a b : Option Shape) (build : Shape → Shape → Shape) (s : Shape) → with_both a b build ≡ Some s → (x : Shape) × (y : Shape) × (a ≡ Some x) × (b ≡ Some y) × (s ≡ build x y)
@@ -116,7 +117,7 @@ module _ (at position : ℕ) (apart : at ≡ position → ⊥) where
     pub avoided_set-opened : (sign : Sign) (depth : ℕ) (set : Set) → avoided_set sign position declared (act_set (opening at) depth set) ≡ act_set (opening at) depth (avoided_set sign position declared set)
     avoided_set-opened Negative depth set = remove-opened depth set
     avoided_set-opened Positive depth set =
-        let still : act_set (opening at) depth declared ≡ declared = putting_set-still (Free at) depth declared (no_open_index-deeper_set depth declared closed) in
+        let still : act_set (opening at) depth declared ≡ declared = putting-still SetSort (Free at) depth declared (no_open_index-deeper_set depth declared closed) in
         let joined : union (remove (Variable (Free position)) (act_set (opening at) depth set)) declared ≡ act_set (opening at) depth (union (remove (Variable (Free position)) set) declared) =
         ap (λ r. union r declared) (remove-opened depth set)
         ∙ ap (union (act_set (opening at) depth (remove (Variable (Free position)) set))) (sym still)

@@ -14,10 +14,11 @@ use Rattle.cc_core.specs.Contexts.{TermEntry, Context, lookup}
 use Rattle.cc_core.specs.WellFormed.{Kind, TermKind, TypeKind, kind_of, kinds_of, is_well_formed_set, is_well_formed_type}
 use Rattle.cc_core.proofs.Lookups.{length_map, lookup-other}
 use Rattle.cc_core.proofs.KindFacts.{IsOfKind, IsKinded, IsKindedSet, IsKindedElement, IsKindedType, IsKindedSet-from, IsKindedType-from, IsKindedType-test}
-use Rattle.cc_core.proofs.KindRespecting.{closed_kinded_set}
 use Rattle.cc_core.proofs.SubcapturingContexts.{kind_of_entry}
 use Rattle.cc_sets.specs.Avoidance.{Sign, Positive, Negative, opposite, has_position, is_position, is_free_in, is_free_in_type, is_free_in_invariant_place, avoided_set, with_both, unless_free, avoided, avoided_type}
 use Rattle.cc_meta_typing.proofs.Avoiding.{both_some, map_some, unless_some, not_true, avoided_type_parts}
+use Rattle.cc_core.proofs.KindRespecting.{closed_kinded}
+use Rattle.cc_core.proofs.Sorts.{SetSort}
 
 -- whether there is an answer
 abbrev has_answer : {A : Type 0} → Option A → Bool
@@ -199,7 +200,7 @@ module _ (kinds kinds' : List Kind) (position : ℕ) (declared : Set) (new : IsK
   kept_set sign passed set h e here =
       elim (members_after sign position declared set e here) as (λ _. IsKindedElement kinds' passed e) [
         | inl (old, apart) ↦ elements passed e apart (h e old)
-        | inr added ↦ closed_kinded_set kinds' passed declared new e added
+        | inr added ↦ closed_kinded SetSort kinds' passed declared new e added
       ]
 
   same_set : (passed : List Kind) (set : Set) → has_position position set ≡ false → IsKindedSet kinds passed set → IsKindedSet kinds' passed set

@@ -16,7 +16,7 @@ use Rattle.cc_meta_typing.proofs.DirectSubtyping.{SubtypesDirectly, alike, under
 abbrev pub Keeps : Comparison → Comparison → Type 0
 Keeps first second = (first ≡ Unfinished) ⊎ (first ≡ second)
 
-keeps_then : (a b b' : Comparison) → Keeps b b' → Keeps (and_then a b) (and_then a b')
+pub keeps_then : (a b b' : Comparison) → Keeps b b' → Keeps (and_then a b) (and_then a b')
 keeps_then Unfinished b b' k = inl refl
 keeps_then Mismatch b b' k = inr refl
 keeps_then (Matches ds) b b' (inl e) = inl (ap (and_then (Matches ds)) e)
@@ -71,7 +71,7 @@ keeps_form one other k context (TypeFunctionShape bound gives e) right = keeps_t
 keeps_form one other k context (BoxShape content c) right = keeps_box one other k context (capturing content c) right
 keeps_form one other k context (ExitShape gives) right = inr refl
 
-comparison_keeps : (few many : ℕ) → few ≤ many → KeepsAll (comparison few) (comparison many)
+pub comparison_keeps : (few many : ℕ) → few ≤ many → KeepsAll (comparison few) (comparison many)
 unfolding comparison
 comparison_keeps zero many h context left right = inl refl
 comparison_keeps (suc few) zero h context left right = absurd (omega arith)
@@ -84,7 +84,7 @@ pub comparison_more : (context : Context) (left right : Shape) (few many : ℕ) 
 comparison_more context left right few many h done =
     elim (comparison_keeps few many h context left right) [ inl e ↦ absurd (done e) | inr e ↦ sym e ]
 
-comparison_same : (context : Context) (left right : Shape) (n m : ℕ) (a b : Comparison) → comparison n context left right ≡ a → comparison m context left right ≡ b
+pub comparison_same : (context : Context) (left right : Shape) (n m : ℕ) (a b : Comparison) → comparison n context left right ≡ a → comparison m context left right ≡ b
     → (a ≡ Unfinished → ⊥) → (b ≡ Unfinished → ⊥) → a ≡ b
 comparison_same context left right n m a b p q done done' =
     let one = comparison_more context left right n (n + m) (omega arith) (λ e. done (sym p ∙ e)) in
@@ -103,15 +103,15 @@ demands_or_mismatch context left right ds h h' =
     let same = comparison_same context left right h.0 h'.0 (Matches ds) Mismatch h.1 h'.1 (λ e. cc) (λ e. cc) in cc
 
 -- demands of two parts
-hold_both : (ds es : List Demand) → AllHold ds → AllHold es → AllHold (ds ++ es)
+pub hold_both : (ds es : List Demand) → AllHold ds → AllHold es → AllHold (ds ++ es)
 hold_both [] es h k = k
 hold_both (d ∷ ds) es h k = (h.0, hold_both ds es h.1 k)
 
-hold_parts : (ds es : List Demand) → AllHold (ds ++ es) → AllHold ds × AllHold es
+pub hold_parts : (ds es : List Demand) → AllHold (ds ++ es) → AllHold ds × AllHold es
 hold_parts [] es h = (tt, h)
 hold_parts (d ∷ ds) es h = let rest = hold_parts ds es h.1 in ((h.0, rest.0), rest.1)
 
-then_parts : (a b : Comparison) (ds : List Demand) → and_then a b ≡ Matches ds
+pub then_parts : (a b : Comparison) (ds : List Demand) → and_then a b ≡ Matches ds
     → (one : List Demand) × (two : List Demand) × (a ≡ Matches one) × (b ≡ Matches two) × (ds ≡ one ++ two)
 then_parts Unfinished b ds e = cc
 then_parts Mismatch b ds e = cc

@@ -1,48 +1,41 @@
 -- The maps of contexts that the rules use.
+use Rattle.cc_meta_typing.proofs.FormedContexts.{opened_kinded, positions_of}
 use Rattle.std.proofs.Common.{◌≡◌, ℕ, ◌<◌, true, false, cond, List, [], ◌∷◌, ◌++◌, length, Some, refl, sym, ap, ◌∙◌, subst, inl, inr}
 use Rattle.std.specs.Prelude.{nat_eq}
-use Rattle.cc_capture.specs.declared.var.Var.{Var}
-use Rattle.cc_capture.specs.declared.var.Var.TheVariants.{Bound, Free}
+use Rattle.cc_capture.specs.declared.var.Var.TheVariants.{Free}
 use Rattle.cc_capture.specs.declared.var.Elem.TheVariants.{Var as Variable}
 use Rattle.cc_capture.specs.Sets.{Set}
 use Rattle.cc_core.specs.Shapes.{Shape, TypeVariable, CapturingType, capturing}
 use Rattle.cc_core.specs.Contexts.{Bind, TermEntry, TypeEntry, Context, lookup}
-use Rattle.cc_core.specs.Traversal.{act, act_set, act_type, keeping}
-use Rattle.cc_core.specs.Substitution.{freely, overridden, renaming, renamed_variable, opened, opened_set, opened_type, replaced_type_by_shape, putting_shape, single}
+use Rattle.cc_core.specs.Traversal.{act, act_set, act_type}
+use Rattle.cc_core.specs.Substitution.{freely, overridden, renaming, opened, opened_set, opened_type, replaced_type_by_shape, putting_shape, single}
 use Rattle.cc_core.specs.Occurrences.{Meets, MeetsInSet, bound_within, under_type_binder}
 use Rattle.cc_core.specs.WellFormed.{Kind, TermKind, TypeKind, kind_of, kinds_of, is_well_formed_shape, is_well_formed_type, is_well_formed_context}
 use Rattle.cc_core.specs.Subcapturing.{Subcaptures, variable, SubcapturesSet}
 use Rattle.cc_core.specs.Subtyping.{Subtypes, reflexive, type_variable, SubtypesType}
-use Rattle.cc_core.proofs.Actions.{act-keeping, act_set-keeping}
-use Rattle.cc_core.proofs.Moving.{same_moves, moving-identity, Member-single_itself}
+use Rattle.cc_core.proofs.Moving.{Member-single_itself}
 use Rattle.cc_core.proofs.Lookups.{length_map, lookup-newest, lookup-below, lookup-cases}
 use Rattle.cc_core.proofs.KindFacts.{IsKinded, IsKindedSet, IsKinded-from, IsKinded-test, IsKindedType-from}
 use Rattle.cc_core.proofs.KindedActions.{IsKinded-act, IsKinded-meets, IsKindedSet-meets}
-use Rattle.cc_core.proofs.KindRespecting.{freely-KeepsKinds, kinds-under_type_binder, kinds-bound_within}
-use Rattle.cc_core.proofs.Renaming.{renaming_as_free, overridden-same, overridden-below, freely-agree, freely-agree_set}
-use Rattle.cc_core.proofs.FreshOpenings.{fresh_opening, fresh_opening_set, fresh_shape, fresh_shape_set}
+use Rattle.cc_core.proofs.KindRespecting.{KeepsKinds-freely, kinds-under_type_binder, kinds-bound_within}
+use Rattle.cc_core.proofs.Levels.{freely-still}
+use Rattle.cc_core.proofs.Renaming.{renaming_as_free, overridden-same, overridden-below, freely-agree}
+use Rattle.cc_core.proofs.FreshOpenings.{fresh_opening, fresh_shape}
 use Rattle.cc_core.proofs.SubcapturingContexts.{IsKindedContext, IsKindedContext-from, entry_kinded, kind_of_entry, entry_of_term, entry_of_type}
 use Rattle.cc_core.proofs.SubcapturingLemmas.{subcaptures_reflexive}
 use Rattle.cc_meta_typing.specs.ContextMaps.{Extends, unchanged, added, mapped, mapped_set, mapped_entry, IsContextMap, MapsEntries}
 use Rattle.cc_meta_typing.specs.ContextMapLaws.{itself}
 use Rattle.cc_meta_typing.proofs.Extensions.{extends_more, lookup-extends, subcaptures_extends, subcaptures_set_extends}
-use Rattle.cc_meta_typing.proofs.KindedContexts.{opened_kinded}
 use Rattle.cc_meta_typing.proofs.DirectSubtyping.{Narrows, narrows_under, narrows_newest, direct_narrows, direct_from, direct_to}
-use Rattle.cc_meta_typing.proofs.ContextMapping.{positions_of, positions_of_set, mapped_subcaptures, mapped_subtypes}
+use Rattle.cc_meta_typing.proofs.ContextMapping.{mapped_subcaptures, mapped_subtypes}
+use Rattle.cc_core.proofs.Sorts.{SetSort, ShapeSort}
 
 -- the map that leaves each position leaves all
-stays : (v : Var) → renamed_variable (λ p. p) v ≡ v
-stays (Bound index) = refl
-stays (Free position) = refl
-
-identity_action : freely (λ p. p) itself ≡ keeping
-identity_action = sym (renaming_as_free (λ p. p)) ∙ same_moves (λ d v. renamed_variable (λ p. p) v) (λ d v. v) (λ d v. stays v) ∙ moving-identity
-
 pub identity_mapped : (shape : Shape) → mapped (λ p. p) itself shape ≡ shape
-identity_mapped shape = ap (λ a. act a 0 shape) identity_action ∙ act-keeping 0 shape
+identity_mapped = freely-still ShapeSort 0
 
 pub identity_mapped_set : (set : Set) → mapped_set (λ p. p) itself set ≡ set
-identity_mapped_set set = ap (λ a. act_set a 0 set) identity_action ∙ act_set-keeping 0 set
+identity_mapped_set = freely-still SetSort 0
 
 pub longer_map : (context longer : Context) → Extends context longer → IsContextMap context longer (λ p. p) itself
 longer_map context longer more =
@@ -77,7 +70,7 @@ entries_map source target to shapes g d m =
     let kept : (shape : Shape) → IsKinded (kinds_of source) [] shape → IsKinded (kinds_of target) [] (mapped to shapes shape) =
     λ shape h.
     IsKinded-act (freely to shapes) (kinds_of source) [] (kinds_of target) []
-    (freely-KeepsKinds to shapes (kinds_of source) (kinds_of target) []
+    (KeepsKinds-freely to shapes (kinds_of source) (kinds_of target) []
     (λ p known. let entry = entry_of_term source p known in let found = m.types p entry.0 entry.1 entry.2 in kind_of_entry target (to p) (TermEntry found.0 found.1) found.2)
     (λ p known. let entry = entry_of_type source p known in IsKinded-from (kinds_of target) [] (shapes p) (m.formed p entry.0 entry.1)))
     [] shape h in
@@ -119,10 +112,10 @@ module _ (entry : Bind) (context : Context) (to : ℕ → ℕ) (shapes : ℕ →
     (same : (p : ℕ) → p < length context → to p ≡ p) (same_shapes : (p : ℕ) → p < length context → shapes p ≡ itself p)
     (g : IsKindedContext context) where
   pub stays_mapped : (passed : List Kind) (shape : Shape) → IsKinded (kinds_of context) passed shape → mapped to shapes shape ≡ shape
-  stays_mapped passed shape h = freely-agree (length context) (λ p. p) to itself shapes same same_shapes 0 shape (positions_of context passed shape h) ∙ identity_mapped shape
+  stays_mapped passed shape h = freely-agree (length context) (λ p. p) to itself shapes same same_shapes ShapeSort 0 shape (positions_of ShapeSort context passed shape h) ∙ identity_mapped shape
 
   pub stays_mapped_set : (passed : List Kind) (set : Set) → IsKindedSet (kinds_of context) passed set → mapped_set to shapes set ≡ set
-  stays_mapped_set passed set h = freely-agree_set (length context) (λ p. p) to itself shapes same same_shapes 0 set (positions_of_set context passed set h) ∙ identity_mapped_set set
+  stays_mapped_set passed set h = freely-agree (length context) (λ p. p) to itself shapes same same_shapes SetSort 0 set (positions_of SetSort context passed set h) ∙ identity_mapped_set set
 
   pub older_bounds : (target : Context) → Extends context target → (position : ℕ) (bound : Shape) → lookup context position ≡ Some (TypeEntry bound) → Subtypes target (shapes position) (mapped to shapes bound)
   older_bounds target more position bound there =
@@ -303,12 +296,12 @@ smaller_map context s s' c c' formed formed' below =
 pub variable_in_body : (context : Context) (position : ℕ) (shape : Shape) → IsKinded (kinds_of context) (TermKind ∷ []) shape
     → mapped (overridden (λ p. p) (length context) position) (overridden itself (length context) (TypeVariable (Free position))) (opened (length context) shape) ≡ opened position shape
 variable_in_body context position shape h =
-    fresh_opening (length context) position (λ p. p) itself (λ p. tt) 0 shape (positions_of context (TermKind ∷ []) shape h) ∙ ap (opened position) (identity_mapped shape)
+    fresh_opening (length context) position (λ p. p) itself (λ p. tt) ShapeSort 0 shape (positions_of ShapeSort context (TermKind ∷ []) shape h) ∙ ap (opened position) (identity_mapped shape)
 
 pub variable_in_body_set : (context : Context) (position : ℕ) (set : Set) → IsKindedSet (kinds_of context) (TermKind ∷ []) set
     → mapped_set (overridden (λ p. p) (length context) position) (overridden itself (length context) (TypeVariable (Free position))) (opened_set (length context) set) ≡ opened_set position set
 variable_in_body_set context position set h =
-    fresh_opening_set (length context) position (λ p. p) itself (λ p. tt) 0 set (positions_of_set context (TermKind ∷ []) set h) ∙ ap (opened_set position) (identity_mapped_set set)
+    fresh_opening (length context) position (λ p. p) itself (λ p. tt) SetSort 0 set (positions_of SetSort context (TermKind ∷ []) set h) ∙ ap (opened_set position) (identity_mapped_set set)
 
 pub shape_in_body : (context : Context) (by shape : Shape) → IsKinded (kinds_of context) (TypeKind ∷ []) shape
     → mapped (λ p. p) (overridden itself (length context) by) (opened (length context) shape) ≡ act (putting_shape by) 0 shape
@@ -316,7 +309,7 @@ shape_in_body context by shape h =
     let placed : Meets (under_type_binder (length context)) 0 shape =
     subst (λ n. Meets (under_type_binder n) 0 shape) (length_map kind_of context)
     (IsKinded-meets (kinds_of context) (TypeKind ∷ []) (under_type_binder (length (kinds_of context))) (kinds-under_type_binder (kinds_of context)) [] shape h) in
-    fresh_shape (length context) by (λ p. p) (λ p. p) itself (λ p _. refl) (λ p. tt) 0 shape placed ∙ ap (act (putting_shape by) 0) (identity_mapped shape)
+    fresh_shape (length context) by (λ p. p) (λ p. p) itself (λ p _. refl) (λ p. tt) ShapeSort 0 shape placed ∙ ap (act (putting_shape by) 0) (identity_mapped shape)
 
 pub shape_in_body_set : (context : Context) (by : Shape) (set : Set) → IsKindedSet (kinds_of context) (TypeKind ∷ []) set
     → mapped_set (λ p. p) (overridden itself (length context) by) (opened_set (length context) set) ≡ act_set (putting_shape by) 0 set
@@ -324,7 +317,7 @@ shape_in_body_set context by set h =
     let placed : MeetsInSet (under_type_binder (length context)) 0 set =
     subst (λ n. MeetsInSet (under_type_binder n) 0 set) (length_map kind_of context)
     (IsKindedSet-meets (kinds_of context) (TypeKind ∷ []) (under_type_binder (length (kinds_of context))) (kinds-under_type_binder (kinds_of context)) [] set h) in
-    fresh_shape_set (length context) by (λ p. p) (λ p. p) itself (λ p _. refl) (λ p. tt) 0 set placed ∙ ap (act_set (putting_shape by) 0) (identity_mapped_set set)
+    fresh_shape (length context) by (λ p. p) (λ p. p) itself (λ p _. refl) (λ p. tt) SetSort 0 set placed ∙ ap (act_set (putting_shape by) 0) (identity_mapped_set set)
 
 -- types that compare after a map compare as what they have become
 types_become : (context : Context) (one two one' two' : CapturingType) → one.shape ≡ one'.shape → one.set ≡ one'.set → two.shape ≡ two'.shape → two.set ≡ two'.set
@@ -353,7 +346,7 @@ puts_variables context s s' c c' y left right formed at_y below l r body =
     (variable_in_body context y left.shape l'.0) (variable_in_body_set context y left.set l'.1) (variable_in_body context y right.shape r'.0) (variable_in_body_set context y right.set r'.1) (
       mapped_subcaptures (entry ∷ context) context to shapes map (opened_set n left.set) (opened_set n right.set) body.0,
       mapped_subtypes (entry ∷ context) context to shapes map (IsKindedContext-from (entry ∷ context) formed) (opened n left.shape) (opened n right.shape)
-          (opened_kinded context entry left.shape l'.0) (opened_kinded context entry right.shape r'.0) body.1,
+          (opened_kinded ShapeSort context entry left.shape l'.0) (opened_kinded ShapeSort context entry right.shape r'.0) body.1,
     )
 
 pub puts_shapes : (context : Context) (bound shape : Shape) (left right : CapturingType)
@@ -373,7 +366,7 @@ puts_shapes context bound shape left right formed known below l r body =
     (shape_in_body context shape left.shape l'.0) (shape_in_body_set context shape left.set l'.1) (shape_in_body context shape right.shape r'.0) (shape_in_body_set context shape right.set r'.1) (
       mapped_subcaptures (entry ∷ context) context to shapes map (opened_set n left.set) (opened_set n right.set) body.0,
       mapped_subtypes (entry ∷ context) context to shapes map (IsKindedContext-from (entry ∷ context) formed) (opened n left.shape) (opened n right.shape)
-          (opened_kinded context entry left.shape l'.0) (opened_kinded context entry right.shape r'.0) body.1,
+          (opened_kinded ShapeSort context entry left.shape l'.0) (opened_kinded ShapeSort context entry right.shape r'.0) body.1,
     )
 
 pub subtypes_rename : (source target : Context) (to : ℕ → ℕ) (left right : Shape)

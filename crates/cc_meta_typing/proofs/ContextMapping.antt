@@ -1,4 +1,5 @@
 -- Subcapturing and subtyping are kept along a map of contexts. Under a binder the map goes on to the binder itself.
+use Rattle.cc_meta_typing.proofs.FormedContexts.{opened_kinded, positions_of}
 use Rattle.std.proofs.Common.{◌≡◌, ℕ, true, false, cond, List, [], ◌∷◌, length, Some, sym, ap, ◌∙◌, subst, inl, inr}
 use Rattle.std.specs.Prelude.{nat_eq}
 use Rattle.cc_capture.specs.declared.var.Var.TheVariants.{Free}
@@ -10,35 +11,24 @@ use Rattle.cc_core.specs.Shapes.{Shape, TypeVariable}
 use Rattle.cc_core.specs.Contexts.{Bind, TermEntry, TypeEntry, Context, lookup}
 use Rattle.cc_core.specs.Traversal.{act, act_set}
 use Rattle.cc_core.specs.Substitution.{freely, overridden, moved_element, renamed_variable, opened, opened_set}
-use Rattle.cc_core.specs.Occurrences.{Meets, MeetsInSet, bound_within, positions_below}
+use Rattle.cc_core.specs.Occurrences.{Meets, bound_within}
 use Rattle.cc_core.specs.WellFormed.{Kind, TermKind, TypeKind, kind_of, kinds_of, is_well_formed_shape}
 use Rattle.cc_core.specs.Subcapturing.{Subcaptures, element, variable, SubcapturesSet}
 use Rattle.cc_core.specs.Subtyping.{Subtypes, reflexive, type_variable}
-use Rattle.cc_core.proofs.Lookups.{length_map, lookup-newest, lookup-older, lookup-below, lookup-cases}
+use Rattle.cc_core.proofs.Lookups.{lookup-newest, lookup-older, lookup-below, lookup-cases}
 use Rattle.cc_core.proofs.Moving.{Member-single, Member-single_itself}
 use Rattle.cc_core.proofs.KindFacts.{IsKinded, IsKindedSet, IsKinded-from, IsKinded-test}
-use Rattle.cc_core.proofs.KindedActions.{IsKinded-act, IsKinded-meets, IsKindedSet-meets}
-use Rattle.cc_core.proofs.KindRespecting.{freely-KeepsKinds, kinds-positions_below}
+use Rattle.cc_core.proofs.KindedActions.{IsKinded-act}
+use Rattle.cc_core.proofs.KindRespecting.{KeepsKinds-freely}
 use Rattle.cc_core.proofs.FreeActions.{free-level}
-use Rattle.cc_core.proofs.Renaming.{freely-IsFree, overridden-same, overridden-below, freely-agree, freely-agree_set}
-use Rattle.cc_core.proofs.FreshOpenings.{fresh_opening, fresh_opening_set}
+use Rattle.cc_core.proofs.Renaming.{IsFree-freely, overridden-same, overridden-below, freely-agree}
+use Rattle.cc_core.proofs.FreshOpenings.{fresh_opening}
 use Rattle.cc_core.proofs.SubcapturingContexts.{IsKindedEntry, IsKindedContext, entry_kinded, kind_of_entry, IsKinded-added, entry_of_term, entry_of_type}
 use Rattle.cc_core.proofs.SubcapturingLemmas.{subcaptures_above, subcaptures_reflexive}
 use Rattle.cc_meta_typing.specs.ContextMaps.{Extends, unchanged, mapped, mapped_set, mapped_entry, IsContextMap}
 use Rattle.cc_meta_typing.proofs.Extensions.{extends_older, lookup-extends}
-use Rattle.cc_meta_typing.proofs.KindedContexts.{opened_kinded}
 use Rattle.cc_meta_typing.proofs.DirectSubtyping.{SubtypesDirectly, alike, under_any, through_bound, functions, type_functions, boxes, direct_transitive, direct_from, direct_to}
-
--- what is well formed in a context has positions below its length
-pub positions_of : (context : Context) (passed : List Kind) (shape : Shape) → IsKinded (kinds_of context) passed shape → Meets (positions_below (length context)) 0 shape
-positions_of context passed shape h =
-    subst (λ n. Meets (positions_below n) 0 shape) (length_map kind_of context)
-    (IsKinded-meets (kinds_of context) passed (positions_below (length (kinds_of context))) (kinds-positions_below (kinds_of context) passed) [] shape h)
-
-pub positions_of_set : (context : Context) (passed : List Kind) (set : Set) → IsKindedSet (kinds_of context) passed set → MeetsInSet (positions_below (length context)) 0 set
-positions_of_set context passed set h =
-    subst (λ n. MeetsInSet (positions_below n) 0 set) (length_map kind_of context)
-    (IsKindedSet-meets (kinds_of context) passed (positions_below (length (kinds_of context))) (kinds-positions_below (kinds_of context) passed) [] set h)
+use Rattle.cc_core.proofs.Sorts.{SetSort, ShapeSort}
 
 -- the map under a binder
 abbrev pub to_under : Context → Context → (ℕ → ℕ) → ℕ → ℕ
@@ -53,15 +43,15 @@ module _ (source target : Context) (to : ℕ → ℕ) (shapes : ℕ → Shape) (
       → mapped (to_under source target to) (shapes_under source target shapes) shape ≡ mapped to shapes shape
   same_under passed shape h =
       freely-agree (length source) to (to_under source target to) shapes (shapes_under source target shapes)
-      (overridden-below to (length source) (length target)) (overridden-below shapes (length source) (TypeVariable (Free (length target)))) 0 shape
-      (positions_of source passed shape h)
+      (overridden-below to (length source) (length target)) (overridden-below shapes (length source) (TypeVariable (Free (length target)))) ShapeSort 0 shape
+      (positions_of ShapeSort source passed shape h)
 
   same_set_under : (passed : List Kind) (set : Set) → IsKindedSet (kinds_of source) passed set
       → mapped_set (to_under source target to) (shapes_under source target shapes) set ≡ mapped_set to shapes set
   same_set_under passed set h =
-      freely-agree_set (length source) to (to_under source target to) shapes (shapes_under source target shapes)
-      (overridden-below to (length source) (length target)) (overridden-below shapes (length source) (TypeVariable (Free (length target)))) 0 set
-      (positions_of_set source passed set h)
+      freely-agree (length source) to (to_under source target to) shapes (shapes_under source target shapes)
+      (overridden-below to (length source) (length target)) (overridden-below shapes (length source) (TypeVariable (Free (length target)))) SetSort 0 set
+      (positions_of SetSort source passed set h)
 
   closed_under : (position : ℕ) → Meets (bound_within 0) 0 (shapes_under source target shapes position)
   closed_under position =
@@ -74,19 +64,19 @@ module _ (source target : Context) (to : ℕ → ℕ) (shapes : ℕ → Shape) (
   pub body_under : (passed : List Kind) (shape : Shape) → IsKinded (kinds_of source) passed shape
       → mapped (to_under source target to) (shapes_under source target shapes) (opened (length source) shape) ≡ opened (length target) (act (freely to shapes) 1 shape)
   body_under passed shape h =
-      fresh_opening (length source) (length target) to shapes map.closed 0 shape (positions_of source passed shape h)
-      ∙ ap (opened (length target)) (free-level (freely to shapes) (freely-IsFree to shapes map.closed) 0 1 shape)
+      fresh_opening (length source) (length target) to shapes map.closed ShapeSort 0 shape (positions_of ShapeSort source passed shape h)
+      ∙ ap (opened (length target)) (free-level (freely to shapes) (IsFree-freely to shapes map.closed) 0 1 shape)
 
   pub body_set_under : (passed : List Kind) (set : Set) → IsKindedSet (kinds_of source) passed set
       → mapped_set (to_under source target to) (shapes_under source target shapes) (opened_set (length source) set) ≡ opened_set (length target) (act_set (freely to shapes) 1 set)
   body_set_under passed set h =
-      fresh_opening_set (length source) (length target) to shapes map.closed 0 set (positions_of_set source passed set h)
+      fresh_opening (length source) (length target) to shapes map.closed SetSort 0 set (positions_of SetSort source passed set h)
 
   -- a map keeps kinds
   pub mapped_kinded : (passed : List Kind) (shape : Shape) → IsKinded (kinds_of source) passed shape → IsKinded (kinds_of target) passed (mapped to shapes shape)
   mapped_kinded passed shape h =
       IsKinded-act (freely to shapes) (kinds_of source) passed (kinds_of target) passed
-      (freely-KeepsKinds to shapes (kinds_of source) (kinds_of target) passed
+      (KeepsKinds-freely to shapes (kinds_of source) (kinds_of target) passed
       (λ p known. let entry = entry_of_term source p known in let found = map.types p entry.0 entry.1 entry.2 in kind_of_entry target (to p) (TermEntry found.0 found.1) found.2)
       (λ p known. let entry = entry_of_type source p known in IsKinded-from (kinds_of target) [] (shapes p) (map.formed p entry.0 entry.1)))
       [] shape h
@@ -221,7 +211,7 @@ mapped_directly {source = source} (functions {takes = t} {takes' = t'} {gives = 
     let shapes' : ℕ → Shape = shapes_under source target shapes in
     let inside : Context = mapped_entry to shapes entry ∷ target in
     let results' = mapped_subcaptures (entry ∷ source) inside to' shapes' under (opened_set (length source) e) (opened_set (length source) e') results in
-    let body' = mapped_directly body inside to' shapes' under (kinded, g) (opened_kinded source entry u l.2) (opened_kinded source entry u' r.2) in
+    let body' = mapped_directly body inside to' shapes' under (kinded, g) (opened_kinded ShapeSort source entry u l.2) (opened_kinded ShapeSort source entry u' r.2) in
     functions (mapped_subcaptures source target to shapes map c' c sets) (mapped_directly takes target to shapes map g r.0 l.0)
     (subst (λ x. SubcapturesSet inside x (opened_set (length target) (act_set (freely to shapes) 1 e'))) (body_set_under source target to shapes map (TermKind ∷ []) e l.3)
     (subst (λ x. SubcapturesSet inside (mapped_set to' shapes' (opened_set (length source) e)) x) (body_set_under source target to shapes map (TermKind ∷ []) e' r.3) results'))
@@ -234,7 +224,7 @@ mapped_directly {source = source} (type_functions {bound = bound} {gives = u} {g
     let shapes' : ℕ → Shape = shapes_under source target shapes in
     let inside : Context = mapped_entry to shapes entry ∷ target in
     let results' = mapped_subcaptures (entry ∷ source) inside to' shapes' under (opened_set (length source) e) (opened_set (length source) e') results in
-    let body' = mapped_directly body inside to' shapes' under (l.0, g) (opened_kinded source entry u l.1) (opened_kinded source entry u' r.1) in
+    let body' = mapped_directly body inside to' shapes' under (l.0, g) (opened_kinded ShapeSort source entry u l.1) (opened_kinded ShapeSort source entry u' r.1) in
     type_functions
     (subst (λ x. SubcapturesSet inside x (opened_set (length target) (act_set (freely to shapes) 1 e'))) (body_set_under source target to shapes map (TypeKind ∷ []) e l.2)
     (subst (λ x. SubcapturesSet inside (mapped_set to' shapes' (opened_set (length source) e)) x) (body_set_under source target to shapes map (TypeKind ∷ []) e' r.2) results'))

@@ -1,7 +1,9 @@
 -- Each comparison of well-formed shapes ends, since weights fall.
-use Rattle.std.proofs.Common.{◌≡◌, ℕ, zero, suc, ◌+◌, ◌<◌, ◌≤◌, Bool, true, false, cond, List, [], ◌∷◌, ◌++◌, length, Option, Some, None, refl, sym, ap, ◌∙◌, subst, inl, inr, ◌⊎◌, arith}
+use Rattle.cc_meta_typing.proofs.FormedContexts.{opened_kinded}
+use Rattle.cc_core.proofs.Sorts.{ShapeSort}
+use Rattle.std.proofs.Common.{◌≡◌, ℕ, zero, suc, ◌+◌, ◌<◌, true, false, cond, List, [], ◌∷◌, ◌++◌, length, Option, Some, None, refl, sym, ap, ◌∙◌, subst, inl, inr, ◌⊎◌, arith}
 use Rattle.std.specs.Prelude.{nat_eq}
-use Rattle.std.proofs.lemmas.Bool.{and_parts, eqb-true, eq-eqb}
+use Rattle.std.proofs.lemmas.Bool.{cond-true, cond-false, ne_eqb, and_parts, eqb-true, eq-eqb}
 use Rattle.cc_capture.specs.declared.var.Var.TheVariants.{Bound, Free}
 use Rattle.cc_capture.specs.Sets.{Set}
 use Rattle.cc_core.specs.Shapes.{Shape, BaseShape, AnyShape, TypeVariable, FunctionShape, TypeFunctionShape, BoxShape, ExitShape, CapturingType, capturing}
@@ -14,50 +16,8 @@ use Rattle.cc_core.proofs.KindFacts.{IsKinded, IsKinded-from}
 use Rattle.cc_core.proofs.SubcapturingContexts.{entry_of_type, IsKindedEntry, IsKindedContext, IsKindedContext-from, IsKinded-added}
 use Rattle.cc_core.specs.Comparison.{same_shape}
 use Rattle.cc_sets.specs.Comparison.{Demand, Comparison, Unfinished, Mismatch, Matches, and_then, types_compared, bound_in, bound_compared, function_compared, type_function_compared, box_compared, is_any, by_form, comparison, HasDemands, IsMismatch, TypesHaveDemands, IsTypeMismatch}
+use Rattle.cc_sets.specs.Weights.{weight_of_index, weight, entry_weight, weight_at, weight_in, IsEnough, enough_steps}
 use Rattle.cc_sets.proofs.ShapeEquality.{same_shape-true}
-use Rattle.cc_meta_typing.proofs.ComparisonLemmas.{comparison_more}
-use Rattle.cc_meta_typing.proofs.KindedContexts.{opened_kinded}
-
--- the two cases of a test
-cond_true : {A : Type 0} (b : Bool) (x y : A) → b ≡ true → cond b x y ≡ x
-cond_true true x y e = refl
-cond_true false x y e = cc
-
-cond_false : {A : Type 0} (b : Bool) (x y : A) → b ≡ false → cond b x y ≡ y
-cond_false false x y e = refl
-cond_false true x y e = cc
-
-different_numbers : (m n : ℕ) → (m ≡ n → ⊥) → nat_eq m n ≡ false
-different_numbers m n apart = elim (nat_eq m n) as (λ b. nat_eq m n ≡ b → b ≡ false) [ true ↦ λ e. absurd (apart (eqb-true m n e)) | false ↦ λ e. refl ] refl
-
--- the weight of a bound variable
-abbrev weight_of_index : List ℕ → ℕ → ℕ
-weight_of_index [] index = 0
-weight_of_index (w ∷ ws) zero = w
-weight_of_index (w ∷ ws) (suc index) = weight_of_index ws index
-
--- the number of forms of a shape, where a type variable counts one more than its bound
-abbrev weight : (ℕ → ℕ) → List ℕ → Shape → ℕ
-weight free passed (BaseShape base) = 1
-weight free passed AnyShape = 1
-weight free passed (TypeVariable (Free position)) = suc (free position)
-weight free passed (TypeVariable (Bound index)) = suc (weight_of_index passed index)
-weight free passed (FunctionShape takes c gives e) = suc (weight free passed takes + weight free (0 ∷ passed) gives)
-weight free passed (TypeFunctionShape bound gives e) = suc (weight free passed bound + weight free (weight free passed bound ∷ passed) gives)
-weight free passed (BoxShape content c) = suc (weight free passed content)
-weight free passed (ExitShape gives) = suc (weight free passed gives)
-
-abbrev entry_weight : (ℕ → ℕ) → Bind → ℕ
-entry_weight free (TermEntry shape set) = 0
-entry_weight free (TypeEntry bound) = weight free [] bound
-
--- the weight of the bound at a position
-abbrev weight_at : Context → ℕ → ℕ
-weight_at [] position = 0
-weight_at (b ∷ context) position = cond (nat_eq position (length context)) (entry_weight (weight_at context) b) (weight_at context position)
-
-abbrev weight_in : Context → Shape → ℕ
-weight_in context shape = weight (weight_at context) [] shape
 
 -- weights of free variables that agree on those that may occur
 abbrev AgreeOn : List Kind → (ℕ → ℕ) → (ℕ → ℕ) → Type 0
@@ -124,11 +84,11 @@ agree_below : (context : Context) (entry : Bind) → AgreeOn (kinds_of context) 
 agree_below context entry position known =
     let found = entry_of_type context position known in
     let below = lookup-below context position (TypeEntry found.0) found.1 in
-    cond_false (nat_eq position (length context)) (entry_weight (weight_at context) entry) (weight_at context position)
-    (different_numbers position (length context) (λ e. omega arith))
+    cond-false (nat_eq position (length context)) (entry_weight (weight_at context) entry) (weight_at context position)
+    (ne_eqb position (length context) (λ e. omega arith))
 
 weight_of_newest : (context : Context) (entry : Bind) → weight_at (entry ∷ context) (length context) ≡ entry_weight (weight_at context) entry
-weight_of_newest context entry = cond_true (nat_eq (length context) (length context)) (entry_weight (weight_at context) entry) (weight_at context (length context)) (eq-eqb (length context) (length context) refl)
+weight_of_newest context entry = cond-true (nat_eq (length context) (length context)) (entry_weight (weight_at context) entry) (weight_at context (length context)) (eq-eqb (length context) (length context) refl)
 
 weight_of_opened : (context : Context) (entry : Bind) (shape : Shape) (passed : List Kind) → IsKinded (kinds_of context) passed shape
     → weight_in (entry ∷ context) (opened (length context) shape) ≡ weight (weight_at context) (entry_weight (weight_at context) entry ∷ []) shape
@@ -151,24 +111,17 @@ bound_at (b ∷ context) position bound formed there =
           let is : b ≡ TypeEntry bound = cc in
           let own : IsKinded (kinds_of context) [] bound = subst (IsKindedEntry (kinds_of context)) is formed.0 in
           record {
-            weighs = cond_true (nat_eq position (length context)) (entry_weight (weight_at context) b) (weight_at context position) e
+            weighs = cond-true (nat_eq position (length context)) (entry_weight (weight_at context) b) (weight_at context position) e
                 ∙ ap (entry_weight (weight_at context)) is ∙ sym (raised own);
             formed = IsKinded-added (kind_of b) (kinds_of context) [] bound own;
           }
       | false ↦ λ e found.
           let old = bound_at context position bound formed.1 found in
           record {
-            weighs = cond_false (nat_eq position (length context)) (entry_weight (weight_at context) b) (weight_at context position) e ∙ old.weighs ∙ sym (raised old.formed);
+            weighs = cond-false (nat_eq position (length context)) (entry_weight (weight_at context) b) (weight_at context position) e ∙ old.weighs ∙ sym (raised old.formed);
             formed = IsKinded-added (kind_of b) (kinds_of context) [] bound old.formed;
           }
     ] refl there
-
--- so many steps are enough
-abbrev IsEnough : ℕ → Context → Shape → Shape → Type 0
-IsEnough n context left right = comparison n context left right ≡ Unfinished → ⊥
-
-enough_more : (n m : ℕ) (context : Context) (left right : Shape) → n ≤ m → IsEnough n context left right → IsEnough m context left right
-enough_more n m context left right h enough e = enough (sym (comparison_more context left right n m h enough) ∙ e)
 
 ended_then : (a b : Comparison) → (a ≡ Unfinished → ⊥) → (b ≡ Unfinished → ⊥) → and_then a b ≡ Unfinished → ⊥
 ended_then Unfinished b p q e = p refl
@@ -195,26 +148,23 @@ ended_step n context left right ended =
 abbrev EndsBelow : ℕ → Type 0
 EndsBelow k = (context : Context) (left right : Shape) → IsKindedContext context
     → IsKinded (kinds_of context) [] left → IsKinded (kinds_of context) [] right
-    → weight_in context left + weight_in context right < k → (n : ℕ) × IsEnough n context left right
-
-abbrev EndsByForm : Context → Shape → Shape → Type 0
-EndsByForm context left right = (n : ℕ) × (by_form (comparison n) context left right ≡ Unfinished → ⊥)
+    → weight_in context left + weight_in context right < k → IsEnough k context left right
 
 ends_variable : (k : ℕ) → EndsBelow k → (context : Context) (position : ℕ) (right : Shape) (found : Option Bind) → lookup context position ≡ found
     → IsKindedContext context → IsKinded (kinds_of context) [] right
     → suc (weight_at context position) + weight_in context right < suc k
-    → (n : ℕ) × (bound_compared (comparison n) context (bound_in found) right ≡ Unfinished → ⊥)
+    → bound_compared (comparison k) context (bound_in found) right ≡ Unfinished → ⊥
 ends_variable k ends context position right (Some (TypeEntry bound)) there formed r small =
     let at = bound_at context position bound formed there in
     let weighs = at.weighs in
     ends context bound right formed at.formed r (omega arith)
-ends_variable k ends context position right (Some (TermEntry shape set)) there formed r small = (0, λ e. cc)
-ends_variable k ends context position right None there formed r small = (0, λ e. cc)
+ends_variable k ends context position right (Some (TermEntry shape set)) there formed r small = λ e. cc
+ends_variable k ends context position right None there formed r small = λ e. cc
 
 ends_function : (k : ℕ) → EndsBelow k → (context : Context) (takes : Shape) (c : Set) (gives : Shape) (d : Set) (right : Shape)
     → IsKindedContext context → IsKinded (kinds_of context) [] (FunctionShape takes c gives d) → IsKinded (kinds_of context) [] right
     → weight_in context (FunctionShape takes c gives d) + weight_in context right < suc k
-    → (n : ℕ) × (function_compared (comparison n) context (capturing takes c) (capturing gives d) right ≡ Unfinished → ⊥)
+    → function_compared (comparison k) context (capturing takes c) (capturing gives d) right ≡ Unfinished → ⊥
 ends_function k ends context takes c gives d (FunctionShape takes' c' gives' d') formed l r small =
     let kinds : List Kind = kinds_of context in
     let entry : Bind = TermEntry takes' c' in
@@ -224,27 +174,24 @@ ends_function k ends context takes c gives d (FunctionShape takes' c' gives' d')
     let formed' : IsKindedContext under = ((r.0, r.1), formed) in
     let w = weight_of_opened context entry gives (TermKind ∷ []) l.2 in
     let w' = weight_of_opened context entry gives' (TermKind ∷ []) r.2 in
-    let (n, enough) = ends context takes' takes formed r.0 l.0 (omega arith) in
-    let (m, enough') = ends under one two formed' (opened_kinded context entry gives l.2) (opened_kinded context entry gives' r.2) (omega arith) in (
-      n + m,
-      ended_then _ _
-          (ended_types (n + m) context (capturing takes' c') (capturing takes c) (enough_more n (n + m) context takes' takes (omega arith) enough))
-          (ended_types (n + m) under (opened_type (length context) (capturing gives d)) (opened_type (length context) (capturing gives' d')) (enough_more m (n + m) under one two (omega arith) enough')),
-    )
-ends_function k ends context takes c gives d _ formed l r small = (0, λ e. cc)
+    ended_then _ _
+    (ended_types k context (capturing takes' c') (capturing takes c) (ends context takes' takes formed r.0 l.0 (omega arith)))
+    (ended_types k under (opened_type (length context) (capturing gives d)) (opened_type (length context) (capturing gives' d'))
+    (ends under one two formed' (opened_kinded ShapeSort context entry gives l.2) (opened_kinded ShapeSort context entry gives' r.2) (omega arith)))
+ends_function k ends context takes c gives d _ formed l r small = λ e. cc
 
 ends_type_function : (k : ℕ) → EndsBelow k → (context : Context) (bound gives : Shape) (d : Set) (right : Shape)
     → IsKindedContext context → IsKinded (kinds_of context) [] (TypeFunctionShape bound gives d) → IsKinded (kinds_of context) [] right
     → weight_in context (TypeFunctionShape bound gives d) + weight_in context right < suc k
-    → (n : ℕ) × (type_function_compared (comparison n) context bound (capturing gives d) right ≡ Unfinished → ⊥)
+    → type_function_compared (comparison k) context bound (capturing gives d) right ≡ Unfinished → ⊥
 ends_type_function k ends context bound gives d (TypeFunctionShape bound' gives' d') formed l r small =
     let kinds : List Kind = kinds_of context in
     let entry : Bind = TypeEntry bound in
     let under : Context = entry ∷ context in
     let one : Shape = opened (length context) gives in
     let two : Shape = opened (length context) gives' in
-    let compared : ℕ → Comparison = λ n. types_compared (comparison n) under (opened_type (length context) (capturing gives d)) (opened_type (length context) (capturing gives' d')) in
-    elim (same_shape bound bound') as (λ t. same_shape bound bound' ≡ t → (n : ℕ) × (cond t (compared n) Mismatch ≡ Unfinished → ⊥)) [
+    let compared : Comparison = types_compared (comparison k) under (opened_type (length context) (capturing gives d)) (opened_type (length context) (capturing gives' d')) in
+    elim (same_shape bound bound') as (λ t. same_shape bound bound' ≡ t → cond t compared Mismatch ≡ Unfinished → ⊥) [
       | true ↦ λ same.
           let is = same_shape-true bound bound' same in
           let formed' : IsKindedContext under = (l.0, formed) in
@@ -252,40 +199,45 @@ ends_type_function k ends context bound gives d (TypeFunctionShape bound' gives'
           let w' = weight_of_opened context entry gives' (TypeKind ∷ []) r.1 in
           let b : weight (weight_at context) (weight_in context bound' ∷ []) gives' ≡ weight (weight_at context) (weight_in context bound ∷ []) gives' =
           ap (λ s. weight (weight_at context) (weight_in context s ∷ []) gives') (sym is) in
-          let (n, enough) = ends under one two formed' (opened_kinded context entry gives l.1) (opened_kinded context entry gives' r.1) (omega arith) in
-          (n, ended_types n under (opened_type (length context) (capturing gives d)) (opened_type (length context) (capturing gives' d')) enough)
-      | false ↦ λ _. (0, λ e. cc)
+          ended_types k under (opened_type (length context) (capturing gives d)) (opened_type (length context) (capturing gives' d'))
+          (ends under one two formed' (opened_kinded ShapeSort context entry gives l.1) (opened_kinded ShapeSort context entry gives' r.1) (omega arith))
+      | false ↦ λ _ e. cc
     ] refl
-ends_type_function k ends context bound gives d _ formed l r small = (0, λ e. cc)
+ends_type_function k ends context bound gives d _ formed l r small = λ e. cc
 
 ends_box : (k : ℕ) → EndsBelow k → (context : Context) (content : Shape) (c : Set) (right : Shape)
     → IsKindedContext context → IsKinded (kinds_of context) [] (BoxShape content c) → IsKinded (kinds_of context) [] right
     → weight_in context (BoxShape content c) + weight_in context right < suc k
-    → (n : ℕ) × (box_compared (comparison n) context (capturing content c) right ≡ Unfinished → ⊥)
+    → box_compared (comparison k) context (capturing content c) right ≡ Unfinished → ⊥
 ends_box k ends context content c (BoxShape content' c') formed l r small =
-    let kinds : List Kind = kinds_of context in
-    let (n, enough) = ends context content content' formed l.0 r.0 (omega arith) in
-    (n, ended_types n context (capturing content c) (capturing content' c') enough)
-ends_box k ends context content c _ formed l r small = (0, λ e. cc)
+    ended_types k context (capturing content c) (capturing content' c') (ends context content content' formed l.0 r.0 (omega arith))
+ends_box k ends context content c _ formed l r small = λ e. cc
 
 ends_form : (k : ℕ) → EndsBelow k → (context : Context) (left right : Shape) → IsKindedContext context
     → IsKinded (kinds_of context) [] left → IsKinded (kinds_of context) [] right
-    → weight_in context left + weight_in context right < suc k → EndsByForm context left right
+    → weight_in context left + weight_in context right < suc k → by_form (comparison k) context left right ≡ Unfinished → ⊥
 unfolding by_form
-ends_form k ends context (BaseShape base) right formed l r small = (0, λ e. cc)
-ends_form k ends context AnyShape right formed l r small = (0, λ e. cc)
+ends_form k ends context (BaseShape base) right formed l r small = λ e. cc
+ends_form k ends context AnyShape right formed l r small = λ e. cc
 ends_form k ends context (TypeVariable (Free position)) right formed l r small = ends_variable k ends context position right (lookup context position) refl formed r small
-ends_form k ends context (TypeVariable (Bound index)) right formed l r small = (0, λ e. cc)
+ends_form k ends context (TypeVariable (Bound index)) right formed l r small = λ e. cc
 ends_form k ends context (FunctionShape takes c gives d) right formed l r small = ends_function k ends context takes c gives d right formed l r small
 ends_form k ends context (TypeFunctionShape bound gives d) right formed l r small = ends_type_function k ends context bound gives d right formed l r small
 ends_form k ends context (BoxShape content c) right formed l r small = ends_box k ends context content c right formed l r small
-ends_form k ends context (ExitShape gives) right formed l r small = (0, λ e. cc)
+ends_form k ends context (ExitShape gives) right formed l r small = λ e. cc
 
 ends_below : (k : ℕ) → EndsBelow k
 ends_below zero context left right formed l r small = absurd (omega arith)
 ends_below (suc k) context left right formed l r small =
-    let (n, ended) = ends_form k (ends_below k) context left right formed l r small in
-    (suc n, ended_step n context left right ended)
+    ended_step k context left right (ends_form k (ends_below k) context left right formed l r small)
+
+-- As many steps are enough as the weights count.
+pub comparison_enough : (context : Context) (left right : Shape) → is_well_formed_context context ≡ true
+    → is_well_formed_shape (kinds_of context) [] left ≡ true → is_well_formed_shape (kinds_of context) [] right ≡ true
+    → IsEnough (enough_steps context left right) context left right
+comparison_enough context left right formed l r =
+    ends_below (enough_steps context left right) context left right
+    (IsKindedContext-from context formed) (IsKinded-from (kinds_of context) [] left l) (IsKinded-from (kinds_of context) [] right r) (omega arith)
 
 answer_of : (context : Context) (left right : Shape) (n : ℕ) (a : Comparison) → comparison n context left right ≡ a → (a ≡ Unfinished → ⊥)
     → ((ds : List Demand) × HasDemands context left right ds) ⊎ IsMismatch context left right
@@ -297,9 +249,8 @@ pub comparison_ends : (context : Context) (left right : Shape) → is_well_forme
     → is_well_formed_shape (kinds_of context) [] left ≡ true → is_well_formed_shape (kinds_of context) [] right ≡ true
     → ((ds : List Demand) × HasDemands context left right ds) ⊎ IsMismatch context left right
 comparison_ends context left right formed l r =
-    let (n, enough) = ends_below (suc (weight_in context left + weight_in context right)) context left right
-    (IsKindedContext-from context formed) (IsKinded-from (kinds_of context) [] left l) (IsKinded-from (kinds_of context) [] right r) (omega arith) in
-    answer_of context left right n (comparison n context left right) refl enough
+    answer_of context left right (enough_steps context left right) (comparison (enough_steps context left right) context left right) refl
+    (comparison_enough context left right formed l r)
 
 pub type_comparison_ends : (context : Context) (left right : CapturingType) → is_well_formed_context context ≡ true
     → is_well_formed_type (kinds_of context) [] left ≡ true → is_well_formed_type (kinds_of context) [] right ≡ true

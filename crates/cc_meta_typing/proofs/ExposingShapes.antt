@@ -29,10 +29,10 @@ followed_other (TypeEntry bound) position (BoxShape t c) other = refl
 followed_other (TypeEntry bound) position (ExitShape g) other = refl
 followed_other (TermEntry type set) position shape other = refl
 
-followed_newest : (bound : Shape) (position other : ℕ) → other ≡ position → followed (TypeEntry bound) position (TypeVariable (Free other)) ≡ bound
+pub followed_newest : (bound : Shape) (position other : ℕ) → other ≡ position → followed (TypeEntry bound) position (TypeVariable (Free other)) ≡ bound
 followed_newest bound position other same = let test = eq-eqb other position same in ap (λ t. cond t bound (TypeVariable (Free other))) test
 
-followed_older : (entry : Bind) (position other : ℕ) → (other ≡ position → ⊥) → followed entry position (TypeVariable (Free other)) ≡ TypeVariable (Free other)
+pub followed_older : (entry : Bind) (position other : ℕ) → (other ≡ position → ⊥) → followed entry position (TypeVariable (Free other)) ≡ TypeVariable (Free other)
 followed_older (TermEntry type set) position other apart = refl
 followed_older (TypeEntry bound) position other apart =
     elim (nat_eq other position) as (λ t. nat_eq other position ≡ t → cond t bound (TypeVariable (Free other)) ≡ TypeVariable (Free other)) [
@@ -49,7 +49,7 @@ others_stay [] shape other = refl
 others_stay (entry ∷ older) shape other = ap (exposed older) (followed_other entry (length older) shape other) ∙ others_stay older shape other
 
 -- what names older entries alone is exposed as without the entry
-followed_known : (entry : Bind) (older : Context) (shape : Shape) → IsKinded (kinds_of older) [] shape → followed entry (length older) shape ≡ shape
+pub followed_known : (entry : Bind) (older : Context) (shape : Shape) → IsKinded (kinds_of older) [] shape → followed entry (length older) shape ≡ shape
 followed_known entry older (TypeVariable (Free position)) h =
     let below = lookup-below (kinds_of older) position TypeKind h in
     let n = length_map kind_of older in
@@ -62,7 +62,7 @@ followed_known entry older (TypeFunctionShape b g e) h = followed_other entry (l
 followed_known entry older (BoxShape t c) h = followed_other entry (length older) (BoxShape t c) (λ v x. cc)
 followed_known entry older (ExitShape g) h = followed_other entry (length older) (ExitShape g) (λ v x. cc)
 
-follows : (context : Context) (position : ℕ) (bound : Shape) → IsKindedContext context → lookup context position ≡ Some (TypeEntry bound)
+pub follows : (context : Context) (position : ℕ) (bound : Shape) → IsKindedContext context → lookup context position ≡ Some (TypeEntry bound)
     → exposed context (TypeVariable (Free position)) ≡ exposed context bound
 follows [] position bound g there = cc
 follows (entry ∷ older) position bound g there =
@@ -82,9 +82,8 @@ pub exposing_follows : (context : Context) (position : ℕ) (bound : Shape) → 
     → lookup context position ≡ Some (TypeEntry bound) → exposed context (TypeVariable (Free position)) ≡ exposed context bound
 exposing_follows context position bound formed there = follows context position bound (IsKindedContext-from context formed) there
 
--- there is no variable in the end
 -- one step leads to what names older entries alone
-followed_kinded : (entry : Bind) (older : Context) (position : ℕ) → IsKindedEntry (kinds_of older) entry → lookup (kinds_of (entry ∷ older)) position ≡ Some TypeKind
+pub followed_kinded : (entry : Bind) (older : Context) (position : ℕ) → IsKindedEntry (kinds_of older) entry → lookup (kinds_of (entry ∷ older)) position ≡ Some TypeKind
     → IsKinded (kinds_of older) [] (followed entry (length older) (TypeVariable (Free position)))
 followed_kinded entry older position own h =
     elim (lookup-cases (kind_of entry) (kinds_of older) position TypeKind h) as (λ _. IsKinded (kinds_of older) [] (followed entry (length older) (TypeVariable (Free position)))) [
@@ -103,6 +102,7 @@ followed_kinded entry older position own h =
 still_no_variable : (context : Context) (shape : Shape) → IsNoVariable shape → IsNoVariable (exposed context shape)
 still_no_variable context shape other v e = other v (sym (others_stay context shape other) ∙ e)
 
+-- there is no variable in the end
 ends_at : (context : Context) (shape : Shape) → IsKindedContext context → IsKinded (kinds_of context) [] shape → IsNoVariable (exposed context shape)
 ends_at [] (TypeVariable (Free position)) g h = cc
 ends_at (entry ∷ older) (TypeVariable (Free position)) g h =

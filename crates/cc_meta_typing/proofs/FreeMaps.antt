@@ -1,7 +1,8 @@
 -- Maps of contexts: variables of terms go to variables, and type variables to shapes. Subcapturing and subtyping go along
 -- with them, and weakening, substitution and narrowing are maps.
-use Rattle.std.proofs.Common.{◌≡◌, ℕ, zero, suc, ◌<◌, true, false, cond, List, [], ◌∷◌, ◌++◌, length, Some, inl, inr, ◌⊎◌, refl, sym, ap, ◌∙◌, subst}
-use Rattle.std.specs.Prelude.{nat_eq, slice_get}
+use Rattle.cc_core.proofs.SubcapturingContexts.{IsKinded-added, IsKindedContext, IsKindedEntry, entry_kinded, entry_of_term, entry_of_type, kind_of_entry}
+use Rattle.std.proofs.Common.{◌≡◌, ℕ, ◌<◌, true, false, cond, List, [], ◌∷◌, ◌++◌, length, Some, inl, inr, ◌⊎◌, refl, sym, ap, ◌∙◌, subst}
+use Rattle.std.specs.Prelude.{nat_eq}
 use Rattle.std.proofs.lemmas.Bool.{eqb-true}
 use Rattle.cc_capture.specs.declared.var.Var.{Var}
 use Rattle.cc_capture.specs.declared.var.Var.TheVariants.{Bound, Free}
@@ -12,23 +13,24 @@ use Rattle.cc_capture.proofs.Membership.{Member-flat_image}
 use Rattle.cc_core.specs.Shapes.{Shape, TypeVariable}
 use Rattle.cc_core.specs.Terms.{Term}
 use Rattle.cc_core.specs.Contexts.{Bind, TermEntry, TypeEntry, Context, lookup}
-use Rattle.cc_core.specs.Traversal.{Action, act, act_set, act_term, keeping}
-use Rattle.cc_core.specs.Substitution.{single, moved_element, opened, opened_set, opened_term, putting, putting_shape, renamed_variable, free_shape, freely, overridden}
-use Rattle.cc_core.specs.Occurrences.{Meets, bound_within, positions_below, under_type_binder}
+use Rattle.cc_core.specs.Traversal.{Action, act, act_set, act_term}
+use Rattle.cc_core.specs.Substitution.{single, moved_element, opened, opened_set, putting, putting_shape, renamed_variable, free_shape, freely, overridden, opening}
+use Rattle.cc_core.specs.Occurrences.{Meets, bound_within}
 use Rattle.cc_core.specs.WellFormed.{Kind, TermKind, TypeKind, kind_of, kinds_of}
 use Rattle.cc_core.specs.Subcapturing.{Subcaptures, element, variable, SubcapturesSet}
 use Rattle.cc_core.proofs.Lookups.{lookup-newest, lookup-older, lookup-below}
 use Rattle.cc_core.proofs.SubcapturingLemmas.{subcaptures_above, subcaptures_along}
 use Rattle.cc_core.proofs.Moving.{Member-single}
-use Rattle.cc_core.proofs.Actions.{same_actions, act-keeping, act_set-keeping}
-use Rattle.cc_core.proofs.TermActions.{act_term-keeping}
 use Rattle.cc_core.proofs.FreeActions.{free-level}
-use Rattle.cc_core.proofs.Renaming.{freely-IsFree, overridden-same, overridden-below, freely-agree, freely-agree_set}
-use Rattle.cc_core.proofs.FreshOpenings.{fresh_opening, fresh_opening_set, fresh_opening_term, fresh_shape, fresh_shape_set, fresh_shape_term}
-use Rattle.cc_core.proofs.KindFacts.{IsOfKind, IsKindedElement, IsKindedSet, IsKinded, IsKindedTerm}
-use Rattle.cc_core.proofs.KindedActions.{KeepsKinds, IsKindedSet-act, IsKinded-act, IsKindedSet-meets, IsKinded-meets, IsKindedTerm-meets}
+use Rattle.cc_core.proofs.Levels.{freely-still, acted-level}
+use Rattle.cc_core.proofs.Renaming.{IsFree-freely, overridden-same, overridden-below, freely-agree}
+use Rattle.cc_core.proofs.FreshOpenings.{fresh_opening, fresh_shape}
+use Rattle.cc_core.proofs.KindFacts.{IsOfKind, IsKindedElement, IsKindedSet, IsKinded}
+use Rattle.cc_core.proofs.KindRespecting.{closed_kinded}
+use Rattle.cc_core.proofs.KindedActions.{KeepsKinds, IsKinded-meets}
 use Rattle.cc_meta_typing.proofs.DirectSubtyping.{SubtypesDirectly, alike, under_any, through_bound, functions, type_functions, boxes, direct_transitive}
-use Rattle.cc_meta_typing.proofs.FormedContexts.{IsKindedEntry, IsKindedContext, length-kinds_of, kinded_single, IsKinded-added, entry_kinded, kind_of_entry, term_entry_at, type_entry_at, kinds_below, kinds_bound, kinds_under_type, IsKinded-opened, some_is}
+use Rattle.cc_meta_typing.proofs.FormedContexts.{length-kinds_of, kinded_single, kinds_bound, some_is, HasKinds-opened, positions_of, places_of}
+use Rattle.cc_core.proofs.Sorts.{SetSort, ShapeSort, TermSort, Sort, Syntax, HasKinds, acted, HasKinds-act}
 
 -- a context with entries added
 pub data Longer (d : Context) : Context → Type 0 where
@@ -84,37 +86,12 @@ abbrev pub acted_entry : Action → Bind → Bind
 acted_entry f (TermEntry s c) = TermEntry (act f 0 s) (act_set f 0 c)
 acted_entry f (TypeEntry b) = TypeEntry (act f 0 b)
 
--- what is well formed is so under more binders
-deeper_kinds : (kinds beyond : List Kind) → KeepsKinds keeping kinds [] kinds beyond
-deeper_kinds kinds beyond = record {
-  element = λ passed x h. kinded_single kinds (passed ++ beyond) x (each passed x h);
-  shape = λ passed v h. at passed v TypeKind h;
-  variable = λ passed v h. at passed v TermKind h;
-}
-  where
-    inside : {A : Type 0} (xs ys : List A) (i : ℕ) (a : A) → slice_get (xs ++ []) i ≡ Some a → slice_get (xs ++ ys) i ≡ Some a
-    inside [] ys i a e = cc
-    inside (x ∷ xs) ys zero a e = e
-    inside (x ∷ xs) ys (suc i) a e = inside xs ys i a e
-
-    at : (passed : List Kind) (v : Var) (k : Kind) → IsOfKind kinds (passed ++ []) v k → IsOfKind kinds (passed ++ beyond) v k
-    at passed (Free p) k h = h
-    at passed (Bound i) k h = inside passed beyond i k h
-
-    each : (passed : List Kind) (x : Elem) → IsKindedElement kinds (passed ++ []) x → IsKindedElement kinds (passed ++ beyond) x
-    each passed (Variable v) h = at passed v TermKind h
-    each passed Cap h = tt
-    each passed (Hole n) h = tt
-
-pub IsKinded-deeper : (kinds passed : List Kind) (s : Shape) → IsKinded kinds [] s → IsKinded kinds passed s
-IsKinded-deeper kinds passed s h = subst (IsKinded kinds passed) (act-keeping 0 s) (IsKinded-act keeping kinds [] kinds passed (deeper_kinds kinds passed) [] s h)
-
 module _ (g d : Context) (to : ℕ → ℕ) (shapes : ℕ → Shape) (maps : Maps g d to shapes) where
   -- a map takes what is of a kind to what is of it
   mapped_variable : (passed : List Kind) (v : Var) → IsOfKind (kinds_of g) passed v TermKind → IsOfKind (kinds_of d) passed (renamed_variable to v) TermKind
   mapped_variable passed (Bound i) h = h
   mapped_variable passed (Free p) h =
-      let found = term_entry_at g p h in
+      let found = entry_of_term g p h in
       let entry = maps.entries p found.0 found.1 found.2 in
       kind_of_entry d (to p) (TermEntry entry.shape entry.set) entry.there
 
@@ -126,8 +103,8 @@ module _ (g d : Context) (to : ℕ → ℕ) (shapes : ℕ → Shape) (maps : Map
   mapped_type_variable : (passed : List Kind) (v : Var) → IsOfKind (kinds_of g) passed v TypeKind → IsKinded (kinds_of d) passed (free_shape shapes v)
   mapped_type_variable passed (Bound i) h = h
   mapped_type_variable passed (Free p) h =
-      let found = type_entry_at g p h in
-      IsKinded-deeper (kinds_of d) passed (shapes p) (maps.kinded p found.0 found.1)
+      let found = entry_of_type g p h in
+      closed_kinded ShapeSort (kinds_of d) passed (shapes p) (maps.kinded p found.0 found.1)
 
   pub maps_kinds : (beyond : List Kind) → KeepsKinds (freely to shapes) (kinds_of g) beyond (kinds_of d) beyond
   maps_kinds beyond = record {
@@ -136,18 +113,15 @@ module _ (g d : Context) (to : ℕ → ℕ) (shapes : ℕ → Shape) (maps : Map
     variable = λ passed v h. mapped_variable (passed ++ beyond) v h;
   }
 
-  pub map_kinded_set : (beyond : List Kind) (c : Set) → IsKindedSet (kinds_of g) beyond c → IsKindedSet (kinds_of d) beyond (act_set (freely to shapes) 0 c)
-  map_kinded_set beyond c h = IsKindedSet-act (freely to shapes) (kinds_of g) beyond (kinds_of d) beyond (maps_kinds beyond) [] c h
-
-  pub map_kinded_at0 : (beyond : List Kind) (s : Shape) → IsKinded (kinds_of g) beyond s → IsKinded (kinds_of d) beyond (act (freely to shapes) 0 s)
-  map_kinded_at0 beyond s h = IsKinded-act (freely to shapes) (kinds_of g) beyond (kinds_of d) beyond (maps_kinds beyond) [] s h
+  pub map_kinds : (beyond : List Kind) (sort : Sort) (x : Syntax sort) → HasKinds sort (kinds_of g) beyond x → HasKinds sort (kinds_of d) beyond (acted sort (freely to shapes) 0 x)
+  map_kinds beyond sort x h = HasKinds-act sort (freely to shapes) (kinds_of g) beyond (kinds_of d) beyond (maps_kinds beyond) [] x h
 
   -- a map moves an open index nowhere, so the depth does not matter
   pub map_level : (m n : ℕ) (s : Shape) → act (freely to shapes) m s ≡ act (freely to shapes) n s
-  map_level m n s = free-level (freely to shapes) (freely-IsFree to shapes maps.closed) m n s
+  map_level m n s = free-level (freely to shapes) (IsFree-freely to shapes maps.closed) m n s
 
   pub map_kinded : (beyond : List Kind) (n : ℕ) (s : Shape) → IsKinded (kinds_of g) beyond s → IsKinded (kinds_of d) beyond (act (freely to shapes) n s)
-  map_kinded beyond n s h = subst (IsKinded (kinds_of d) beyond) (map_level 0 n s) (map_kinded_at0 beyond s h)
+  map_kinded beyond n s h = subst (IsKinded (kinds_of d) beyond) (map_level 0 n s) (map_kinds beyond ShapeSort s h)
 
   -- subcapturing goes along
   pub map_element : {x : Elem} {above : Set} → Subcaptures g x above → SubcapturesSet d (single (moved_element (renamed_variable to) x)) (act_set (freely to shapes) 0 above)
@@ -167,11 +141,8 @@ module _ (g d : Context) (to : ℕ → ℕ) (shapes : ℕ → Shape) (maps : Map
 
 -- the two maps agree on what is well formed before the binder
 module _ (g : Context) (to to' : ℕ → ℕ) (shapes shapes' : ℕ → Shape) (same : (p : ℕ) → p < length g → to' p ≡ to p) (same_shapes : (p : ℕ) → p < length g → shapes' p ≡ shapes p) where
-  pub agree_shape : (n : ℕ) (s : Shape) → IsKinded (kinds_of g) [] s → act (freely to' shapes') 0 s ≡ act (freely to shapes) 0 s
-  agree_shape n s h = freely-agree (length g) to to' shapes shapes' same same_shapes 0 s (IsKinded-meets (kinds_of g) [] (positions_below (length g)) (kinds_below (length g) (kinds_of g) [] (length-kinds_of g)) [] s h)
-
-  pub agree_set : (c : Set) → IsKindedSet (kinds_of g) [] c → act_set (freely to' shapes') 0 c ≡ act_set (freely to shapes) 0 c
-  agree_set c h = freely-agree_set (length g) to to' shapes shapes' same same_shapes 0 c (IsKindedSet-meets (kinds_of g) [] (positions_below (length g)) (kinds_below (length g) (kinds_of g) [] (length-kinds_of g)) [] c h)
+  pub agree_kinded : (sort : Sort) (x : Syntax sort) → HasKinds sort (kinds_of g) [] x → acted sort (freely to' shapes') 0 x ≡ acted sort (freely to shapes) 0 x
+  agree_kinded sort x h = freely-agree (length g) to to' shapes shapes' same same_shapes sort 0 x (positions_of sort g [] x h)
 
 module _ (g d : Context) (to : ℕ → ℕ) (shapes : ℕ → Shape) (maps : Maps g d to shapes) (formed : IsKindedContext g) (b : Bind) (entry : IsKindedEntry (kinds_of g) b) where
   to_under : ℕ → ℕ
@@ -185,11 +156,11 @@ module _ (g d : Context) (to : ℕ → ℕ) (shapes : ℕ → Shape) (maps : Map
 
   same_shape : (s : Shape) → IsKinded (kinds_of g) [] s → act (freely to_under shapes_under) 0 s ≡ act (freely to shapes) 0 s
   unfolding to_under shapes_under
-  same_shape s h = agree_shape g to to_under shapes shapes_under (overridden-below to (length g) (length d)) (overridden-below shapes (length g) (TypeVariable (Free (length d)))) 0 s h
+  same_shape s h = agree_kinded g to to_under shapes shapes_under (overridden-below to (length g) (length d)) (overridden-below shapes (length g) (TypeVariable (Free (length d)))) ShapeSort s h
 
   same_set : (c : Set) → IsKindedSet (kinds_of g) [] c → act_set (freely to_under shapes_under) 0 c ≡ act_set (freely to shapes) 0 c
   unfolding to_under shapes_under
-  same_set c h = agree_set g to to_under shapes shapes_under (overridden-below to (length g) (length d)) (overridden-below shapes (length g) (TypeVariable (Free (length d)))) c h
+  same_set c h = agree_kinded g to to_under shapes shapes_under (overridden-below to (length g) (length d)) (overridden-below shapes (length g) (TypeVariable (Free (length d)))) SetSort c h
 
   newest_there : (e : Context) → Longer d_under e → (x : Bind) → x ≡ b → lookup e (length d) ≡ Some (acted_entry (freely to shapes) x)
   unfolding d_under
@@ -288,17 +259,13 @@ module _ (g d : Context) (to : ℕ → ℕ) (shapes : ℕ → Shape) (maps : Map
   unfolding to_under shapes_under d_under
   maps_under = record { closed = closed_under; kinded = kinded_under; sends = sends_under; sets = sets_under; bounds = bounds_under; entries = entries_under }
 
-  -- what stands under the binder, opened before the map or after it
-  pub opened_map : (k : Kind) (x : Shape) → IsKinded (kinds_of g) (k ∷ []) x
-      → act (freely (overridden to (length g) (length d)) (overridden shapes (length g) (TypeVariable (Free (length d))))) 0 (opened (length g) x) ≡ opened (length d) (act (freely to shapes) 1 x)
-  opened_map k x h =
-      fresh_opening (length g) (length d) to shapes maps.closed 0 x (IsKinded-meets (kinds_of g) (k ∷ []) (positions_below (length g)) (kinds_below (length g) (kinds_of g) (k ∷ []) (length-kinds_of g)) [] x h)
-      ∙ ap (opened (length d)) (map_level g d to shapes maps 0 1 x)
-
-  pub opened_map_set : (k : Kind) (x : Set) → IsKindedSet (kinds_of g) (k ∷ []) x
-      → act_set (freely (overridden to (length g) (length d)) (overridden shapes (length g) (TypeVariable (Free (length d))))) 0 (opened_set (length g) x) ≡ opened_set (length d) (act_set (freely to shapes) 1 x)
-  opened_map_set k x h =
-      fresh_opening_set (length g) (length d) to shapes maps.closed 0 x (IsKindedSet-meets (kinds_of g) (k ∷ []) (positions_below (length g)) (kinds_below (length g) (kinds_of g) (k ∷ []) (length-kinds_of g)) [] x h)
+-- what stands under a binder, opened before the map or after it
+pub opened_map : (g d : Context) (to : ℕ → ℕ) (shapes : ℕ → Shape) → Maps g d to shapes → (sort : Sort) (k : Kind) (x : Syntax sort) → HasKinds sort (kinds_of g) (k ∷ []) x
+    → acted sort (freely (overridden to (length g) (length d)) (overridden shapes (length g) (TypeVariable (Free (length d))))) 0 (acted sort (opening (length g)) 0 x)
+    ≡ acted sort (opening (length d)) 0 (acted sort (freely to shapes) 1 x)
+opened_map g d to shapes maps sort k x h =
+    fresh_opening (length g) (length d) to shapes maps.closed sort 0 x (positions_of sort g (k ∷ []) x h)
+    ∙ ap (acted sort (opening (length d)) 0) (acted-level sort (freely to shapes) (IsFree-freely to shapes maps.closed) 0 1 x)
 
 -- subtyping goes along
 pub map_subtypes : {g : Context} {left right : Shape} → SubtypesDirectly g left right → (d : Context) (to : ℕ → ℕ) (shapes : ℕ → Shape) → Maps g d to shapes → IsKindedContext g
@@ -313,11 +280,11 @@ map_subtypes (functions {context = g} {takes = t} {takes' = t'} {gives = u} {giv
     let d' : Context = TermEntry (act (freely to shapes) 0 t') (act_set (freely to shapes) 0 c') ∷ d in
     let to' : ℕ → ℕ = overridden to (length g) (length d) in
     let shapes' : ℕ → Shape = overridden shapes (length g) (TypeVariable (Free (length d))) in
-    let opens = opened_map g d to shapes maps formed (TermEntry t' c') entry TermKind in
-    let opens_set = opened_map_set g d to shapes maps formed (TermEntry t' c') entry TermKind in
+    let opens = opened_map g d to shapes maps ShapeSort TermKind in
+    let opens_set = opened_map g d to shapes maps SetSort TermKind in
     let len = length-kinds_of g in
     let body' : SubtypesDirectly d' (act (freely to' shapes') 0 (opened (length g) u)) (act (freely to' shapes') 0 (opened (length g) u')) =
-    map_subtypes body d' to' shapes' under (entry, formed) (IsKinded-opened (length g) TermKind (kinds_of g) len u kl.2) (IsKinded-opened (length g) TermKind (kinds_of g) len u' kr.2) in
+    map_subtypes body d' to' shapes' under (entry, formed) (HasKinds-opened (length g) TermKind (kinds_of g) len ShapeSort u kl.2) (HasKinds-opened (length g) TermKind (kinds_of g) len ShapeSort u' kr.2) in
     let results' = map_subcaptures (TermEntry t' c' ∷ g) d' to' shapes' under (opened_set (length g) e) (opened_set (length g) e') results in
     functions (map_subcaptures g d to shapes maps c' c sets) (map_subtypes takes d to shapes maps formed kr.0 kl.0)
     (subst (λ x. SubcapturesSet d' x (opened_set (length d) (act_set (freely to shapes) 1 e'))) (opens_set e kl.3)
@@ -330,11 +297,11 @@ map_subtypes (type_functions {context = g} {bound = b} {gives = u} {gives' = u'}
     let d' : Context = TypeEntry (act (freely to shapes) 0 b) ∷ d in
     let to' : ℕ → ℕ = overridden to (length g) (length d) in
     let shapes' : ℕ → Shape = overridden shapes (length g) (TypeVariable (Free (length d))) in
-    let opens = opened_map g d to shapes maps formed (TypeEntry b) entry TypeKind in
-    let opens_set = opened_map_set g d to shapes maps formed (TypeEntry b) entry TypeKind in
+    let opens = opened_map g d to shapes maps ShapeSort TypeKind in
+    let opens_set = opened_map g d to shapes maps SetSort TypeKind in
     let len = length-kinds_of g in
     let body' : SubtypesDirectly d' (act (freely to' shapes') 0 (opened (length g) u)) (act (freely to' shapes') 0 (opened (length g) u')) =
-    map_subtypes body d' to' shapes' under (entry, formed) (IsKinded-opened (length g) TypeKind (kinds_of g) len u kl.1) (IsKinded-opened (length g) TypeKind (kinds_of g) len u' kr.1) in
+    map_subtypes body d' to' shapes' under (entry, formed) (HasKinds-opened (length g) TypeKind (kinds_of g) len ShapeSort u kl.1) (HasKinds-opened (length g) TypeKind (kinds_of g) len ShapeSort u' kr.1) in
     let results' = map_subcaptures (TypeEntry b ∷ g) d' to' shapes' under (opened_set (length g) e) (opened_set (length g) e') results in
     type_functions
     (subst (λ x. SubcapturesSet d' x (opened_set (length d) (act_set (freely to shapes) 1 e'))) (opens_set e kl.2)
@@ -351,31 +318,14 @@ same_position p = p
 abbrev pub same_variable : ℕ → Shape
 same_variable p = TypeVariable (Free p)
 
-still_element : (x : Elem) → single (moved_element (renamed_variable same_position) x) ≡ single x
-still_element (Variable (Free p)) = refl
-still_element (Variable (Bound i)) = refl
-still_element Cap = refl
-still_element (Hole n) = refl
-
-still_shape : (v : Var) → free_shape same_variable v ≡ TypeVariable v
-still_shape (Free p) = refl
-still_shape (Bound i) = refl
-
-still_variable : (v : Var) → renamed_variable same_position v ≡ v
-still_variable (Free p) = refl
-still_variable (Bound i) = refl
-
-pub still_map : freely same_position same_variable ≡ keeping
-still_map = same_actions (freely same_position same_variable) keeping (λ d x. still_element x) (λ d v. still_shape v) (λ d v. still_variable v)
-
 pub still : (n : ℕ) (s : Shape) → act (freely same_position same_variable) n s ≡ s
-still n s = ap (λ f. act f n s) still_map ∙ act-keeping n s
+still = freely-still ShapeSort
 
 pub still_set : (n : ℕ) (c : Set) → act_set (freely same_position same_variable) n c ≡ c
-still_set n c = ap (λ f. act_set f n c) still_map ∙ act_set-keeping n c
+still_set = freely-still SetSort
 
 pub still_term : (n : ℕ) (t : Term) → act_term (freely same_position same_variable) n t ≡ t
-still_term n t = ap (λ f. act_term f n t) still_map ∙ act_term-keeping n t
+still_term = freely-still TermSort
 
 -- weakening
 pub maps_longer : (g d : Context) → Longer g d → Maps g d same_position same_variable
@@ -399,19 +349,19 @@ subtypes-kept {g = g} {d = d} l formed left right kl kr below =
 pub variable_below_declared : {g : Context} {p : ℕ} {s : Shape} {c : Set} → lookup g p ≡ Some (TermEntry s c) → Subcaptures g (Variable (Free p)) c
 variable_below_declared {c = c} there = variable there (λ x here. element here)
 
-no_term_entry : {b s : Shape} {c : Set} → TermEntry s c ≡ TypeEntry b → ⊥
+pub no_term_entry : {b s : Shape} {c : Set} → TermEntry s c ≡ TypeEntry b → ⊥
 no_term_entry e = cc
 
-no_type_entry : {b s : Shape} {c : Set} → TypeEntry b ≡ TermEntry s c → ⊥
+pub no_type_entry : {b s : Shape} {c : Set} → TypeEntry b ≡ TermEntry s c → ⊥
 no_type_entry e = cc
 
-same_shapes_of : {s s' : Shape} {c c' : Set} → TermEntry s c ≡ TermEntry s' c' → s ≡ s'
+pub same_shapes_of : {s s' : Shape} {c c' : Set} → TermEntry s c ≡ TermEntry s' c' → s ≡ s'
 same_shapes_of e = cc
 
-same_sets_of : {s s' : Shape} {c c' : Set} → TermEntry s c ≡ TermEntry s' c' → c ≡ c'
+pub same_sets_of : {s s' : Shape} {c c' : Set} → TermEntry s c ≡ TermEntry s' c' → c ≡ c'
 same_sets_of e = cc
 
-same_bounds_of : {b b' : Shape} → TypeEntry b ≡ TypeEntry b' → b ≡ b'
+pub same_bounds_of : {b b' : Shape} → TypeEntry b ≡ TypeEntry b' → b ≡ b'
 same_bounds_of e = cc
 
 -- Substitution of a variable: the newest variable becomes one that is below it.
@@ -426,13 +376,13 @@ module _ (g : Context) (formed : IsKindedContext g) (s : Shape) (c : Set) (ks : 
   value_same : (x : Shape) → IsKinded (kinds_of g) [] x → act (freely value_to value_shapes) 0 x ≡ x
   unfolding value_to value_shapes
   value_same x h =
-      agree_shape g same_position value_to same_variable value_shapes (overridden-below same_position (length g) q) (overridden-below same_variable (length g) (TypeVariable (Free q))) 0 x h
+      agree_kinded g same_position value_to same_variable value_shapes (overridden-below same_position (length g) q) (overridden-below same_variable (length g) (TypeVariable (Free q))) ShapeSort x h
       ∙ still 0 x
 
   value_same_set : (x : Set) → IsKindedSet (kinds_of g) [] x → act_set (freely value_to value_shapes) 0 x ≡ x
   unfolding value_to value_shapes
   value_same_set x h =
-      agree_set g same_position value_to same_variable value_shapes (overridden-below same_position (length g) q) (overridden-below same_variable (length g) (TypeVariable (Free q))) x h
+      agree_kinded g same_position value_to same_variable value_shapes (overridden-below same_position (length g) q) (overridden-below same_variable (length g) (TypeVariable (Free q))) SetSort x h
       ∙ still_set 0 x
 
   value_new : (p : ℕ) → p ≡ length g → value_to p ≡ q
@@ -526,13 +476,13 @@ module _ (g : Context) (formed : IsKindedContext g) (b : Shape) (kb : IsKinded (
   shape_same : (x : Shape) → IsKinded (kinds_of g) [] x → act (freely same_position shape_shapes) 0 x ≡ x
   unfolding shape_shapes
   shape_same x h =
-      agree_shape g same_position same_position same_variable shape_shapes (λ p less. refl) (overridden-below same_variable (length g) r) 0 x h
+      agree_kinded g same_position same_position same_variable shape_shapes (λ p less. refl) (overridden-below same_variable (length g) r) ShapeSort x h
       ∙ still 0 x
 
   shape_same_set : (x : Set) → IsKindedSet (kinds_of g) [] x → act_set (freely same_position shape_shapes) 0 x ≡ x
   unfolding shape_shapes
   shape_same_set x h =
-      agree_set g same_position same_position same_variable shape_shapes (λ p less. refl) (overridden-below same_variable (length g) r) x h
+      agree_kinded g same_position same_position same_variable shape_shapes (λ p less. refl) (overridden-below same_variable (length g) r) SetSort x h
       ∙ still_set 0 x
 
   shape_new : (p : ℕ) → p ≡ length g → shape_shapes p ≡ r
@@ -606,34 +556,14 @@ module _ (g : Context) (formed : IsKindedContext g) (b : Shape) (kb : IsKinded (
 no_open_variable : (p : ℕ) → Meets (bound_within 0) 0 (same_variable p)
 no_open_variable p = tt
 
-module _ (g : Context) (q : ℕ) (k : Kind) where
-  pub value_put : (x : Shape) → IsKinded (kinds_of g) (k ∷ []) x → act (freely (overridden same_position (length g) q) (overridden same_variable (length g) (TypeVariable (Free q)))) 0 (opened (length g) x) ≡ act (putting (Free q)) 0 x
-  value_put x h =
-      fresh_opening (length g) q same_position same_variable no_open_variable 0 x (IsKinded-meets (kinds_of g) (k ∷ []) (positions_below (length g)) (kinds_below (length g) (kinds_of g) (k ∷ []) (length-kinds_of g)) [] x h)
-      ∙ ap (act (putting (Free q)) 0) (still 0 x)
+pub value_put : (g : Context) (q : ℕ) (k : Kind) (sort : Sort) (x : Syntax sort) → HasKinds sort (kinds_of g) (k ∷ []) x
+    → acted sort (freely (overridden same_position (length g) q) (overridden same_variable (length g) (TypeVariable (Free q)))) 0 (acted sort (opening (length g)) 0 x) ≡ acted sort (putting (Free q)) 0 x
+value_put g q k sort x h =
+    fresh_opening (length g) q same_position same_variable no_open_variable sort 0 x (positions_of sort g (k ∷ []) x h)
+    ∙ ap (acted sort (putting (Free q)) 0) (freely-still sort 0 x)
 
-  pub value_put_set : (x : Set) → IsKindedSet (kinds_of g) (k ∷ []) x → act_set (freely (overridden same_position (length g) q) (overridden same_variable (length g) (TypeVariable (Free q)))) 0 (opened_set (length g) x) ≡ act_set (putting (Free q)) 0 x
-  value_put_set x h =
-      fresh_opening_set (length g) q same_position same_variable no_open_variable 0 x (IsKindedSet-meets (kinds_of g) (k ∷ []) (positions_below (length g)) (kinds_below (length g) (kinds_of g) (k ∷ []) (length-kinds_of g)) [] x h)
-      ∙ ap (act_set (putting (Free q)) 0) (still_set 0 x)
-
-  pub value_put_term : (x : Term) → IsKindedTerm (kinds_of g) (k ∷ []) x → act_term (freely (overridden same_position (length g) q) (overridden same_variable (length g) (TypeVariable (Free q)))) 0 (opened_term (length g) x) ≡ act_term (putting (Free q)) 0 x
-  value_put_term x h =
-      fresh_opening_term (length g) q same_position same_variable no_open_variable 0 x (IsKindedTerm-meets (kinds_of g) (k ∷ []) (positions_below (length g)) (kinds_below (length g) (kinds_of g) (k ∷ []) (length-kinds_of g)) [] x h)
-      ∙ ap (act_term (putting (Free q)) 0) (still_term 0 x)
-
-module _ (g : Context) (r : Shape) where
-  pub shape_put : (x : Shape) → IsKinded (kinds_of g) (TypeKind ∷ []) x → act (freely same_position (overridden same_variable (length g) r)) 0 (opened (length g) x) ≡ act (putting_shape r) 0 x
-  shape_put x h =
-      fresh_shape (length g) r same_position same_position same_variable (λ p less. refl) no_open_variable 0 x (IsKinded-meets (kinds_of g) (TypeKind ∷ []) (under_type_binder (length g)) (kinds_under_type (length g) (kinds_of g) (length-kinds_of g)) [] x h)
-      ∙ ap (act (putting_shape r) 0) (still 0 x)
-
-  pub shape_put_set : (x : Set) → IsKindedSet (kinds_of g) (TypeKind ∷ []) x → act_set (freely same_position (overridden same_variable (length g) r)) 0 (opened_set (length g) x) ≡ act_set (putting_shape r) 0 x
-  shape_put_set x h =
-      fresh_shape_set (length g) r same_position same_position same_variable (λ p less. refl) no_open_variable 0 x (IsKindedSet-meets (kinds_of g) (TypeKind ∷ []) (under_type_binder (length g)) (kinds_under_type (length g) (kinds_of g) (length-kinds_of g)) [] x h)
-      ∙ ap (act_set (putting_shape r) 0) (still_set 0 x)
-
-  pub shape_put_term : (x : Term) → IsKindedTerm (kinds_of g) (TypeKind ∷ []) x → act_term (freely same_position (overridden same_variable (length g) r)) 0 (opened_term (length g) x) ≡ act_term (putting_shape r) 0 x
-  shape_put_term x h =
-      fresh_shape_term (length g) r same_position same_position same_variable (λ p less. refl) no_open_variable 0 x (IsKindedTerm-meets (kinds_of g) (TypeKind ∷ []) (under_type_binder (length g)) (kinds_under_type (length g) (kinds_of g) (length-kinds_of g)) [] x h)
-      ∙ ap (act_term (putting_shape r) 0) (still_term 0 x)
+pub shape_put : (g : Context) (r : Shape) (sort : Sort) (x : Syntax sort) → HasKinds sort (kinds_of g) (TypeKind ∷ []) x
+    → acted sort (freely same_position (overridden same_variable (length g) r)) 0 (acted sort (opening (length g)) 0 x) ≡ acted sort (putting_shape r) 0 x
+shape_put g r sort x h =
+    fresh_shape (length g) r same_position same_position same_variable (λ p less. refl) no_open_variable sort 0 x (places_of sort g x h)
+    ∙ ap (acted sort (putting_shape r) 0) (freely-still sort 0 x)

@@ -1,4 +1,5 @@
 -- Typing by the form of the term is typing.
+use Rattle.cc_core.proofs.SubcapturingContexts.{IsKindedContext, IsKindedContext-from}
 use Rattle.std.proofs.Common.{◌≡◌, ◌≢◌, ℕ, List, [], ◌∷◌, length, refl, sym, subst, arith}
 use Rattle.std.proofs.lemmas.Bool.{and_parts, and_from}
 use Rattle.cc_capture.specs.declared.var.Var.{Var}
@@ -13,17 +14,18 @@ use Rattle.cc_core.specs.WellFormed.{Kind, TermKind, TypeKind, kinds_of, is_well
 use Rattle.cc_core.specs.Subcapturing.{Subcaptures}
 use Rattle.cc_core.specs.Typing.{HasTyping, t-var, t-lit, t-abs, t-tabs, t-app, t-tapp, t-box, t-unbox, t-let, t-prim, t-if, t-repeat, t-op, t-op-alone, t-boundary, t-exit, t-sub, HasType}
 use Rattle.cc_core.proofs.Moving.{Member-single}
-use Rattle.cc_core.proofs.Opening.{closed-opened, closed_set-opened, opened-closed, opened_set-closed}
+use Rattle.cc_core.proofs.Opening.{closed-opened, opened-closed}
 use Rattle.cc_core.proofs.Conditions.{gives_here, Meets-here, MeetsInSet-here}
 use Rattle.cc_core.proofs.KindFacts.{IsKindedSet, IsKinded, IsKindedTerm, IsKinded-from, IsKinded-test, IsKindedSet-from, IsKindedSet-test, IsKindedTerm-from, IsKindedTerm-test}
 use Rattle.cc_core.proofs.KindedActions.{IsKinded-meets, IsKindedSet-meets}
 use Rattle.cc_meta_typing.proofs.DirectSubtyping.{direct_from, direct_to}
-use Rattle.cc_meta_typing.proofs.FormedContexts.{IsKindedContext, IsKindedContext-from, IsKindedContext-test, length-kinds_of, kinded_single, kinds_below, kinds_bound, IsKindedTerm-opened, IsKinded-closed, IsKindedSet-closed, IsKinded-without, IsKindedSet-without}
+use Rattle.cc_meta_typing.proofs.FormedContexts.{IsKindedContext-test, length-kinds_of, kinded_single, kinds_below, kinds_bound, IsKinded-without, IsKindedSet-without, HasKinds-closed, HasKinds-opened}
 use Rattle.cc_meta_typing.proofs.InternalTyping.{HasVariable, TypedExactly, exact_variable, exact_literal, exact_function, exact_type_function, exact_application, exact_type_application, exact_box, exact_unboxing, exact_let, exact_primitive, exact_conditional, exact_repetition, exact_operation, exact_operation_alone, exact_boundary, exact_leave, Typed, widened}
 use Rattle.cc_meta_typing.proofs.TypingMaps.{typed_is, typed_kinded, typed_kinded_set, typed_wider, typed_exactly}
 use Rattle.cc_meta_typing.proofs.TypingLemmas.{variable_typed}
+use Rattle.cc_core.proofs.Sorts.{SetSort, ShapeSort, TermSort}
 
-formed_type_parts : (g : Context) (s : Shape) (c : Set) → IsWellFormedType g (capturing s c) → IsKinded (kinds_of g) [] s × IsKindedSet (kinds_of g) [] c
+pub formed_type_parts : (g : Context) (s : Shape) (c : Set) → IsWellFormedType g (capturing s c) → IsKinded (kinds_of g) [] s × IsKindedSet (kinds_of g) [] c
 formed_type_parts g s c h =
     let parts = and_parts (is_well_formed_shape (kinds_of g) [] s) (is_well_formed_set (kinds_of g) [] c) h in
     (IsKinded-from (kinds_of g) [] s parts.0, IsKindedSet-from (kinds_of g) [] c parts.1)
@@ -32,7 +34,7 @@ pub formed_type_from : (g : Context) (s : Shape) (c : Set) → IsKinded (kinds_o
 formed_type_from g s c ks kc = and_from (is_well_formed_shape (kinds_of g) [] s) (is_well_formed_set (kinds_of g) [] c) (IsKinded-test (kinds_of g) [] s ks) (IsKindedSet-test (kinds_of g) [] c kc)
 
 -- what is well formed in a context has its positions below the next one, and none open
-below_is_other : (n d : ℕ) (v : Var) → IsPositionBelow n v → v ≢ Free n
+pub below_is_other : (n d : ℕ) (v : Var) → IsPositionBelow n v → v ≢ Free n
 below_is_other n d (Free p) h e = let same : p ≡ n = cc in omega arith
 below_is_other n d (Bound i) h e = cc
 
@@ -46,10 +48,10 @@ fresh_in_set g beyond c k =
     MeetsInSet-here (positions_below (length g)) (without (length g)) (gives_here _ _ (λ d v h. below_is_other (length g) d v h)) 0 c
     (IsKindedSet-meets (kinds_of g) beyond (positions_below (length g)) (kinds_below (length g) (kinds_of g) beyond (length-kinds_of g)) [] c k)
 
-closed_in : (g : Context) (s : Shape) → IsKinded (kinds_of g) [] s → Meets (bound_within 0) 0 s
+pub closed_in : (g : Context) (s : Shape) → IsKinded (kinds_of g) [] s → Meets (bound_within 0) 0 s
 closed_in g s k = IsKinded-meets (kinds_of g) [] (bound_within 0) (kinds_bound (kinds_of g)) [] s k
 
-closed_in_set : (g : Context) (c : Set) → IsKindedSet (kinds_of g) [] c → MeetsInSet (bound_within 0) 0 c
+pub closed_in_set : (g : Context) (c : Set) → IsKindedSet (kinds_of g) [] c → MeetsInSet (bound_within 0) 0 c
 closed_in_set g c k = IsKindedSet-meets (kinds_of g) [] (bound_within 0) (kinds_bound (kinds_of g)) [] c k
 
 -- each typed term is typed by its form
@@ -59,19 +61,19 @@ internal_from t-lit formed k = typed_exactly formed k exact_literal
 internal_from (t-abs {context = g} {takes = takes} {gives = gives} {c = c} {e = e} {body = body} wf typing) formed k =
     let n : ℕ = length g in
     let len = length-kinds_of g in
-    let typed = internal_from typing ((k.0, k.1), formed) (IsKindedTerm-opened n TermKind (kinds_of g) len body k.2) in
+    let typed = internal_from typing ((k.0, k.1), formed) (HasKinds-opened n TermKind (kinds_of g) len TermSort body k.2) in
     let g' : Context = TermEntry takes c ∷ g in
     typed_exactly formed k
-    (exact_function (IsKinded-closed n TermKind (kinds_of g) len gives (typed_kinded typed)) (IsKindedSet-closed n TermKind (kinds_of g) len e (typed_kinded_set typed))
-    (typed_is refl (sym (opened-closed n 0 gives (closed_in g' gives (typed_kinded typed)))) (sym (opened_set-closed n 0 e (closed_in_set g' e (typed_kinded_set typed)))) typed))
+    (exact_function (HasKinds-closed n TermKind (kinds_of g) len ShapeSort gives (typed_kinded typed)) (HasKinds-closed n TermKind (kinds_of g) len SetSort e (typed_kinded_set typed))
+    (typed_is refl (sym (opened-closed ShapeSort n 0 gives (closed_in g' gives (typed_kinded typed)))) (sym (opened-closed SetSort n 0 e (closed_in_set g' e (typed_kinded_set typed)))) typed))
 internal_from (t-tabs {context = g} {bound = bound} {gives = gives} {e = e} {body = body} wf typing) formed k =
     let n : ℕ = length g in
     let len = length-kinds_of g in
-    let typed = internal_from typing (k.0, formed) (IsKindedTerm-opened n TypeKind (kinds_of g) len body k.1) in
+    let typed = internal_from typing (k.0, formed) (HasKinds-opened n TypeKind (kinds_of g) len TermSort body k.1) in
     let g' : Context = TypeEntry bound ∷ g in
     typed_exactly formed k
-    (exact_type_function (IsKinded-closed n TypeKind (kinds_of g) len gives (typed_kinded typed)) (IsKindedSet-closed n TypeKind (kinds_of g) len e (typed_kinded_set typed))
-    (typed_is refl (sym (opened-closed n 0 gives (closed_in g' gives (typed_kinded typed)))) (sym (opened_set-closed n 0 e (closed_in_set g' e (typed_kinded_set typed)))) typed))
+    (exact_type_function (HasKinds-closed n TypeKind (kinds_of g) len ShapeSort gives (typed_kinded typed)) (HasKinds-closed n TypeKind (kinds_of g) len SetSort e (typed_kinded_set typed))
+    (typed_is refl (sym (opened-closed ShapeSort n 0 gives (closed_in g' gives (typed_kinded typed)))) (sym (opened-closed SetSort n 0 e (closed_in_set g' e (typed_kinded_set typed)))) typed))
 internal_from (t-app function argument) formed k =
     typed_exactly formed k (exact_application (variable_typed (internal_from function formed k.0)) (variable_typed (internal_from argument formed k.1)))
 internal_from (t-tapp function below wf) formed k =
@@ -82,7 +84,7 @@ internal_from (t-let {context = g} {note = note} {right = right} {body = body} {
     let n : ℕ = length g in
     let len = length-kinds_of g in
     let typed = internal_from typing formed k.1 in
-    let typed_body = internal_from typing_body ((typed_kinded typed, typed_kinded_set typed), formed) (IsKindedTerm-opened n TermKind (kinds_of g) len body k.2) in
+    let typed_body = internal_from typing_body ((typed_kinded typed, typed_kinded_set typed), formed) (HasKinds-opened n TermKind (kinds_of g) len TermSort body k.2) in
     typed_exactly formed k
     (exact_let typed is typed_body
     (IsKinded-without n TermKind (kinds_of g) len [] 0 s (typed_kinded typed_body) ns)
@@ -94,19 +96,19 @@ internal_from (t-repeat count function) formed k = typed_exactly formed k (exact
 internal_from (t-op receiver taken argument) formed k = typed_exactly formed k (exact_operation (variable_typed (internal_from receiver formed k.0)) taken (variable_typed (internal_from argument formed k.1)))
 internal_from (t-op-alone receiver taken) formed k = typed_exactly formed k (exact_operation_alone (variable_typed (internal_from receiver formed k.0)) taken)
 internal_from (t-boundary {context = g} {body = body} wf typing) formed k =
-    typed_exactly formed k (exact_boundary (internal_from typing ((k.0, kinded_single (kinds_of g) [] Cap tt), formed) (IsKindedTerm-opened (length g) TermKind (kinds_of g) (length-kinds_of g) body k.1)))
+    typed_exactly formed k (exact_boundary (internal_from typing ((k.0, kinded_single (kinds_of g) [] Cap tt), formed) (HasKinds-opened (length g) TermKind (kinds_of g) (length-kinds_of g) TermSort body k.1)))
 internal_from (t-exit exit value wf) formed k = typed_exactly formed k (exact_leave (variable_typed (internal_from exit formed k.2)) (variable_typed (internal_from value formed k.3)))
 internal_from (t-sub {context = g} {shape' = s'} {c' = c'} typing captures below wf) formed k =
     let parts = formed_type_parts g s' c' wf in
     typed_wider (internal_from typing formed k) captures (direct_from below) parts.0 parts.1
 
 -- and the other way round
-has_typing_variable : {g : Context} {v : Var} {s : Shape} {c : Set} → HasVariable g v s c → HasTyping g (VariableTerm v) s c
+pub has_typing_variable : {g : Context} {v : Var} {s : Shape} {c : Set} → HasVariable g v s c → HasTyping g (VariableTerm v) s c
 has_typing_variable {g = g} {s = s} {c = c} has =
     subst (λ w. HasTyping g (VariableTerm w) s c) (sym has.is)
     (t-sub (t-var has.there) (λ x h. subst (λ y. Subcaptures g y c) (sym (Member-single x (Variable (Free has.position)) h)) has.captured) (direct_to has.below) (formed_type_from g s c has.kinded has.kinded_set))
 
-typing_is : {g : Context} {t : Term} {s s' : Shape} {c c' : Set} → s ≡ s' → c ≡ c' → HasTyping g t s c → HasTyping g t s' c'
+pub typing_is : {g : Context} {t : Term} {s s' : Shape} {c c' : Set} → s ≡ s' → c ≡ c' → HasTyping g t s c → HasTyping g t s' c'
 typing_is {g = g} {t = t} {s' = s'} {c = c} es ec h = subst (HasTyping g t s') ec (subst (λ x. HasTyping g t x c) es h)
 
 mutual
@@ -115,11 +117,11 @@ mutual
   exact_typing exact_literal k = t-lit
   exact_typing (exact_function {g = g} {takes = takes} {gives = gives} {c = c} {e = e} kg ke typed) k =
       typing_is
-      (λ i. FunctionShape takes c (closed-opened (length g) 0 gives (fresh_in g (TermKind ∷ []) gives kg) i) (closed_set-opened (length g) 0 e (fresh_in_set g (TermKind ∷ []) e ke) i)) refl
+      (λ i. FunctionShape takes c (closed-opened ShapeSort (length g) 0 gives (fresh_in g (TermKind ∷ []) gives kg) i) (closed-opened SetSort (length g) 0 e (fresh_in_set g (TermKind ∷ []) e ke) i)) refl
       (t-abs (formed_type_from g takes c k.0 k.1) (internal_typing typed))
   exact_typing (exact_type_function {g = g} {bound = bound} {gives = gives} {e = e} kg ke typed) k =
       typing_is
-      (λ i. TypeFunctionShape bound (closed-opened (length g) 0 gives (fresh_in g (TypeKind ∷ []) gives kg) i) (closed_set-opened (length g) 0 e (fresh_in_set g (TypeKind ∷ []) e ke) i)) refl
+      (λ i. TypeFunctionShape bound (closed-opened ShapeSort (length g) 0 gives (fresh_in g (TypeKind ∷ []) gives kg) i) (closed-opened SetSort (length g) 0 e (fresh_in_set g (TypeKind ∷ []) e ke) i)) refl
       (t-tabs (IsKinded-test (kinds_of g) [] bound k.0) (internal_typing typed))
   exact_typing (exact_application function argument) k = t-app (has_typing_variable function) (has_typing_variable argument)
   exact_typing (exact_type_application {g = g} {argument = r} function below) k = t-tapp (has_typing_variable function) (direct_to below) (IsKinded-test (kinds_of g) [] r k.1)

@@ -1,15 +1,15 @@
 -- Typing by the form of the term, where each term's type is widened exactly once. It is the same relation as typing.
-use Rattle.std.proofs.Common.{◌≡◌, ℕ, zero, suc, Bool, true, false, cond, List, [], ◌∷◌, length, Option, Some, None, inl, inr, sym, subst}
+use Rattle.cc_core.proofs.SubcapturingContexts.{IsKindedContext, entry_kinded}
+use Rattle.cc_core.proofs.Sorts.{SetSort, ShapeSort}
+use Rattle.std.proofs.Common.{◌≡◌, ℕ, List, [], ◌∷◌, length, Some, None, sym, subst}
 use Rattle.cc_base.specs.declared.literal.Base.{Base}
 use Rattle.cc_base.specs.declared.literal.Base.TheVariants as bases
 use Rattle.cc_base.specs.declared.literal.Operator.{Operator}
 use Rattle.cc_base.specs.declared.literal.Op.{Op}
 use Rattle.cc_capture.specs.declared.var.Var.{Var}
-use Rattle.cc_capture.specs.declared.var.Var.TheVariants.{Bound, Free}
-use Rattle.cc_capture.specs.declared.var.Elem.{Elem}
-use Rattle.cc_capture.specs.declared.var.Elem.TheVariants.{Var as Variable, Cap, Hole}
-use Rattle.cc_capture.specs.Sets.{Set, empty, union}
-use Rattle.cc_capture.proofs.Membership.{Member-flat_image, Member-empty, Member-union}
+use Rattle.cc_capture.specs.declared.var.Var.TheVariants.{Free}
+use Rattle.cc_capture.specs.declared.var.Elem.TheVariants.{Var as Variable, Cap}
+use Rattle.cc_capture.specs.Sets.{Set, empty}
 use Rattle.cc_core.specs.Shapes.{Shape, BaseShape, TypeVariable, FunctionShape, TypeFunctionShape, BoxShape, ExitShape}
 use Rattle.cc_base.specs.Literals.{Literal}
 use Rattle.cc_core.specs.Terms.{Note, Written, Term, VariableTerm, LiteralTerm, FunctionTerm, TypeFunctionTerm, BoxTerm, Application, TypeApplication, Unboxing, Let, Primitive, Conditional, Repetition, Operation, Boundary, Leave}
@@ -17,13 +17,14 @@ use Rattle.cc_core.specs.Contexts.{TermEntry, TypeEntry, Context, lookup}
 use Rattle.cc_core.specs.Traversal.{act, act_set}
 use Rattle.cc_core.specs.Substitution.{single, putting, putting_shape, opened, opened_set, opened_term, overridden}
 use Rattle.cc_core.specs.WellFormed.{Kind, TermKind, TypeKind, kinds_of}
-use Rattle.cc_core.specs.Captured.{outside, without_binder, variable_set, optional_set, optional_variable_set, is_unused_value, captured_variables}
+use Rattle.cc_core.specs.Captured.{without_binder, variable_set, captured_variables}
 use Rattle.cc_core.specs.Subcapturing.{Subcaptures, SubcapturesSet}
 use Rattle.cc_core.specs.Typing.{base_of, base_given, base_operated, base_taken, base_answered, IsNoteOf, HasNoCap}
-use Rattle.cc_core.proofs.KindFacts.{IsOfKind, IsKindedElement, IsKindedSet, IsKinded, IsKindedTerm, IsKindedOptionalSet, IsKindedOptional}
+use Rattle.cc_core.proofs.CapturedKinds.{empty_kinded, without_binder_kinded, captured_variables_kinded}
+use Rattle.cc_core.proofs.KindFacts.{IsKindedSet, IsKinded, IsKindedTerm}
 use Rattle.cc_meta_typing.proofs.DirectSubtyping.{SubtypesDirectly}
-use Rattle.cc_meta_typing.proofs.FormedContexts.{IsKindedContext, length-kinds_of, kinded_single, entry_kinded, IsKinded-opened, IsKindedSet-opened}
-use Rattle.cc_meta_typing.proofs.FreeMaps.{same_position, same_variable, map_kinded_at0, map_kinded_set, maps_value, maps_shape, value_put, value_put_set, shape_put, shape_put_set}
+use Rattle.cc_meta_typing.proofs.FormedContexts.{length-kinds_of, kinded_single, HasKinds-opened}
+use Rattle.cc_meta_typing.proofs.FreeMaps.{same_position, same_variable, map_kinds, maps_value, maps_shape, value_put, shape_put}
 
 -- a variable has the type: its entry's shape is below the shape, and it is below the set
 pub record HasVariable (g : Context) (v : Var) (s : Shape) (c : Set) : Type 0 where
@@ -94,108 +95,59 @@ mutual
         → Typed g t s' c'
 
 -- what is well formed captures what is well formed
-kinded_empty : (kinds passed : List Kind) → IsKindedSet kinds passed empty
-kinded_empty kinds passed x h = absurd (Member-empty x h)
-
-kinded_union : (kinds passed : List Kind) (a b : Set) → IsKindedSet kinds passed a → IsKindedSet kinds passed b → IsKindedSet kinds passed (union a b)
-kinded_union kinds passed a b ka kb x h = elim ((Member-union x a b).0 h) as (λ _. IsKindedElement kinds passed x) [ inl m ↦ ka x m | inr m ↦ kb x m ]
-
-kinded_outside : (kinds passed : List Kind) (k : Kind) (x : Elem) → IsKindedElement kinds (k ∷ passed) x → IsKindedSet kinds passed (outside x)
-kinded_outside kinds passed k (Variable (Bound zero)) h = kinded_empty kinds passed
-kinded_outside kinds passed k (Variable (Bound (suc i))) h = kinded_single kinds passed (Variable (Bound i)) h
-kinded_outside kinds passed k (Variable (Free p)) h = kinded_single kinds passed (Variable (Free p)) h
-kinded_outside kinds passed k Cap h = kinded_single kinds passed Cap tt
-kinded_outside kinds passed k (Hole n) h = kinded_single kinds passed (Hole n) tt
-
 pub kinded_without_binder : (kinds passed : List Kind) (k : Kind) (c : Set) → IsKindedSet kinds (k ∷ passed) c → IsKindedSet kinds passed (without_binder c)
-kinded_without_binder kinds passed k c h x m =
-    let from = (Member-flat_image outside x c).0 m in
-    kinded_outside kinds passed k from.0 (h from.0 from.1) x from.2
-
-kinded_cond : (kinds passed : List Kind) (t : Bool) (a b : Set) → IsKindedSet kinds passed a → IsKindedSet kinds passed b → IsKindedSet kinds passed (cond t a b)
-kinded_cond kinds passed true a b ka kb = ka
-kinded_cond kinds passed false a b ka kb = kb
-
-kinded_two : (kinds passed : List Kind) (v w : Var) → IsOfKind kinds passed v TermKind → IsOfKind kinds passed w TermKind → IsKindedSet kinds passed (union (variable_set v) (variable_set w))
-kinded_two kinds passed v w kv kw = kinded_union kinds passed (variable_set v) (variable_set w) (kinded_single kinds passed (Variable v) kv) (kinded_single kinds passed (Variable w) kw)
-
-kinded_optional_set : (kinds passed : List Kind) (o : Option Set) → IsKindedOptionalSet kinds passed o → IsKindedSet kinds passed (optional_set o)
-kinded_optional_set kinds passed None h = kinded_empty kinds passed
-kinded_optional_set kinds passed (Some c) h = h
-
-kinded_optional_variable : (kinds passed : List Kind) (o : Option Var) → IsKindedOptional kinds passed o → IsKindedSet kinds passed (optional_variable_set o)
-kinded_optional_variable kinds passed None h = kinded_empty kinds passed
-kinded_optional_variable kinds passed (Some v) h = kinded_single kinds passed (Variable v) h
+kinded_without_binder = without_binder_kinded
 
 pub captured_kinded : (kinds passed : List Kind) (t : Term) → IsKindedTerm kinds passed t → IsKindedSet kinds passed (captured_variables t)
-captured_kinded kinds passed (VariableTerm v) h = kinded_single kinds passed (Variable v) h
-captured_kinded kinds passed (LiteralTerm l) h = kinded_empty kinds passed
-captured_kinded kinds passed (FunctionTerm s c t) h = kinded_without_binder kinds passed TermKind (captured_variables t) (captured_kinded kinds (TermKind ∷ passed) t h.2)
-captured_kinded kinds passed (TypeFunctionTerm s t) h = kinded_without_binder kinds passed TypeKind (captured_variables t) (captured_kinded kinds (TypeKind ∷ passed) t h.1)
-captured_kinded kinds passed (BoxTerm v) h = kinded_empty kinds passed
-captured_kinded kinds passed (Application v w) h = kinded_two kinds passed v w h.0 h.1
-captured_kinded kinds passed (TypeApplication v s) h = kinded_single kinds passed (Variable v) h.0
-captured_kinded kinds passed (Unboxing o v) h = kinded_union kinds passed (optional_set o) (variable_set v) (kinded_optional_set kinds passed o h.0) (kinded_single kinds passed (Variable v) h.1)
-captured_kinded kinds passed (Let n s t) h =
-    let body = kinded_without_binder kinds passed TermKind (captured_variables t) (captured_kinded kinds (TermKind ∷ passed) t h.2) in
-    kinded_cond kinds passed (is_unused_value s (captured_variables t)) (without_binder (captured_variables t)) (union (captured_variables s) (without_binder (captured_variables t)))
-    body (kinded_union kinds passed (captured_variables s) (without_binder (captured_variables t)) (captured_kinded kinds passed s h.1) body)
-captured_kinded kinds passed (Primitive p v w) h = kinded_two kinds passed v w h.0 h.1
-captured_kinded kinds passed (Conditional n v s t) h =
-    kinded_union kinds passed (variable_set v) (union (captured_variables s) (captured_variables t)) (kinded_single kinds passed (Variable v) h.1)
-    (kinded_union kinds passed (captured_variables s) (captured_variables t) (captured_kinded kinds passed s h.2) (captured_kinded kinds passed t h.3))
-captured_kinded kinds passed (Repetition v w) h = kinded_two kinds passed v w h.0 h.1
-captured_kinded kinds passed (Operation p v o) h = kinded_union kinds passed (variable_set v) (optional_variable_set o) (kinded_single kinds passed (Variable v) h.0) (kinded_optional_variable kinds passed o h.1)
-captured_kinded kinds passed (Boundary s t) h = kinded_without_binder kinds passed TermKind (captured_variables t) (captured_kinded kinds (TermKind ∷ passed) t h.1)
-captured_kinded kinds passed (Leave s c v w) h = kinded_two kinds passed v w h.2 h.3
+captured_kinded = captured_variables_kinded
 
 -- putting a variable that has the type of the binder, or a shape below its bound, keeps what is well formed
 module _ (g : Context) (formed : IsKindedContext g) where
   pub put_kinded : (v : Var) (s : Shape) (c : Set) → HasVariable g v s c → (x : Shape) → IsKinded (kinds_of g) (TermKind ∷ []) x → IsKinded (kinds_of g) [] (act (putting v) 0 x)
   put_kinded v s c has x h =
       subst (λ w. IsKinded (kinds_of g) [] (act (putting w) 0 x)) (sym has.is)
-      (subst (IsKinded (kinds_of g) []) (value_put g has.position TermKind x h)
-      (map_kinded_at0 (TermEntry s c ∷ g) g (overridden same_position (length g) has.position) (overridden same_variable (length g) (TypeVariable (Free has.position)))
-      (maps_value g formed s c has.kinded has.kinded_set has.position has.shape has.set has.there has.below has.captured) []
-      (opened (length g) x) (IsKinded-opened (length g) TermKind (kinds_of g) (length-kinds_of g) x h)))
+      (subst (IsKinded (kinds_of g) []) (value_put g has.position TermKind ShapeSort x h)
+      (map_kinds (TermEntry s c ∷ g) g (overridden same_position (length g) has.position) (overridden same_variable (length g) (TypeVariable (Free has.position)))
+      (maps_value g formed s c has.kinded has.kinded_set has.position has.shape has.set has.there has.below has.captured) [] ShapeSort
+      (opened (length g) x) (HasKinds-opened (length g) TermKind (kinds_of g) (length-kinds_of g) ShapeSort x h)))
 
   pub put_kinded_set : (v : Var) (s : Shape) (c : Set) → HasVariable g v s c → (x : Set) → IsKindedSet (kinds_of g) (TermKind ∷ []) x → IsKindedSet (kinds_of g) [] (act_set (putting v) 0 x)
   put_kinded_set v s c has x h =
       subst (λ w. IsKindedSet (kinds_of g) [] (act_set (putting w) 0 x)) (sym has.is)
-      (subst (IsKindedSet (kinds_of g) []) (value_put_set g has.position TermKind x h)
-      (map_kinded_set (TermEntry s c ∷ g) g (overridden same_position (length g) has.position) (overridden same_variable (length g) (TypeVariable (Free has.position)))
-      (maps_value g formed s c has.kinded has.kinded_set has.position has.shape has.set has.there has.below has.captured) []
-      (opened_set (length g) x) (IsKindedSet-opened (length g) TermKind (kinds_of g) (length-kinds_of g) x h)))
+      (subst (IsKindedSet (kinds_of g) []) (value_put g has.position TermKind SetSort x h)
+      (map_kinds (TermEntry s c ∷ g) g (overridden same_position (length g) has.position) (overridden same_variable (length g) (TypeVariable (Free has.position)))
+      (maps_value g formed s c has.kinded has.kinded_set has.position has.shape has.set has.there has.below has.captured) [] SetSort
+      (opened_set (length g) x) (HasKinds-opened (length g) TermKind (kinds_of g) (length-kinds_of g) SetSort x h)))
 
   pub shape_put_kinded : (b r : Shape) → IsKinded (kinds_of g) [] b → IsKinded (kinds_of g) [] r → SubtypesDirectly g r b → (x : Shape) → IsKinded (kinds_of g) (TypeKind ∷ []) x → IsKinded (kinds_of g) [] (act (putting_shape r) 0 x)
   shape_put_kinded b r kb kr below x h =
-      subst (IsKinded (kinds_of g) []) (shape_put g r x h)
-      (map_kinded_at0 (TypeEntry b ∷ g) g same_position (overridden same_variable (length g) r) (maps_shape g formed b kb r kr below) []
-      (opened (length g) x) (IsKinded-opened (length g) TypeKind (kinds_of g) (length-kinds_of g) x h))
+      subst (IsKinded (kinds_of g) []) (shape_put g r ShapeSort x h)
+      (map_kinds (TypeEntry b ∷ g) g same_position (overridden same_variable (length g) r) (maps_shape g formed b kb r kr below) [] ShapeSort
+      (opened (length g) x) (HasKinds-opened (length g) TypeKind (kinds_of g) (length-kinds_of g) ShapeSort x h))
 
   pub shape_put_kinded_set : (b r : Shape) → IsKinded (kinds_of g) [] b → IsKinded (kinds_of g) [] r → SubtypesDirectly g r b → (x : Set) → IsKindedSet (kinds_of g) (TypeKind ∷ []) x → IsKindedSet (kinds_of g) [] (act_set (putting_shape r) 0 x)
   shape_put_kinded_set b r kb kr below x h =
-      subst (IsKindedSet (kinds_of g) []) (shape_put_set g r x h)
-      (map_kinded_set (TypeEntry b ∷ g) g same_position (overridden same_variable (length g) r) (maps_shape g formed b kb r kr below) []
-      (opened_set (length g) x) (IsKindedSet-opened (length g) TypeKind (kinds_of g) (length-kinds_of g) x h))
+      subst (IsKindedSet (kinds_of g) []) (shape_put g r SetSort x h)
+      (map_kinds (TypeEntry b ∷ g) g same_position (overridden same_variable (length g) r) (maps_shape g formed b kb r kr below) [] SetSort
+      (opened_set (length g) x) (HasKinds-opened (length g) TypeKind (kinds_of g) (length-kinds_of g) SetSort x h))
 
 -- the type that the form of a well-formed term gives is well formed
 pub exactly_kinded : {g : Context} {t : Term} {s : Shape} {c : Set} → TypedExactly g t s c → IsKindedContext g → IsKindedTerm (kinds_of g) [] t → IsKinded (kinds_of g) [] s × IsKindedSet (kinds_of g) [] c
 exactly_kinded (exact_variable {g = g} {p = p} {s = s} {c = c} there) formed k = ((entry_kinded g p (TermEntry s c) formed there).0, kinded_single (kinds_of g) [] (Variable (Free p)) k)
-exactly_kinded (exact_literal {g = g}) formed k = (tt, kinded_empty (kinds_of g) [])
+exactly_kinded (exact_literal {g = g}) formed k = (tt, empty_kinded (kinds_of g) [])
 exactly_kinded (exact_function {g = g} {takes = takes} {c = c} {body = body} kg ke typed) formed k = ((k.0, k.1, kg, ke), captured_kinded (kinds_of g) [] (FunctionTerm takes c body) k)
 exactly_kinded (exact_type_function {g = g} {bound = bound} {body = body} kg ke typed) formed k = ((k.0, kg, ke), captured_kinded (kinds_of g) [] (TypeFunctionTerm bound body) k)
 exactly_kinded (exact_application {g = g} {argument = argument} {takes = takes} {gives = gives} {c = c} {e = e} function has) formed k =
     (put_kinded g formed argument takes c has gives function.kinded.2, put_kinded_set g formed argument takes c has e function.kinded.3)
 exactly_kinded (exact_type_application {g = g} {bound = bound} {gives = gives} {argument = argument} {e = e} function below) formed k =
     (shape_put_kinded g formed bound argument function.kinded.0 k.1 below gives function.kinded.1, shape_put_kinded_set g formed bound argument function.kinded.0 k.1 below e function.kinded.2)
-exactly_kinded (exact_box {g = g} has none) formed k = ((has.kinded, has.kinded_set), kinded_empty (kinds_of g) [])
+exactly_kinded (exact_box {g = g} has none) formed k = ((has.kinded, has.kinded_set), empty_kinded (kinds_of g) [])
 exactly_kinded (exact_unboxing has none) formed k = has.kinded
 exactly_kinded (exact_let right is body ks ke) formed k = (ks, ke)
-exactly_kinded (exact_primitive {g = g} left right) formed k = (tt, kinded_empty (kinds_of g) [])
+exactly_kinded (exact_primitive {g = g} left right) formed k = (tt, empty_kinded (kinds_of g) [])
 exactly_kinded (exact_conditional test positive negative) formed k = k.0
-exactly_kinded (exact_repetition {g = g} count function) formed k = (tt, kinded_empty (kinds_of g) [])
-exactly_kinded (exact_operation {g = g} receiver taken argument) formed k = (tt, kinded_empty (kinds_of g) [])
-exactly_kinded (exact_operation_alone {g = g} receiver taken) formed k = (tt, kinded_empty (kinds_of g) [])
-exactly_kinded (exact_boundary {g = g} body) formed k = (k.0, kinded_empty (kinds_of g) [])
+exactly_kinded (exact_repetition {g = g} count function) formed k = (tt, empty_kinded (kinds_of g) [])
+exactly_kinded (exact_operation {g = g} receiver taken argument) formed k = (tt, empty_kinded (kinds_of g) [])
+exactly_kinded (exact_operation_alone {g = g} receiver taken) formed k = (tt, empty_kinded (kinds_of g) [])
+exactly_kinded (exact_boundary {g = g} body) formed k = (k.0, empty_kinded (kinds_of g) [])
 exactly_kinded (exact_leave exit value) formed k = (k.0, k.1)

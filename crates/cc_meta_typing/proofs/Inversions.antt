@@ -1,4 +1,5 @@
 -- The inversion of each form, from typing by form.
+use Rattle.cc_core.proofs.SubcapturingContexts.{IsKindedContext, IsKindedContext-from}
 use Rattle.std.proofs.Common.{◌≡◌, ℕ, zero, [], ◌∷◌, length, Option, Some, None, refl}
 use Rattle.std.proofs.lemmas.Bool.{and_from}
 use Rattle.cc_base.specs.declared.literal.Base.TheVariants as bases
@@ -23,25 +24,25 @@ use Rattle.cc_core.specs.Typing.{base_of, base_given, base_operated, base_taken,
 use Rattle.cc_core.proofs.KindFacts.{IsKindedSet, IsKinded, IsKinded-test, IsKindedSet-test}
 use Rattle.cc_meta_typing.specs.Inversion as law
 use Rattle.cc_meta_typing.proofs.DirectSubtyping.{direct_to}
-use Rattle.cc_meta_typing.proofs.FormedContexts.{IsKindedContext, IsKindedContext-from, kinded_single}
+use Rattle.cc_meta_typing.proofs.FormedContexts.{kinded_single}
 use Rattle.cc_meta_typing.proofs.InternalTyping.{HasVariable, exact_variable, exact_literal, exact_function, exact_type_function, exact_application, exact_type_application, exact_box, exact_unboxing, exact_let, exact_primitive, exact_conditional, exact_repetition, exact_operation, exact_operation_alone, exact_boundary, exact_leave, Typed, widened}
 use Rattle.cc_meta_typing.proofs.TypingMaps.{typed_kinded, typed_kinded_set, typed_kinded_term}
 use Rattle.cc_meta_typing.proofs.TypingLemmas.{has_variable_typed}
 use Rattle.cc_meta_typing.proofs.InternalConversions.{formed_type_from, fresh_in, fresh_in_set, typed_from, type_from}
 
 -- a part of a term that is typed by its form has its type
-whole : {g : Context} {t : Term} {s : Shape} {c : Set} → IsKindedContext g → Typed g t s c → HasType g t (capturing s c)
+pub whole : {g : Context} {t : Term} {s : Shape} {c : Set} → IsKindedContext g → Typed g t s c → HasType g t (capturing s c)
 whole formed typed = type_from formed (typed_kinded_term typed) typed
 
-operand : {g : Context} {v : Var} {s : Shape} {c : Set} → IsKindedContext g → HasVariable g v s c → HasType g (VariableTerm v) (capturing s c)
+pub operand : {g : Context} {v : Var} {s : Shape} {c : Set} → IsKindedContext g → HasVariable g v s c → HasType g (VariableTerm v) (capturing s c)
 operand formed has = whole formed (has_variable_typed has)
 
 -- what stands under one binder is well formed
-formed_under : (g : Context) (k : Kind) (s : Shape) (c : Set) → IsKinded (kinds_of g) (k ∷ []) s → IsKindedSet (kinds_of g) (k ∷ []) c → IsWellFormedTypeUnder g k (capturing s c)
+pub formed_under : (g : Context) (k : Kind) (s : Shape) (c : Set) → IsKinded (kinds_of g) (k ∷ []) s → IsKindedSet (kinds_of g) (k ∷ []) c → IsWellFormedTypeUnder g k (capturing s c)
 formed_under g k s c ks kc =
     and_from (is_well_formed_shape (kinds_of g) (k ∷ []) s) (is_well_formed_set (kinds_of g) (k ∷ []) c) (IsKinded-test (kinds_of g) (k ∷ []) s ks) (IsKindedSet-test (kinds_of g) (k ∷ []) c kc)
 
-formed_of : {g : Context} {t : Term} {type : CapturingType} → HasType g t type → IsKindedContext g
+pub formed_of : {g : Context} {t : Term} {type : CapturingType} → HasType g t type → IsKindedContext g
 formed_of {g = g} h = IsKindedContext-from g h.context_formed
 
 -- One by one.

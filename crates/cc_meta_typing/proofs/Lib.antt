@@ -12,9 +12,10 @@ pub mod FreeMaps
 pub mod InternalConversions
 pub mod InternalTyping
 pub mod Inversions
-pub mod KindedContexts
 pub mod MappedTyping
+pub mod TypedTerms
 pub mod TypingLemmas
 pub mod TypingMaps
 pub mod TypingTheorems
+pub mod UntypedTerms
 pub mod WorkedExamples

@@ -1,5 +1,6 @@
 -- Typing along maps of contexts: each map is one that sends variables of terms to themselves as type variables too, as far
 -- as well-formed terms and types can tell.
+use Rattle.cc_core.proofs.SubcapturingContexts.{IsKindedContext, IsKindedContext-from, entry_kinded, entry_of_type}
 use Rattle.std.proofs.Common.{◌≡◌, ℕ, List, [], Option, Some, None, refl, sym, ap, subst}
 use Rattle.cc_capture.specs.declared.var.Var.{Var}
 use Rattle.cc_capture.specs.declared.var.Var.TheVariants.{Bound, Free}
@@ -20,7 +21,6 @@ use Rattle.cc_core.proofs.KindedActions.{KindsGive, IsKinded-meets, IsKindedTerm
 use Rattle.cc_meta_typing.specs.ContextMaps.{Extends, unchanged, added, mapped, IsContextMap}
 use Rattle.cc_meta_typing.specs.MappedTyping.{TypingAlongMaps, TypingRenames}
 use Rattle.cc_meta_typing.proofs.DirectSubtyping.{SubtypesDirectly, direct_from, direct_transitive}
-use Rattle.cc_meta_typing.proofs.FormedContexts.{IsKindedContext, IsKindedContext-from, entry_kinded, type_entry_at}
 use Rattle.cc_meta_typing.proofs.FreeMaps.{Longer, as_is, more, Maps}
 use Rattle.cc_meta_typing.proofs.ContextMapInstances.{renaming_map}
 use Rattle.cc_meta_typing.proofs.InternalTyping.{Typed}
@@ -51,7 +51,7 @@ module _ (g d : Context) (to : ℕ → ℕ) (shapes : ℕ → Shape) (map : IsCo
 
   sent_variable : (passed : List Kind) (v : Var) → IsOfKind (kinds_of g) passed v TypeKind → free_shape sent v ≡ free_shape shapes v
   sent_variable passed (Bound i) h = refl
-  sent_variable passed (Free p) h = let found = type_entry_at g p h in sent_type p found.0 found.1
+  sent_variable passed (Free p) h = let found = entry_of_type g p h in sent_type p found.0 found.1
 
   kinds_agree : KindsGive (kinds_of g) [] (agreement (freely to sent) (freely to shapes))
   kinds_agree = record {

@@ -1,5 +1,7 @@
 -- What the map lemma gives: typing in longer contexts, of bodies with a variable or a shape put in, and what answers
 -- capture.
+use Rattle.cc_core.proofs.SubcapturingContexts.{IsKinded-added, IsKindedContext, IsKindedSet-added, entry_kinded, kind_of_entry}
+use Rattle.cc_core.proofs.Sorts.{ShapeSort, SetSort, TermSort}
 use Rattle.std.proofs.Common.{◌≡◌, ℕ, true, [], ◌∷◌, length, refl, sym, ap, ◌∙◌, subst}
 use Rattle.cc_capture.specs.declared.var.Var.{Var}
 use Rattle.cc_capture.specs.declared.var.Var.TheVariants.{Free}
@@ -18,8 +20,8 @@ use Rattle.cc_core.proofs.SubcapturingLemmas.{subcaptures_reflexive, subcaptures
 use Rattle.cc_core.proofs.Moving.{Member-single, Member-single_itself}
 use Rattle.cc_core.proofs.KindFacts.{IsKindedSet, IsKinded, IsKindedTerm}
 use Rattle.cc_meta_typing.proofs.DirectSubtyping.{SubtypesDirectly, alike}
-use Rattle.cc_meta_typing.proofs.FormedContexts.{IsKindedContext, length-kinds_of, entry_kinded, kind_of_entry, IsKinded-added, IsKindedSet-added, IsKinded-opened}
-use Rattle.cc_meta_typing.proofs.FreeMaps.{Longer, lookup-kept, subcaptures_element-kept, subtypes-kept, same_position, same_variable, still, still_set, still_term, maps_longer, maps_value, maps_shape, value_put, value_put_set, value_put_term, shape_put, shape_put_set, shape_put_term, map_subtypes, map_subcaptures, agree_shape, agree_set, variable_below_declared}
+use Rattle.cc_meta_typing.proofs.FormedContexts.{length-kinds_of, HasKinds-opened}
+use Rattle.cc_meta_typing.proofs.FreeMaps.{Longer, lookup-kept, subcaptures_element-kept, subtypes-kept, same_position, same_variable, still, still_set, still_term, maps_longer, maps_value, maps_shape, value_put, shape_put, map_subtypes, map_subcaptures, agree_kinded, variable_below_declared}
 use Rattle.cc_core.proofs.Renaming.{overridden-below}
 use Rattle.cc_meta_typing.proofs.InternalTyping.{HasVariable, TypedExactly, exact_variable, exact_literal, exact_function, exact_type_function, exact_application, exact_type_application, exact_box, exact_unboxing, exact_let, exact_primitive, exact_conditional, exact_repetition, exact_operation, exact_operation_alone, exact_boundary, exact_leave, Typed, widened}
 use Rattle.cc_meta_typing.proofs.TypingMaps.{typed_is, typed_wider, map_typed}
@@ -80,7 +82,7 @@ module _ (g : Context) (formed : IsKindedContext g) (s : Shape) (c : Set) (v : V
       → Typed (TermEntry s c ∷ g) (opened_term (length g) body) (opened (length g) gives) (opened_set (length g) e)
       → Typed g (act_term (putting (Free has.position)) 0 body) (act (putting (Free has.position)) 0 gives) (act_set (putting (Free has.position)) 0 e)
   put_typed body gives e kt kg ke typed =
-      typed_is (value_put_term g has.position TermKind body kt) (value_put g has.position TermKind gives kg) (value_put_set g has.position TermKind e ke)
+      typed_is (value_put g has.position TermKind TermSort body kt) (value_put g has.position TermKind ShapeSort gives kg) (value_put g has.position TermKind SetSort e ke)
       (map_typed typed g (overridden same_position (length g) has.position) (overridden same_variable (length g) (TypeVariable (Free has.position)))
       (maps_value g formed s c has.kinded has.kinded_set has.position has.shape has.set has.there has.below has.captured)
       ((has.kinded, has.kinded_set), formed))
@@ -98,9 +100,9 @@ module _ (g : Context) (formed : IsKindedContext g) (s : Shape) (c : Set) (v : V
   unfolding put_to put_shapes
   let_body_typed body gives e kt kg ke typed =
       subst (λ w. Typed g (act_term (putting w) 0 body) gives e) (sym has.is)
-      (typed_is (value_put_term g has.position TermKind body kt)
-      (agree_shape g same_position put_to same_variable put_shapes (overridden-below same_position (length g) has.position) (overridden-below same_variable (length g) (TypeVariable (Free has.position))) 0 gives kg ∙ still 0 gives)
-      (agree_set g same_position put_to same_variable put_shapes (overridden-below same_position (length g) has.position) (overridden-below same_variable (length g) (TypeVariable (Free has.position))) e ke ∙ still_set 0 e)
+      (typed_is (value_put g has.position TermKind TermSort body kt)
+      (agree_kinded g same_position put_to same_variable put_shapes (overridden-below same_position (length g) has.position) (overridden-below same_variable (length g) (TypeVariable (Free has.position))) ShapeSort gives kg ∙ still 0 gives)
+      (agree_kinded g same_position put_to same_variable put_shapes (overridden-below same_position (length g) has.position) (overridden-below same_variable (length g) (TypeVariable (Free has.position))) SetSort e ke ∙ still_set 0 e)
       (map_typed typed g put_to put_shapes
       (maps_value g formed s c has.kinded has.kinded_set has.position has.shape has.set has.there has.below has.captured)
       ((has.kinded, has.kinded_set), formed)))
@@ -110,20 +112,20 @@ module _ (g : Context) (formed : IsKindedContext g) (s : Shape) (c : Set) (v : V
   unfolding put_to put_shapes
   put_subtypes x y kx ky below =
       subst (λ w. SubtypesDirectly g (act (putting w) 0 x) (act (putting w) 0 y)) (sym has.is)
-      (subst (λ z. SubtypesDirectly g z (act (putting (Free has.position)) 0 y)) (value_put g has.position TermKind x kx)
-      (subst (λ z. SubtypesDirectly g (act (freely put_to put_shapes) 0 (opened (length g) x)) z) (value_put g has.position TermKind y ky)
+      (subst (λ z. SubtypesDirectly g z (act (putting (Free has.position)) 0 y)) (value_put g has.position TermKind ShapeSort x kx)
+      (subst (λ z. SubtypesDirectly g (act (freely put_to put_shapes) 0 (opened (length g) x)) z) (value_put g has.position TermKind ShapeSort y ky)
       (map_subtypes below g put_to put_shapes
       (maps_value g formed s c has.kinded has.kinded_set has.position has.shape has.set has.there has.below has.captured)
       ((has.kinded, has.kinded_set), formed)
-      (IsKinded-opened (length g) TermKind (kinds_of g) (length-kinds_of g) x kx) (IsKinded-opened (length g) TermKind (kinds_of g) (length-kinds_of g) y ky))))
+      (HasKinds-opened (length g) TermKind (kinds_of g) (length-kinds_of g) ShapeSort x kx) (HasKinds-opened (length g) TermKind (kinds_of g) (length-kinds_of g) ShapeSort y ky))))
 
   pub put_subcaptures : (x y : Set) → IsKindedSet (kinds_of g) (TermKind ∷ []) x → IsKindedSet (kinds_of g) (TermKind ∷ []) y
       → SubcapturesSet (TermEntry s c ∷ g) (opened_set (length g) x) (opened_set (length g) y) → SubcapturesSet g (act_set (putting v) 0 x) (act_set (putting v) 0 y)
   unfolding put_to put_shapes
   put_subcaptures x y kx ky below =
       subst (λ w. SubcapturesSet g (act_set (putting w) 0 x) (act_set (putting w) 0 y)) (sym has.is)
-      (subst (λ z. SubcapturesSet g z (act_set (putting (Free has.position)) 0 y)) (value_put_set g has.position TermKind x kx)
-      (subst (λ z. SubcapturesSet g (act_set (freely put_to put_shapes) 0 (opened_set (length g) x)) z) (value_put_set g has.position TermKind y ky)
+      (subst (λ z. SubcapturesSet g z (act_set (putting (Free has.position)) 0 y)) (value_put g has.position TermKind SetSort x kx)
+      (subst (λ z. SubcapturesSet g (act_set (freely put_to put_shapes) 0 (opened_set (length g) x)) z) (value_put g has.position TermKind SetSort y ky)
       (map_subcaptures (TermEntry s c ∷ g) g put_to put_shapes
       (maps_value g formed s c has.kinded has.kinded_set has.position has.shape has.set has.there has.below has.captured)
       (opened_set (length g) x) (opened_set (length g) y) below)))
@@ -134,22 +136,22 @@ module _ (g : Context) (formed : IsKindedContext g) (b r : Shape) (kb : IsKinded
       → Typed (TypeEntry b ∷ g) (opened_term (length g) body) (opened (length g) gives) (opened_set (length g) e)
       → Typed g (act_term (putting_shape r) 0 body) (act (putting_shape r) 0 gives) (act_set (putting_shape r) 0 e)
   type_body_typed body gives e kt kg ke typed =
-      typed_is (shape_put_term g r body kt) (shape_put g r gives kg) (shape_put_set g r e ke)
+      typed_is (shape_put g r TermSort body kt) (shape_put g r ShapeSort gives kg) (shape_put g r SetSort e ke)
       (map_typed typed g same_position (overridden same_variable (length g) r) (maps_shape g formed b kb r kr less) (kb, formed))
 
   pub shape_put_subtypes : (x y : Shape) → IsKinded (kinds_of g) (TypeKind ∷ []) x → IsKinded (kinds_of g) (TypeKind ∷ []) y
       → SubtypesDirectly (TypeEntry b ∷ g) (opened (length g) x) (opened (length g) y) → SubtypesDirectly g (act (putting_shape r) 0 x) (act (putting_shape r) 0 y)
   shape_put_subtypes x y kx ky below =
-      subst (λ z. SubtypesDirectly g z (act (putting_shape r) 0 y)) (shape_put g r x kx)
-      (subst (λ z. SubtypesDirectly g (act (freely same_position (overridden same_variable (length g) r)) 0 (opened (length g) x)) z) (shape_put g r y ky)
+      subst (λ z. SubtypesDirectly g z (act (putting_shape r) 0 y)) (shape_put g r ShapeSort x kx)
+      (subst (λ z. SubtypesDirectly g (act (freely same_position (overridden same_variable (length g) r)) 0 (opened (length g) x)) z) (shape_put g r ShapeSort y ky)
       (map_subtypes below g same_position (overridden same_variable (length g) r) (maps_shape g formed b kb r kr less) (kb, formed)
-      (IsKinded-opened (length g) TypeKind (kinds_of g) (length-kinds_of g) x kx) (IsKinded-opened (length g) TypeKind (kinds_of g) (length-kinds_of g) y ky)))
+      (HasKinds-opened (length g) TypeKind (kinds_of g) (length-kinds_of g) ShapeSort x kx) (HasKinds-opened (length g) TypeKind (kinds_of g) (length-kinds_of g) ShapeSort y ky)))
 
   pub shape_put_subcaptures : (x y : Set) → IsKindedSet (kinds_of g) (TypeKind ∷ []) x → IsKindedSet (kinds_of g) (TypeKind ∷ []) y
       → SubcapturesSet (TypeEntry b ∷ g) (opened_set (length g) x) (opened_set (length g) y) → SubcapturesSet g (act_set (putting_shape r) 0 x) (act_set (putting_shape r) 0 y)
   shape_put_subcaptures x y kx ky below =
-      subst (λ z. SubcapturesSet g z (act_set (putting_shape r) 0 y)) (shape_put_set g r x kx)
-      (subst (λ z. SubcapturesSet g (act_set (freely same_position (overridden same_variable (length g) r)) 0 (opened_set (length g) x)) z) (shape_put_set g r y ky)
+      subst (λ z. SubcapturesSet g z (act_set (putting_shape r) 0 y)) (shape_put g r SetSort x kx)
+      (subst (λ z. SubcapturesSet g (act_set (freely same_position (overridden same_variable (length g) r)) 0 (opened_set (length g) x)) z) (shape_put g r SetSort y ky)
       (map_subcaptures (TypeEntry b ∷ g) g same_position (overridden same_variable (length g) r) (maps_shape g formed b kb r kr less)
       (opened_set (length g) x) (opened_set (length g) y) below))
 

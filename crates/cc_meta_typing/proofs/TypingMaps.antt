@@ -1,5 +1,6 @@
 -- Typing goes along with maps of contexts: one lemma for weakening, renaming, narrowing, and substitution of variables and
 -- of shapes.
+use Rattle.cc_core.proofs.SubcapturingContexts.{IsKindedContext, IsKindedEntry, entry_kinded}
 use Rattle.std.proofs.Common.{◌≡◌, ℕ, [], ◌∷◌, length, refl, sym, ap, ◌∙◌, subst}
 use Rattle.cc_base.specs.declared.literal.Base.TheVariants as bases
 use Rattle.cc_capture.specs.declared.var.Var.{Var}
@@ -14,24 +15,22 @@ use Rattle.cc_core.specs.Terms.{Note, Absent, Written, Own, Term, FunctionTerm, 
 use Rattle.cc_core.specs.Contexts.{TermEntry, TypeEntry, Context}
 use Rattle.cc_core.specs.Traversal.{act, act_set, act_note, act_term}
 use Rattle.cc_core.specs.Substitution.{single, moved_element, putting, putting_shape, opened_term, renamed_variable, freely, overridden}
-use Rattle.cc_core.specs.Occurrences.{positions_below}
 use Rattle.cc_core.specs.WellFormed.{Kind, TermKind, TypeKind, kinds_of}
 use Rattle.cc_core.specs.Captured.{variable_set}
 use Rattle.cc_core.specs.Subcapturing.{SubcapturesSet}
 use Rattle.cc_core.specs.Typing.{IsNoteOf, HasNoCap}
 use Rattle.cc_core.proofs.SubcapturingLemmas.{subcaptures_reflexive, subcaptures_transitive}
 use Rattle.cc_core.proofs.Moving.{flat_image-of_single, Member-single, Member-single_itself}
-use Rattle.cc_core.proofs.FreeActions.{Sends, free-putting, free-putting_set, free-putting_shape, putting_shape_set}
-use Rattle.cc_core.proofs.Levels.{free_term-level}
-use Rattle.cc_core.proofs.Renaming.{freely-IsFree, freely-Sends, overridden-below}
-use Rattle.cc_core.proofs.FreshOpenings.{fresh_opening_term}
+use Rattle.cc_core.proofs.FreeActions.{Sends, free-putting, free-putting_shape, putting_shape_set}
+use Rattle.cc_core.proofs.Renaming.{IsFree-freely, Sends-freely, overridden-below}
 use Rattle.cc_core.proofs.KindFacts.{IsKindedSet, IsKinded, IsKindedTerm}
-use Rattle.cc_core.proofs.KindedActions.{IsKindedTerm-act, IsKindedTerm-meets}
+use Rattle.cc_core.proofs.KindedActions.{IsKindedTerm-act}
 use Rattle.cc_meta_typing.proofs.DirectSubtyping.{SubtypesDirectly, alike, direct_transitive}
-use Rattle.cc_core.proofs.CapturedActions.{captured_variables-act, freely-PassesBinders}
-use Rattle.cc_meta_typing.proofs.FormedContexts.{IsKindedEntry, IsKindedContext, length-kinds_of, kinded_single, entry_kinded, kinds_below}
-use Rattle.cc_meta_typing.proofs.FreeMaps.{as_is, Maps, maps_kinds, map_kinded, map_kinded_at0, map_kinded_set, map_level, map_element, map_subcaptures, agree_shape, agree_set, maps_under, opened_map, opened_map_set, map_subtypes}
+use Rattle.cc_core.proofs.CapturedActions.{captured_variables-act, PassesBinders-freely}
+use Rattle.cc_meta_typing.proofs.FormedContexts.{kinded_single}
+use Rattle.cc_meta_typing.proofs.FreeMaps.{as_is, Maps, maps_kinds, map_kinded, map_kinds, map_level, map_element, map_subcaptures, agree_kinded, maps_under, opened_map, map_subtypes}
 use Rattle.cc_meta_typing.proofs.InternalTyping.{HasVariable, TypedExactly, exact_variable, exact_literal, exact_function, exact_type_function, exact_application, exact_type_application, exact_box, exact_unboxing, exact_let, exact_primitive, exact_conditional, exact_repetition, exact_operation, exact_operation_alone, exact_boundary, exact_leave, Typed, widened, exactly_kinded}
+use Rattle.cc_core.proofs.Sorts.{SetSort, ShapeSort, TermSort}
 
 -- equal terms have the types of each other
 pub typed_is : {g : Context} {t t' : Term} {s s' : Shape} {c c' : Set} → t ≡ t' → s ≡ s' → c ≡ c' → Typed g t s c → Typed g t' s' c'
@@ -96,14 +95,14 @@ module _ (g d : Context) (to : ℕ → ℕ) (shapes : ℕ → Shape) (maps : Map
         below = entry.below d as_is (act (freely to shapes) 0 s)
             (map_subtypes has.below d to shapes maps formed (entry_kinded g has.position (TermEntry has.shape has.set) formed has.there).0 has.kinded);
         captured = map_element g d to shapes maps has.captured (Variable (Free (to has.position))) (Member-single_itself (Variable (Free (to has.position))));
-        kinded = map_kinded_at0 g d to shapes maps [] s has.kinded;
-        kinded_set = map_kinded_set g d to shapes maps [] c has.kinded_set;
+        kinded = map_kinds g d to shapes maps [] ShapeSort s has.kinded;
+        kinded_set = map_kinds g d to shapes maps [] SetSort c has.kinded_set;
       }
 
   sends_at : {v : Var} {s : Shape} {c : Set} → HasVariable g v s c → Sends (freely to shapes) v (renamed_variable to v)
   sends_at has =
       subst (λ w. Sends (freely to shapes) w (renamed_variable to w)) (sym has.is)
-      (freely-Sends to shapes has.position (maps.sends has.position has.shape has.set has.there))
+      (Sends-freely to shapes has.position (maps.sends has.position has.shape has.set has.there))
 
   map_nothing : (n : ℕ) → act_set (freely to shapes) n empty ≡ empty
   map_nothing n = flat_image-empty ((freely to shapes).element n)
@@ -124,19 +123,17 @@ module _ (g d : Context) (to : ℕ → ℕ) (shapes : ℕ → Shape) (maps : Map
   -- what is well formed before the binder is mapped alike under it
   pub same_under : (s : Shape) → IsKinded (kinds_of g) [] s → act (freely (overridden to (length g) (length d)) (overridden shapes (length g) (TypeVariable (Free (length d))))) 0 s ≡ act (freely to shapes) 0 s
   same_under s h =
-      agree_shape g to (overridden to (length g) (length d)) shapes (overridden shapes (length g) (TypeVariable (Free (length d))))
-      (overridden-below to (length g) (length d)) (overridden-below shapes (length g) (TypeVariable (Free (length d)))) 0 s h
+      agree_kinded g to (overridden to (length g) (length d)) shapes (overridden shapes (length g) (TypeVariable (Free (length d))))
+      (overridden-below to (length g) (length d)) (overridden-below shapes (length g) (TypeVariable (Free (length d)))) ShapeSort s h
 
   pub same_set_under : (c : Set) → IsKindedSet (kinds_of g) [] c → act_set (freely (overridden to (length g) (length d)) (overridden shapes (length g) (TypeVariable (Free (length d))))) 0 c ≡ act_set (freely to shapes) 0 c
   same_set_under c h =
-      agree_set g to (overridden to (length g) (length d)) shapes (overridden shapes (length g) (TypeVariable (Free (length d))))
-      (overridden-below to (length g) (length d)) (overridden-below shapes (length g) (TypeVariable (Free (length d)))) c h
+      agree_kinded g to (overridden to (length g) (length d)) shapes (overridden shapes (length g) (TypeVariable (Free (length d))))
+      (overridden-below to (length g) (length d)) (overridden-below shapes (length g) (TypeVariable (Free (length d)))) SetSort c h
 
   pub opened_term_map : (k : Kind) (t : Term) → IsKindedTerm (kinds_of g) (k ∷ []) t
       → act_term (freely (overridden to (length g) (length d)) (overridden shapes (length g) (TypeVariable (Free (length d))))) 0 (opened_term (length g) t) ≡ opened_term (length d) (act_term (freely to shapes) 1 t)
-  opened_term_map k t h =
-      fresh_opening_term (length g) (length d) to shapes maps.closed 0 t (IsKindedTerm-meets (kinds_of g) (k ∷ []) (positions_below (length g)) (kinds_below (length g) (kinds_of g) (k ∷ []) (length-kinds_of g)) [] t h)
-      ∙ ap (opened_term (length d)) (free_term-level (freely to shapes) (freely-IsFree to shapes maps.closed) 0 1 t)
+  opened_term_map = opened_map g d to shapes maps TermSort
 
 mutual
   map_exactly : {g : Context} {t : Term} {s : Shape} {c : Set} → TypedExactly g t s c → (d : Context) (to : ℕ → ℕ) (shapes : ℕ → Shape) → Maps g d to shapes → IsKindedContext g
@@ -156,30 +153,30 @@ mutual
       let under = maps_under g d to shapes maps formed (TermEntry takes c) entry in
       let body' = map_typed typed (TermEntry (act (freely to shapes) 0 takes) (act_set (freely to shapes) 0 c) ∷ d) (overridden to (length g) (length d)) (overridden shapes (length g) (TypeVariable (Free (length d)))) under (entry, formed) in
       exactly_below
-      (exactly_is refl (captured_variables-act (freely to shapes) (freely-PassesBinders to shapes) 0 (FunctionTerm takes c body))
-      (exact_function (map_kinded g d to shapes maps (TermKind ∷ []) 1 gives kg) (map_kinded_set g d to shapes maps (TermKind ∷ []) e ke)
-      (typed_is (opened_term_map g d to shapes maps formed TermKind body k.2) (opened_map g d to shapes maps formed (TermEntry takes c) entry TermKind gives kg) (opened_map_set g d to shapes maps formed (TermEntry takes c) entry TermKind e ke) body')))
+      (exactly_is refl (captured_variables-act (freely to shapes) (PassesBinders-freely to shapes) 0 (FunctionTerm takes c body))
+      (exact_function (map_kinded g d to shapes maps (TermKind ∷ []) 1 gives kg) (map_kinds g d to shapes maps (TermKind ∷ []) SetSort e ke)
+      (typed_is (opened_map g d to shapes maps TermSort TermKind body k.2) (opened_map g d to shapes maps ShapeSort TermKind gives kg) (opened_map g d to shapes maps SetSort TermKind e ke) body')))
   map_exactly (exact_type_function {g = g} {bound = bound} {gives = gives} {e = e} {body = body} kg ke typed) d to shapes maps formed k =
       let entry : IsKindedEntry (kinds_of g) (TypeEntry bound) = k.0 in
       let under = maps_under g d to shapes maps formed (TypeEntry bound) entry in
       let body' = map_typed typed (TypeEntry (act (freely to shapes) 0 bound) ∷ d) (overridden to (length g) (length d)) (overridden shapes (length g) (TypeVariable (Free (length d)))) under (entry, formed) in
       exactly_below
-      (exactly_is refl (captured_variables-act (freely to shapes) (freely-PassesBinders to shapes) 0 (TypeFunctionTerm bound body))
-      (exact_type_function (map_kinded g d to shapes maps (TypeKind ∷ []) 1 gives kg) (map_kinded_set g d to shapes maps (TypeKind ∷ []) e ke)
-      (typed_is (opened_term_map g d to shapes maps formed TypeKind body k.1) (opened_map g d to shapes maps formed (TypeEntry bound) entry TypeKind gives kg) (opened_map_set g d to shapes maps formed (TypeEntry bound) entry TypeKind e ke) body')))
+      (exactly_is refl (captured_variables-act (freely to shapes) (PassesBinders-freely to shapes) 0 (TypeFunctionTerm bound body))
+      (exact_type_function (map_kinded g d to shapes maps (TypeKind ∷ []) 1 gives kg) (map_kinds g d to shapes maps (TypeKind ∷ []) SetSort e ke)
+      (typed_is (opened_map g d to shapes maps TermSort TypeKind body k.1) (opened_map g d to shapes maps ShapeSort TypeKind gives kg) (opened_map g d to shapes maps SetSort TypeKind e ke) body')))
   map_exactly (exact_application {g = g} {function = v} {argument = w} {takes = takes} {gives = gives} {c = c} {e = e} function argument) d to shapes maps formed k =
-      let f = freely-IsFree to shapes maps.closed in
+      let f = IsFree-freely to shapes maps.closed in
       let sends = sends_at g d to shapes maps formed argument in
       exactly_below
       (exactly_is
-      (ap (act (putting (renamed_variable to w)) 0) (map_level g d to shapes maps 1 0 gives) ∙ sym (free-putting (freely to shapes) f w (renamed_variable to w) sends 0 gives))
-      (sym (free-putting_set (freely to shapes) f w (renamed_variable to w) sends 0 e))
+      (ap (act (putting (renamed_variable to w)) 0) (map_level g d to shapes maps 1 0 gives) ∙ sym (free-putting (freely to shapes) f w (renamed_variable to w) sends ShapeSort 0 gives))
+      (sym (free-putting (freely to shapes) f w (renamed_variable to w) sends SetSort 0 e))
       (exact_application (map_variable g d to shapes maps formed function) (map_variable g d to shapes maps formed argument)))
   map_exactly (exact_type_application {g = g} {function = v} {bound = bound} {gives = gives} {argument = r} {e = e} function below) d to shapes maps formed k =
-      let f = freely-IsFree to shapes maps.closed in
+      let f = IsFree-freely to shapes maps.closed in
       exactly_below
       (exactly_is
-      (ap (act (putting_shape (act (freely to shapes) 0 r)) 0) (map_level g d to shapes maps 1 0 gives) ∙ sym (free-putting_shape (freely to shapes) f r 0 gives))
+      (ap (act (putting_shape (act (freely to shapes) 0 r)) 0) (map_level g d to shapes maps 1 0 gives) ∙ sym (free-putting_shape (freely to shapes) f r ShapeSort 0 gives))
       (putting_shape_set (act (freely to shapes) 0 r) 0 (act_set (freely to shapes) 0 e) ∙ ap (act_set (freely to shapes) 0) (sym (putting_shape_set r 0 e)))
       (exact_type_application (map_variable g d to shapes maps formed function) (map_subtypes below d to shapes maps formed k.1 function.kinded.0)))
   map_exactly (exact_box {g = g} {c = c} has none) d to shapes maps formed k =
@@ -193,8 +190,8 @@ mutual
       let body' = map_typed typed_body (TermEntry (act (freely to shapes) 0 bound) (act_set (freely to shapes) 0 c) ∷ d) (overridden to (length g) (length d)) (overridden shapes (length g) (TypeVariable (Free (length d)))) under (entry, formed) in
       exactly_below
       (exact_let right' (map_note g d to shapes maps formed note bound c is)
-      (typed_is (opened_term_map g d to shapes maps formed TermKind body k.2) (same_under g d to shapes maps formed s ks) (same_set_under g d to shapes maps formed e ke) body')
-      (map_kinded_at0 g d to shapes maps [] s ks) (map_kinded_set g d to shapes maps [] e ke))
+      (typed_is (opened_map g d to shapes maps TermSort TermKind body k.2) (same_under g d to shapes maps formed s ks) (same_set_under g d to shapes maps formed e ke) body')
+      (map_kinds g d to shapes maps [] ShapeSort s ks) (map_kinds g d to shapes maps [] SetSort e ke))
   map_exactly (exact_primitive {g = g} left right) d to shapes maps formed k =
       exactly_below (exactly_is refl (sym (map_nothing g d to shapes maps formed 0)) (exact_primitive (map_variable g d to shapes maps formed left) (map_variable g d to shapes maps formed right)))
   map_exactly (exact_conditional {g = g} test positive negative) d to shapes maps formed k =
@@ -212,7 +209,7 @@ mutual
       let entry : IsKindedEntry (kinds_of g) (TermEntry (ExitShape gives) (single Cap)) = (k.0, kinded_single (kinds_of g) [] Cap tt) in
       let under = maps_under g d to shapes maps formed (TermEntry (ExitShape gives) (single Cap)) entry in
       let body' = map_typed typed (TermEntry (ExitShape (act (freely to shapes) 0 gives)) (act_set (freely to shapes) 0 (single Cap)) ∷ d) (overridden to (length g) (length d)) (overridden shapes (length g) (TypeVariable (Free (length d)))) under (entry, formed) in
-      let body'' = typed_is (opened_term_map g d to shapes maps formed TermKind body k.1) (same_under g d to shapes maps formed gives k.0)
+      let body'' = typed_is (opened_map g d to shapes maps TermSort TermKind body k.1) (same_under g d to shapes maps formed gives k.0)
       (flat_image-empty ((freely (overridden to (length g) (length d)) (overridden shapes (length g) (TypeVariable (Free (length d))))).element 0)) body' in
       exactly_below
       (exactly_is refl (sym (map_nothing g d to shapes maps formed 0))
@@ -229,4 +226,4 @@ mutual
       widened (map_kinded_term g d to shapes maps formed t kt) at.exact
       (subcaptures_transitive d at.set (act_set (freely to shapes) 0 c) (act_set (freely to shapes) 0 c') at.captures (map_subcaptures g d to shapes maps c c' captures))
       (direct_transitive d at.shape (act (freely to shapes) 0 s) (act (freely to shapes) 0 s') at.below (map_subtypes below d to shapes maps formed k.0 ks))
-      (map_kinded_at0 g d to shapes maps [] s' ks) (map_kinded_set g d to shapes maps [] c' kc)
+      (map_kinds g d to shapes maps [] ShapeSort s' ks) (map_kinds g d to shapes maps [] SetSort c' kc)

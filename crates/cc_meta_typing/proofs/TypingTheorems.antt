@@ -1,23 +1,31 @@
 -- The laws of typing, from those of typing by form.
-use Rattle.std.proofs.Common.{◌≡◌, ℕ, true, List, [], ◌∷◌, ◌++◌, Some, inl, inr, refl, ap, ◌∙◌, subst}
+use Rattle.std.proofs.Common.{◌≡◌, ℕ, true, List, [], ◌∷◌, ◌++◌, Some, inl, inr, refl, sym, ap, ◌∙◌, subst}
 use Rattle.std.proofs.lemmas.Bool.{and_parts}
+use Rattle.cc_capture.specs.declared.var.Var.{Var}
 use Rattle.cc_capture.specs.declared.var.Var.TheVariants.{Free}
-use Rattle.cc_capture.specs.declared.var.Elem.TheVariants.{Var as Variable}
-use Rattle.cc_capture.specs.Sets.{Set}
-use Rattle.cc_core.specs.Shapes.{Shape, CapturingType}
+use Rattle.cc_capture.specs.declared.var.Elem.TheVariants.{Var as Variable, Cap}
+use Rattle.cc_capture.specs.Sets.{Set, Member, empty}
+use Rattle.cc_core.specs.Shapes.{Shape, BoxShape, CapturingType}
+use Rattle.cc_core.specs.Terms.{BoxTerm}
+use Rattle.cc_core.specs.Captured.{variable_set}
+use Rattle.cc_core.specs.Typing.{HasNoCap}
 use Rattle.cc_core.specs.Contexts.{Bind, TermEntry, TypeEntry, Context, lookup}
 use Rattle.cc_core.specs.Traversal.{act, act_set}
 use Rattle.cc_core.specs.Substitution.{freely}
 use Rattle.cc_core.specs.WellFormed.{Kind, TermKind, TypeKind, kinds_of, is_well_formed_shape, is_well_formed_set, is_well_formed_type}
-use Rattle.cc_core.specs.Subcapturing.{Subcaptures, variable, SubcapturesSet}
+use Rattle.cc_core.specs.Subcapturing.{Subcaptures, element, variable, SubcapturesSet}
 use Rattle.cc_core.proofs.Lookups.{lookup-newest}
-use Rattle.cc_core.proofs.KindFacts.{IsKindedSet, IsKinded, IsKinded-from, IsKindedSet-from, IsKindedTerm-from}
-use Rattle.cc_meta_typing.specs.TypingLaws.{TypingWeakens, TypingNarrows, VariablesSubstitute, ShapesSubstitute, ValuesCaptureTheirSets}
-use Rattle.cc_meta_typing.proofs.DirectSubtyping.{SubtypesDirectly, through_bound, direct_from}
-use Rattle.cc_meta_typing.proofs.FormedContexts.{IsKindedContext, IsKindedContext-from, kind_of_entry}
-use Rattle.cc_meta_typing.proofs.FreeMaps.{Longer, as_is, more, longer-tail, lookup-kept, lookup_cases, still, still_set, still_term, same_position, same_variable, Maps, EntryBelow, subtypes-kept, subcaptures-kept}
-use Rattle.cc_core.proofs.SubcapturingLemmas.{subcaptures_transitive}
+use Rattle.cc_core.proofs.CapturedKinds.{empty_kinded}
+use Rattle.cc_core.proofs.Moving.{Member-single, Member-single_itself}
+use Rattle.cc_core.proofs.KindFacts.{IsKindedElement, IsKindedSet, IsKinded, IsKinded-from, IsKindedSet-from, IsKindedTerm-from}
+use Rattle.cc_meta_typing.specs.TypingLaws.{TypingWeakens, TypingNarrows, VariablesSubstitute, ShapesSubstitute, ValuesCaptureTheirSets, BoxesAreOfAnyTypeOfTheirContent}
+use Rattle.cc_meta_typing.proofs.DirectSubtyping.{SubtypesDirectly, alike, boxes, through_bound, direct_from}
+use Rattle.cc_meta_typing.proofs.FreeMaps.{no_type_entry, Longer, as_is, more, longer-tail, lookup-kept, lookup_cases, still, still_set, still_term, same_position, same_variable, Maps, EntryBelow, subtypes-kept, subcaptures-kept}
+use Rattle.cc_core.proofs.SubcapturingContexts.{IsKindedContext, IsKindedContext-from, kind_of_entry}
+use Rattle.cc_core.proofs.SubcapturingLemmas.{subcaptures_reflexive, subcaptures_transitive}
 use Rattle.cc_meta_typing.proofs.DirectSubtyping.{direct_transitive}
+use Rattle.cc_meta_typing.proofs.FormedContexts.{kinded_single}
+use Rattle.cc_meta_typing.proofs.InternalTyping.{HasVariable, exact_box, Typed, widened}
 use Rattle.cc_meta_typing.proofs.TypingMaps.{typed_is, typed_kinded_term, map_typed}
 use Rattle.cc_meta_typing.proofs.TypingLemmas.{typed_longer, variable_typed, body_typed, type_body_typed, answer_captures}
 use Rattle.cc_meta_typing.proofs.InternalConversions.{typed_from, type_from}
@@ -51,9 +59,6 @@ shapes_substitute g bound shape type body kb kt h ks below =
     type_from outer.1 (typed_kinded_term typed) typed
 
 -- Narrowing: the map that leaves each variable, into a context where the newest has a smaller type.
-no_type_entry : {b s : Shape} {c : Set} → TypeEntry b ≡ TermEntry s c → ⊥
-no_type_entry e = cc
-
 entry_shapes : {s s' : Shape} {c c' : Set} → TermEntry s c ≡ TermEntry s' c' → (s ≡ s') × (c ≡ c')
 entry_shapes e = (cc, cc)
 
@@ -114,3 +119,32 @@ typing_narrows g wide narrow type t less formed' h =
 
 pub values_capture_their_sets : ValuesCaptureTheirSets
 values_capture_their_sets g v type isv h = answer_captures (typed_from h) isv
+
+-- a box of the content's own set, widened
+boxed : {g : Context} {v : Var} {s : Shape} {c : Set} → HasVariable g v s c → Typed g (BoxTerm v) (BoxShape s c) empty
+boxed {g = g} {v = v} {s = s} {c = c} has =
+    let own : IsKindedElement (kinds_of g) [] (Variable v) = subst (λ w. IsKindedElement (kinds_of g) [] (Variable w)) (sym has.is) (kind_of_entry g has.position (TermEntry has.shape has.set) has.there) in
+    let has_own : HasVariable g v s (variable_set v) = record {
+      position = has.position;
+      is = has.is;
+      shape = has.shape;
+      set = has.set;
+      there = has.there;
+      below = has.below;
+      captured = element (subst (λ w. Member (Variable (Free has.position)) (variable_set w)) (sym has.is) (Member-single_itself (Variable (Free has.position))));
+      kinded = has.kinded;
+      kinded_set = kinded_single (kinds_of g) [] (Variable v) own;
+    } in
+    let captured : SubcapturesSet g (variable_set v) c =
+    λ x here. subst (λ y. Subcaptures g y c) (ap (λ w. Variable w) (sym has.is) ∙ sym (Member-single x (Variable v) here)) has.captured in
+    let none : HasNoCap (variable_set v) = λ here. cap_is_no_variable (Member-single Cap (Variable v) here) in
+    widened own (exact_box has_own none) (subcaptures_reflexive g empty) (boxes captured alike) (has.kinded, has.kinded_set) (empty_kinded (kinds_of g) [])
+  where
+    cap_is_no_variable : {w : Var} → Cap ≡ Variable w → ⊥
+    cap_is_no_variable e = cc
+
+pub boxes_are_of_any_type_of_their_content : BoxesAreOfAnyTypeOfTheirContent
+boxes_are_of_any_type_of_their_content g v type h =
+    let formed = IsKindedContext-from g h.context_formed in
+    let typed = boxed (variable_typed (typed_from h)) in
+    type_from formed (typed_kinded_term typed) typed

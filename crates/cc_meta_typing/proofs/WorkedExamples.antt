@@ -22,7 +22,7 @@ use Rattle.cc_meta_typing.proofs.ComparisonLemmas.{mismatch_not_below}
 use Rattle.cc_meta_typing.proofs.DirectSubtyping.{SubtypesDirectly, alike, under_any, through_bound, functions, type_functions, boxes, direct_from}
 
 -- a variable that is declared with cap is below no set that has neither
-cap_shows : (context : Context) (position : ℕ) (shape : Shape) (declared set : Set) → lookup context position ≡ Some (TermEntry shape declared) → Member Cap declared
+pub cap_shows : (context : Context) (position : ℕ) (shape : Shape) (declared set : Set) → lookup context position ≡ Some (TermEntry shape declared) → Member Cap declared
     → (Member Cap set → ⊥) → (Member (Variable (Free position)) set → ⊥) → Subcaptures context (Variable (Free position)) set → ⊥
 cap_shows context position shape declared set there has_cap no_cap not_there below = shown below refl refl
   where
@@ -36,7 +36,7 @@ cap_shows context position shape declared set there has_cap no_cap not_there bel
         let known : d ≡ declared = declared_is d s (sym found ∙ ap (lookup context) at ∙ there) in
         no_cap (subst (Member Cap) is (cap_below context d c each (subst (Member Cap) (sym known) has_cap)))
 
-first_shows : (context : Context) (shape : Shape) → lookup context 0 ≡ Some (TermEntry shape (single Cap)) → Subcaptures context first empty → ⊥
+pub first_shows : (context : Context) (shape : Shape) → lookup context 0 ≡ Some (TermEntry shape (single Cap)) → Subcaptures context first empty → ⊥
 first_shows context shape there = cap_shows context 0 shape (single Cap) empty there (Member-single_itself Cap) (Member-empty Cap) (Member-empty first)
 
 pub printing_is_not_pure : PrintingIsNotPure
@@ -48,7 +48,7 @@ printing_with_its_set = (subcaptures_reflexive with_console (single first), refl
 pub exits_do_not_leave : ExitsDoNotLeave
 exits_do_not_leave below = first_shows inside_boundary (ExitShape printing) refl (below.0 first (Member-single_itself first))
 
-boxes_compare : {context : Context} {left right : Shape} → SubtypesDirectly context left right → (content content' : Shape) (c c' : Set) → left ≡ BoxShape content c → right ≡ BoxShape content' c' → SubcapturesSet context c c'
+pub boxes_compare : {context : Context} {left right : Shape} → SubtypesDirectly context left right → (content content' : Shape) (c c' : Set) → left ≡ BoxShape content c → right ≡ BoxShape content' c' → SubcapturesSet context c c'
 boxes_compare (boxes {context = context} {content = u} {content' = u'} {c = d} {c' = d'} sets below) content content' c c' l r =
     let is : d ≡ c = cc in
     let is' : d' ≡ c' = cc in

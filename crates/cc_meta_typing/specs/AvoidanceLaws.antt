@@ -6,7 +6,8 @@ use Rattle.cc_core.specs.Contexts.{TermEntry, Context, lookup}
 use Rattle.cc_core.specs.Occurrences.{MeetsInSet, bound_within}
 use Rattle.cc_core.specs.WellFormed.{IsWellFormedSet, IsWellFormedType}
 use Rattle.cc_core.specs.Subtyping.{SubtypesType}
-use Rattle.cc_sets.specs.Avoidance.{Sign, Positive, Negative, has_position, is_free_in_type, is_free_in_invariant_place, avoided_type}
+use Rattle.cc_sets.specs.Avoidance.{Sign, Positive, Negative, has_position, is_free_in_type, is_free_in_invariant_place}
+use Rattle.cc_sets.specs.Avoidance.{avoided_type}
 
 -- At a positive sign a type is below what it becomes, in every context that declares the position with the set.
 abbrev pub AvoidingGivesASupertype : Type 0

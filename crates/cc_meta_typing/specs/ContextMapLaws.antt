@@ -7,10 +7,12 @@ use Rattle.cc_core.specs.Shapes.{Shape, TypeVariable, CapturingType, capturing}
 use Rattle.cc_core.specs.Contexts.{Bind, TermEntry, TypeEntry, Context, lookup}
 use Rattle.cc_core.specs.Traversal.{act, act_type}
 use Rattle.cc_core.specs.Substitution.{freely, overridden, renaming, opened_type, replaced_type_by_shape, single}
-use Rattle.cc_core.specs.WellFormed.{TermKind, TypeKind, kinds_of, is_well_formed_entry, IsWellFormedShape, IsWellFormedType, IsWellFormedContext, IsWellFormedTypeUnder}
+use Rattle.cc_core.specs.WellFormed.{TermKind, TypeKind, kinds_of, is_well_formed_entry, IsWellFormedShape}
+use Rattle.cc_core.specs.WellFormed.{IsWellFormedType, IsWellFormedContext, IsWellFormedTypeUnder}
 use Rattle.cc_core.specs.Subcapturing.{SubcapturesSet}
 use Rattle.cc_core.specs.Subtyping.{Subtypes, SubtypesType}
-use Rattle.cc_meta_typing.specs.ContextMaps.{Extends, mapped, mapped_set, mapped_entry, IsContextMap, MapsEntries}
+use Rattle.cc_meta_typing.specs.ContextMaps.{Extends, mapped, mapped_set, mapped_entry, RenamesEntries, IsContextMap}
+use Rattle.cc_meta_typing.specs.ContextMaps.{MapsEntries}
 
 -- sets that are below each other become sets that are
 abbrev pub SubcapturingAlongMaps : Type 0
@@ -42,7 +44,8 @@ MapsGoUnderBinders =
     (source target : Context) (to : ℕ → ℕ) (shapes : ℕ → Shape) → IsContextMap source target to shapes
     → (entry : Bind) → IsWellFormedContext source → IsTrue (is_well_formed_entry (kinds_of source) entry)
     → IsContextMap (entry ∷ source) (mapped_entry to shapes entry ∷ target)
-    (overridden to (length source) (length target)) (overridden shapes (length source) (TypeVariable (Free (length target))))
+    (overridden to (length source) (length target))
+    (overridden shapes (length source) (TypeVariable (Free (length target))))
 
 -- between well-formed contexts it is enough to ask of the target
 abbrev pub EntriesMakeAMap : Type 0
@@ -64,7 +67,7 @@ LongerContextIsAMap =
 abbrev pub RenamingIsAMap : Type 0
 RenamingIsAMap =
     (source target : Context) (to : ℕ → ℕ)
-    → ((position : ℕ) (entry : Bind) → lookup source position ≡ Some entry → lookup target (to position) ≡ Some (mapped_entry to (λ p. TypeVariable (Free (to p))) entry))
+    → RenamesEntries source target to
     → IsContextMap source target to (λ position. TypeVariable (Free (to position)))
 
 -- a variable whose type as an operand is below that of the newest variable is put in the place of that one
@@ -110,7 +113,7 @@ SubtypingNarrows =
 abbrev pub SubtypingRenames : Type 0
 SubtypingRenames =
     (source target : Context) (to : ℕ → ℕ) (left right : Shape)
-    → ((position : ℕ) (entry : Bind) → lookup source position ≡ Some entry → lookup target (to position) ≡ Some (mapped_entry to (λ p. TypeVariable (Free (to p))) entry))
+    → RenamesEntries source target to
     → IsWellFormedContext source → IsWellFormedShape source left → IsWellFormedShape source right
     → Subtypes source left right → Subtypes target (act (renaming to) 0 left) (act (renaming to) 0 right)
 
@@ -121,10 +124,12 @@ SubtypingPutsVariables =
     → IsWellFormedContext (TermEntry shape set ∷ context) → lookup context position ≡ Some (TermEntry shape' set')
     → SubtypesType context (capturing shape' (single (Variable (Free position)))) (capturing shape set)
     → IsWellFormedTypeUnder context TermKind left → IsWellFormedTypeUnder context TermKind right
-    → SubtypesType (TermEntry shape set ∷ context) (opened_type (length context) left) (opened_type (length context) right)
+    → SubtypesType (TermEntry shape set ∷ context) (opened_type (length context) left)
+    (opened_type (length context) right)
     → SubtypesType context (opened_type position left) (opened_type position right)
 
--- What a type function gives, under its bound, compares alike with a shape below the bound in the place of the type variable.
+-- What a type function gives, under its bound, compares alike with a shape below the bound in the place of the type
+-- variable.
 abbrev pub SubtypingPutsShapes : Type 0
 SubtypingPutsShapes =
     (context : Context) (bound shape : Shape) (left right : CapturingType)

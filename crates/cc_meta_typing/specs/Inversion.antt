@@ -1,5 +1,5 @@
--- What follows from the type of a term of each form: the types of its parts, the conditions of its rule, and that the type
--- which the rule gives is below the term's type.
+-- What follows from the type of a term of each form: the types of its parts, the conditions of its rule, and that the
+-- type which the rule gives is below the term's type.
 use Rattle.std.specs.Prelude.{◌≡◌, ℕ, zero, length, ◌∷◌, Option, Some, None}
 use Rattle.cc_base.specs.declared.literal.Base.{Base}
 use Rattle.cc_base.specs.declared.literal.Base.TheVariants as bases
@@ -9,17 +9,21 @@ use Rattle.cc_capture.specs.declared.var.Var.{Var}
 use Rattle.cc_capture.specs.declared.var.Var.TheVariants.{Free}
 use Rattle.cc_capture.specs.declared.var.Elem.TheVariants.{Cap}
 use Rattle.cc_capture.specs.Sets.{Set, empty}
-use Rattle.cc_core.specs.Shapes.{Shape, BaseShape, FunctionShape, TypeFunctionShape, BoxShape, ExitShape, CapturingType, capturing}
+use Rattle.cc_core.specs.Shapes.{Shape, BaseShape, FunctionShape, TypeFunctionShape, BoxShape, ExitShape, CapturingType}
+use Rattle.cc_core.specs.Shapes.{capturing}
 use Rattle.cc_base.specs.Literals.{Literal}
-use Rattle.cc_core.specs.Terms.{Note, Written, Term, VariableTerm, LiteralTerm, FunctionTerm, TypeFunctionTerm, BoxTerm, Application, TypeApplication, Unboxing, Let, Primitive, Conditional, Repetition, Operation, Boundary, Leave}
+use Rattle.cc_core.specs.Terms.{Note, Written, Term, VariableTerm, LiteralTerm, FunctionTerm, TypeFunctionTerm, BoxTerm}
+use Rattle.cc_core.specs.Terms.{Application, TypeApplication, Unboxing, Let, Primitive, Conditional, Repetition}
+use Rattle.cc_core.specs.Terms.{Operation, Boundary, Leave}
 use Rattle.cc_core.specs.Contexts.{TermEntry, TypeEntry, Context, lookup}
-use Rattle.cc_core.specs.Traversal.{act, act_set}
-use Rattle.cc_core.specs.Substitution.{single, putting, putting_shape, opened_type, opened_term}
+use Rattle.cc_core.specs.Substitution.{single, replaced_type, replaced_type_by_shape, opened_type, opened_term}
 use Rattle.cc_core.specs.Occurrences.{Meets, MeetsInSet, without}
-use Rattle.cc_core.specs.WellFormed.{TermKind, TypeKind, IsWellFormedShape, IsWellFormedType, IsWellFormedSet, IsWellFormedTypeUnder}
+use Rattle.cc_core.specs.WellFormed.{TermKind, TypeKind, IsWellFormedShape, IsWellFormedType, IsWellFormedSet}
+use Rattle.cc_core.specs.WellFormed.{IsWellFormedTypeUnder}
 use Rattle.cc_core.specs.Captured.{captured_variables, variable_set}
 use Rattle.cc_core.specs.Subtyping.{Subtypes, SubtypesType}
-use Rattle.cc_core.specs.Typing.{base_of, base_given, base_operated, base_taken, base_answered, IsNoteOf, HasNoCap, HasType}
+use Rattle.cc_core.specs.Typing.{base_of, base_given, base_operated, base_taken, base_answered, IsNoteOf, HasNoCap}
+use Rattle.cc_core.specs.Typing.{HasType}
 
 -- A variable is free and declared, and has a type above its declared shape and itself.
 abbrev pub VariablesInvert : Type 0
@@ -37,8 +41,8 @@ LiteralsInvert =
     → HasType context (LiteralTerm literal) type
     → SubtypesType context (capturing (BaseShape (base_of literal)) empty) type
 
--- The body of a function has a type under the parameter, and the function's type is above what takes the one and gives the
--- other, and captures what the function does.
+-- The body of a function has a type under the parameter, and the function's type is above what takes the one and gives
+-- the other, and captures what the function does.
 abbrev pub FunctionBodiesInvert : Type 0
 FunctionBodiesInvert =
     (context : Context) (takes : Shape) (c : Set) (body : Term) (type : CapturingType)
@@ -46,7 +50,8 @@ FunctionBodiesInvert =
     → (gives : CapturingType)
     × IsWellFormedType context (capturing takes c) × IsWellFormedTypeUnder context TermKind gives
     × HasType (TermEntry takes c ∷ context) (opened_term (length context) body) (opened_type (length context) gives)
-    × SubtypesType context (capturing (FunctionShape takes c gives.shape gives.set) (captured_variables (FunctionTerm takes c body))) type
+    × SubtypesType context
+    (capturing (FunctionShape takes c gives.shape gives.set) (captured_variables (FunctionTerm takes c body))) type
 
 -- the same of type functions, under the type variable and its bound
 abbrev pub TypeFunctionsInvert : Type 0
@@ -56,7 +61,8 @@ TypeFunctionsInvert =
     → (gives : CapturingType)
     × IsWellFormedShape context bound × IsWellFormedTypeUnder context TypeKind gives
     × HasType (TypeEntry bound ∷ context) (opened_term (length context) body) (opened_type (length context) gives)
-    × SubtypesType context (capturing (TypeFunctionShape bound gives.shape gives.set) (captured_variables (TypeFunctionTerm bound body))) type
+    × SubtypesType context
+    (capturing (TypeFunctionShape bound gives.shape gives.set) (captured_variables (TypeFunctionTerm bound body))) type
 
 -- The function takes what the argument is, and the result names the argument where it named the parameter.
 abbrev pub ApplicationsInvert : Type 0
@@ -66,7 +72,7 @@ ApplicationsInvert =
     → (takes : Shape) × (c : Set) × (gives : Shape) × (e : Set) × (d : Set)
     × HasType context (VariableTerm function) (capturing (FunctionShape takes c gives e) d)
     × HasType context (VariableTerm argument) (capturing takes c)
-    × SubtypesType context (capturing (act (putting argument) zero gives) (act_set (putting argument) zero e)) type
+    × SubtypesType context (replaced_type argument (capturing gives e)) type
 
 -- The argument is well formed and below the bound, and the result has it where it had the type variable.
 abbrev pub TypeApplicationsInvert : Type 0
@@ -76,7 +82,7 @@ TypeApplicationsInvert =
     → (bound : Shape) × (gives : Shape) × (e : Set) × (d : Set)
     × HasType context (VariableTerm function) (capturing (TypeFunctionShape bound gives e) d)
     × Subtypes context argument bound × IsWellFormedShape context argument
-    × SubtypesType context (capturing (act (putting_shape argument) zero gives) (act_set (putting_shape argument) zero e)) type
+    × SubtypesType context (replaced_type_by_shape argument (capturing gives e)) type
 
 -- The content of a box has a type without the universal capability, and the box's type is above a box of it, which
 -- captures nothing.
@@ -96,8 +102,8 @@ UnboxingsInvert =
     × (under ≡ Some c) × HasType context (VariableTerm box) (capturing (BoxShape shape c) d)
     × IsWellFormedSet context c × HasNoCap c × SubtypesType context (capturing shape c) type
 
--- The right side has the type that is written, if one is, and the body has a type, under the variable, that does not name
--- it.
+-- The right side has the type that is written, if one is, and the body has a type, under the variable, that does not
+-- name it.
 abbrev pub LetsInvert : Type 0
 LetsInvert =
     (context : Context) (note : Note) (right body : Term) (type : CapturingType)
@@ -134,7 +140,8 @@ RepetitionsInvert =
     → HasType context (Repetition count function) type
     → (d : Set) × (d' : Set)
     × HasType context (VariableTerm count) (capturing (BaseShape bases.Int) d)
-    × HasType context (VariableTerm function) (capturing (FunctionShape (BaseShape bases.Int) empty (BaseShape bases.Unit) empty) d')
+    × HasType context (VariableTerm function)
+    (capturing (FunctionShape (BaseShape bases.Int) empty (BaseShape bases.Unit) empty) d')
     × SubtypesType context (capturing (BaseShape bases.Unit) empty) type
 
 -- The receiver is a device that the operation is for, and the argument is what the operation takes.
@@ -163,7 +170,8 @@ BoundariesInvert =
     (context : Context) (gives : Shape) (body : Term) (type : CapturingType)
     → HasType context (Boundary gives body) type
     → IsWellFormedShape context gives
-    × HasType (TermEntry (ExitShape gives) (single Cap) ∷ context) (opened_term (length context) body) (capturing gives empty)
+    × HasType (TermEntry (ExitShape gives) (single Cap) ∷ context) (opened_term (length context) body)
+    (capturing gives empty)
     × SubtypesType context (capturing gives empty) type
 
 -- The value has the exit's shape and captures nothing, and the term has a type above the one that is written.

@@ -1,14 +1,13 @@
 -- Typing is kept along each map of contexts.
-use Rattle.std.specs.Prelude.{◌≡◌, ℕ, zero, Some}
-use Rattle.cc_capture.specs.declared.var.Var.TheVariants.{Free}
-use Rattle.cc_core.specs.Shapes.{Shape, TypeVariable, CapturingType}
+use Rattle.std.specs.Prelude.{ℕ, zero}
+use Rattle.cc_core.specs.Shapes.{Shape, CapturingType}
 use Rattle.cc_core.specs.Terms.{Term}
-use Rattle.cc_core.specs.Contexts.{Bind, Context, lookup}
+use Rattle.cc_core.specs.Contexts.{Context}
 use Rattle.cc_core.specs.Traversal.{act_type, act_term}
 use Rattle.cc_core.specs.Substitution.{freely, renaming}
 use Rattle.cc_core.specs.WellFormed.{IsWellFormedContext}
 use Rattle.cc_core.specs.Typing.{HasType}
-use Rattle.cc_meta_typing.specs.ContextMaps.{mapped_entry, IsContextMap}
+use Rattle.cc_meta_typing.specs.ContextMaps.{RenamesEntries, IsContextMap}
 
 -- What is typed becomes what is typed in the well-formed context that the map goes into.
 abbrev pub TypingAlongMaps : Type 0
@@ -22,7 +21,7 @@ TypingAlongMaps =
 abbrev pub TypingRenames : Type 0
 TypingRenames =
     (source target : Context) (to : ℕ → ℕ)
-    → ((position : ℕ) (entry : Bind) → lookup source position ≡ Some entry → lookup target (to position) ≡ Some (mapped_entry to (λ p. TypeVariable (Free (to p))) entry))
+    → RenamesEntries source target to
     → IsWellFormedContext target
     → (term : Term) (type : CapturingType) → HasType source term type
     → HasType target (act_term (renaming to) zero term) (act_type (renaming to) zero type)

@@ -4,7 +4,9 @@ use Rattle.cc_core.specs.Shapes.{Shape, CapturingType}
 use Rattle.cc_core.specs.Contexts.{Context}
 use Rattle.cc_core.specs.WellFormed.{IsWellFormedShape, IsWellFormedType, IsWellFormedContext}
 use Rattle.cc_core.specs.Subtyping.{Subtypes, SubtypesType}
-use Rattle.cc_sets.specs.Comparison.{Demand, Unfinished, comparison, HasDemands, IsMismatch, TypesHaveDemands, IsTypeMismatch, AllHold}
+use Rattle.cc_sets.specs.Comparison.{Demand, Unfinished, comparison, HasDemands, IsMismatch, TypesHaveDemands}
+use Rattle.cc_sets.specs.Comparison.{IsTypeMismatch, AllHold}
+use Rattle.cc_sets.specs.Weights.{IsEnough, enough_steps}
 
 -- A shape is below another exactly where their comparison has demands, and all of them hold.
 abbrev pub SubtypingIsComparison : Type 0
@@ -16,7 +18,8 @@ SubtypingIsComparison =
 abbrev pub SubtypingOfTypesIsComparison : Type 0
 SubtypingOfTypesIsComparison =
     (context : Context) (left right : CapturingType)
-    → SubtypesType context left right ↔ ((demands : List Demand) × TypesHaveDemands context left right demands × AllHold demands)
+    → SubtypesType context left right
+    ↔ ((demands : List Demand) × TypesHaveDemands context left right demands × AllHold demands)
 
 -- once a comparison is at its end, it has the same answer with more steps
 abbrev pub MoreStepsKeepTheAnswer : Type 0
@@ -48,6 +51,13 @@ ComparisonEnds =
     (context : Context) (left right : Shape)
     → IsWellFormedContext context → IsWellFormedShape context left → IsWellFormedShape context right
     → ((demands : List Demand) × HasDemands context left right demands) ⊎ IsMismatch context left right
+
+-- and that in no more steps than the two shapes weigh, and one
+abbrev pub WeightsAreEnough : Type 0
+WeightsAreEnough =
+    (context : Context) (left right : Shape)
+    → IsWellFormedContext context → IsWellFormedShape context left → IsWellFormedShape context right
+    → IsEnough (enough_steps context left right) context left right
 
 -- the same of types
 abbrev pub ComparisonOfTypesEnds : Type 0

@@ -1,12 +1,14 @@
 -- The laws of typing.
 use Rattle.std.specs.Prelude.{zero, length, [], ◌∷◌, ◌++◌, IsTrue}
 use Rattle.cc_capture.specs.declared.var.Var.{Var}
-use Rattle.cc_core.specs.Shapes.{Shape, CapturingType}
-use Rattle.cc_core.specs.Terms.{Term, VariableTerm}
+use Rattle.cc_capture.specs.Sets.{empty}
+use Rattle.cc_core.specs.Shapes.{Shape, BoxShape, CapturingType, capturing}
+use Rattle.cc_core.specs.Terms.{Term, VariableTerm, BoxTerm}
 use Rattle.cc_core.specs.Contexts.{TypeEntry, Context, entry_of}
 use Rattle.cc_core.specs.Traversal.{act_type, act_term}
 use Rattle.cc_core.specs.Substitution.{putting, putting_shape, opened_type, opened_term}
-use Rattle.cc_core.specs.WellFormed.{TermKind, TypeKind, kinds_of, is_well_formed_term, is_well_formed_type, IsWellFormedContext, IsWellFormedShape}
+use Rattle.cc_core.specs.WellFormed.{TermKind, TypeKind, kinds_of, is_well_formed_term, is_well_formed_type}
+use Rattle.cc_core.specs.WellFormed.{IsWellFormedContext, IsWellFormedShape}
 use Rattle.cc_core.specs.Captured.{is_value, captured_variables}
 use Rattle.cc_core.specs.Subcapturing.{SubcapturesSet}
 use Rattle.cc_core.specs.Subtyping.{Subtypes, SubtypesType}
@@ -50,3 +52,11 @@ abbrev pub ValuesCaptureTheirSets : Type 0
 ValuesCaptureTheirSets =
     (context : Context) (value : Term) (type : CapturingType)
     → IsTrue (is_value value) → HasType context value type → SubcapturesSet context (captured_variables value) type.set
+
+-- A box may be one of any type that its content has, also with the universal capability: a box of the content's own
+-- set, which has none, is below it.
+abbrev pub BoxesAreOfAnyTypeOfTheirContent : Type 0
+BoxesAreOfAnyTypeOfTheirContent =
+    (context : Context) (content : Var) (type : CapturingType)
+    → HasType context (VariableTerm content) type
+    → HasType context (BoxTerm content) (capturing (BoxShape type.shape type.set) empty)

@@ -23,3 +23,27 @@ pub fn type_functions()
 pub fn results_of_functions()
     ensures { example.ResultsAreUnderTheRightParameter }
 {}
+
+/// A function that prints has its set, and is not pure.
+pub fn printers_have_their_set()
+    ensures with_its_set { example.PrinterHasItsSet }
+    ensures not_pure { example.PrinterIsNotPure }
+{}
+
+/// A box is opened under the set of its content, and one whose content set became cap is not opened.
+pub fn boxes_are_opened_under_their_sets()
+    ensures opened { example.BoxOpensUnderItsSet }
+    ensures of_cap { example.BoxOfCapIsNotOpened }
+{}
+
+/// A boundary that would give its own exit has no type, bare and in a box; one that uses it inside has.
+pub fn boundaries_keep_their_exits()
+    ensures inside { example.ExitsInsideAreTyped }
+    ensures bare { example.FunctionsDoNotTakeExitsOut }
+    ensures boxed { example.BoxesDoNotTakeExitsOut }
+{}
+
+/// What is written for the type of a let counts.
+pub fn notes_are_heeded()
+    ensures { example.NotesAreHeeded }
+{}

@@ -15,8 +15,9 @@ pub fn comparison_has_one_answer()
     ensures not_below { law.MismatchIsNoSubtype }
 {}
 
-/// On a well-formed context and well-formed shapes each comparison ends.
+/// On a well-formed context and well-formed shapes each comparison ends, after no more steps than the shapes weigh.
 pub fn comparison_ends()
     ensures shapes { law.ComparisonEnds }
+    ensures steps { law.WeightsAreEnough }
     ensures types { law.ComparisonOfTypesEnds }
 {}

@@ -14,3 +14,8 @@ pub fn typing_goes_along()
 pub fn values_capture_their_sets()
     ensures { law.ValuesCaptureTheirSets }
 {}
+
+/// The condition that a box's content has no universal capability excludes no type of the content.
+pub fn boxes_are_of_any_type_of_their_content()
+    ensures { law.BoxesAreOfAnyTypeOfTheirContent }
+{}

@@ -5,7 +5,8 @@ use Rattle.cc_capture.specs.declared.var.Var.{Var}
 use Rattle.cc_capture.specs.declared.var.Var.TheVariants.{Bound, Free}
 use Rattle.cc_capture.specs.declared.var.Elem.TheVariants.{Var as Variable}
 use Rattle.cc_capture.specs.Sets.{Set, contains, remove, union}
-use Rattle.cc_core.specs.Shapes.{Shape, BaseShape, AnyShape, TypeVariable, FunctionShape, TypeFunctionShape, BoxShape, ExitShape, CapturingType, capturing}
+use Rattle.cc_core.specs.Shapes.{Shape, BaseShape, AnyShape, TypeVariable, FunctionShape, TypeFunctionShape, BoxShape}
+use Rattle.cc_core.specs.Shapes.{ExitShape, CapturingType, capturing}
 
 -- whether a place of a type may become larger or smaller
 pub data Sign : Type 0 where
@@ -71,23 +72,27 @@ abbrev pub unless_free : Bool → Option Shape → Option Shape
 unless_free true answer = None
 unless_free false answer = answer
 
--- The shape in which a position with a declared set is avoided. The parameter of a function has the opposite sign, while
--- results and contents keep it. There is no answer where the position is free in an invariant place.
+-- The shape in which a position with a declared set is avoided. The parameter of a function has the opposite sign,
+-- while results and contents keep it. There is no answer where the position is free in an invariant place.
 abbrev pub avoided : Sign → ℕ → Set → Shape → Option Shape
 avoided sign position declared (BaseShape base) = Some (BaseShape base)
 avoided sign position declared AnyShape = Some AnyShape
 avoided sign position declared (TypeVariable variable) = Some (TypeVariable variable)
 avoided sign position declared (FunctionShape takes c gives e) =
     with_both (avoided (opposite sign) position declared takes) (avoided sign position declared gives)
-    (λ takes' gives'. FunctionShape takes' (avoided_set (opposite sign) position declared c) gives' (avoided_set sign position declared e))
+    (λ takes' gives'. FunctionShape takes' (avoided_set (opposite sign) position declared c) gives'
+    (avoided_set sign position declared e))
 avoided sign position declared (TypeFunctionShape bound gives e) =
     unless_free (is_free_in position bound)
-    (option_map (λ gives'. TypeFunctionShape bound gives' (avoided_set sign position declared e)) (avoided sign position declared gives))
+    (option_map (λ gives'. TypeFunctionShape bound gives' (avoided_set sign position declared e))
+    (avoided sign position declared gives))
 avoided sign position declared (BoxShape content c) =
-    option_map (λ content'. BoxShape content' (avoided_set sign position declared c)) (avoided sign position declared content)
+    option_map (λ content'. BoxShape content' (avoided_set sign position declared c))
+    (avoided sign position declared content)
 avoided sign position declared (ExitShape gives) = unless_free (is_free_in position gives) (Some (ExitShape gives))
 
 -- the same of a type, whose outermost set has the sign of the type
 abbrev pub avoided_type : Sign → ℕ → Set → CapturingType → Option CapturingType
 avoided_type sign position declared type =
-    option_map (λ shape. capturing shape (avoided_set sign position declared type.set)) (avoided sign position declared type.shape)
+    option_map (λ shape. capturing shape (avoided_set sign position declared type.set))
+    (avoided sign position declared type.shape)

@@ -1,9 +1,11 @@
 -- The comparison of two shapes or types by their trees, which finds what their sets have to satisfy.
-use Rattle.std.specs.Prelude.{◌≡◌, ℕ, zero, suc, Bool, true, false, List, [], ◌∷◌, ◌++◌, length, Option, Some, None, if◌then◌else◌}
+use Rattle.std.specs.Prelude.{◌≡◌, ℕ, zero, suc, Bool, true, false, List, [], ◌∷◌, ◌++◌, length, Option, Some, None}
+use Rattle.std.specs.Prelude.{if◌then◌else◌}
 use Rattle.cc_capture.specs.declared.var.Var.{Var}
 use Rattle.cc_capture.specs.declared.var.Var.TheVariants.{Bound, Free}
 use Rattle.cc_capture.specs.Sets.{Set}
-use Rattle.cc_core.specs.Shapes.{Shape, BaseShape, AnyShape, TypeVariable, FunctionShape, TypeFunctionShape, BoxShape, ExitShape, CapturingType, capturing}
+use Rattle.cc_core.specs.Shapes.{Shape, BaseShape, AnyShape, TypeVariable, FunctionShape, TypeFunctionShape, BoxShape}
+use Rattle.cc_core.specs.Shapes.{ExitShape, CapturingType, capturing}
 use Rattle.cc_core.specs.Contexts.{Bind, TermEntry, TypeEntry, Context, lookup}
 use Rattle.cc_core.specs.Substitution.{opened_type}
 use Rattle.cc_core.specs.Subcapturing.{SubcapturesSet}
@@ -14,6 +16,10 @@ pub record Demand : Type 0 where
   pub context : Context
   pub left : Set
   pub right : Set
+
+-- that the left set is to be below the right one in the context
+abbrev pub demanded : Context → Set → Set → Demand
+demanded context left right = record { context = context; left = left; right = right }
 
 -- What a comparison comes to: it is not at its end with so few steps, the shapes do not match, or they match where all
 -- these demands hold, in the order in which they were found.
@@ -37,8 +43,7 @@ Comparing = Context → Shape → Shape → Comparison
 -- the set demanded first, then the shapes compared
 abbrev pub types_compared : Comparing → Context → CapturingType → CapturingType → Comparison
 types_compared compare context left right =
-    and_then (Matches (record { context =
-        context; left = left.set; right = right.set } ∷ [])) (compare context left.shape right.shape)
+    and_then (Matches (demanded context left.set right.set ∷ [])) (compare context left.shape right.shape)
 
 -- the bound of an entry, where it is a type variable
 abbrev pub bound_in : Option Bind → Option Shape
@@ -61,14 +66,16 @@ abbrev pub function_compared : Comparing → Context → CapturingType → Captu
 function_compared compare context takes gives (FunctionShape takes' c' gives' e') =
     and_then
     (types_compared compare context (capturing takes' c') takes)
-    (types_compared compare (TermEntry takes' c' ∷ context) (opened_type (length context) gives) (opened_type (length context) (capturing gives' e')))
+    (types_compared compare (TermEntry takes' c' ∷ context) (opened_type (length context) gives)
+    (opened_type (length context) (capturing gives' e')))
 function_compared compare context takes gives _ = Mismatch
 
 -- what type functions with one bound give, under that bound
 abbrev pub type_function_compared : Comparing → Context → Shape → CapturingType → Shape → Comparison
 type_function_compared compare context bound gives (TypeFunctionShape bound' gives' e') =
     if same_shape bound bound'
-    then types_compared compare (TypeEntry bound ∷ context) (opened_type (length context) gives) (opened_type (length context) (capturing gives' e'))
+    then types_compared compare (TypeEntry bound ∷ context) (opened_type (length context) gives)
+    (opened_type (length context) (capturing gives' e'))
     else Mismatch
 type_function_compared compare context bound gives _ = Mismatch
 
@@ -115,10 +122,11 @@ HasDemands context left right demands = (steps : ℕ) × (comparison steps conte
 abbrev pub IsMismatch : Context → Shape → Shape → Type 0
 IsMismatch context left right = (steps : ℕ) × (comparison steps context left right ≡ Mismatch)
 
--- the same of types
+-- the same of types: the comparison ends with these demands
 abbrev pub TypesHaveDemands : Context → CapturingType → CapturingType → List Demand → Type 0
 TypesHaveDemands context left right demands = (steps : ℕ) × (type_comparison steps context left right ≡ Matches demands)
 
+-- and it ends without a match
 abbrev pub IsTypeMismatch : Context → CapturingType → CapturingType → Type 0
 IsTypeMismatch context left right = (steps : ℕ) × (type_comparison steps context left right ≡ Mismatch)
 

@@ -5,16 +5,19 @@ use Rattle.cc_capture.specs.declared.var.Var.TheVariants.{Bound, Free}
 use Rattle.cc_capture.specs.declared.var.Elem.{Elem}
 use Rattle.cc_capture.specs.declared.var.Elem.TheVariants.{Var as Variable, Cap}
 use Rattle.cc_capture.specs.Sets.{Set, empty}
-use Rattle.cc_core.specs.Shapes.{Shape, BaseShape, AnyShape, TypeVariable, FunctionShape, TypeFunctionShape, BoxShape, ExitShape, capturing}
+use Rattle.cc_core.specs.Shapes.{Shape, BaseShape, AnyShape, TypeVariable, FunctionShape, TypeFunctionShape, BoxShape}
+use Rattle.cc_core.specs.Shapes.{ExitShape, capturing}
 use Rattle.cc_core.specs.Contexts.{TermEntry, TypeEntry, Context}
 use Rattle.cc_core.specs.Substitution.{single}
-use Rattle.cc_sets.specs.Comparison.{HasDemands, IsMismatch, TypesHaveDemands}
+use Rattle.cc_sets.specs.Comparison.{demanded, HasDemands, IsMismatch, TypesHaveDemands}
 use Rattle.cc_sets.specs.Exposing.{exposed}
 use Rattle.cc_sets.specs.Avoidance.{Positive, avoided, avoided_type}
 
+-- the shape of numbers
 abbrev pub number : Shape
 number = BaseShape bases.Int
 
+-- the shape of the unit value
 abbrev pub nothing : Shape
 nothing = BaseShape bases.Unit
 
@@ -22,23 +25,27 @@ nothing = BaseShape bases.Unit
 abbrev pub printing : Shape
 printing = FunctionShape number empty nothing empty
 
--- the variables at the first positions, and the parameter of the innermost function
+-- the variable at the first position
 abbrev pub first : Elem
 first = Variable (Free 0)
 
+-- at the second
 abbrev pub second : Elem
 second = Variable (Free 1)
 
+-- at the third
 abbrev pub third : Elem
 third = Variable (Free 2)
 
+-- the parameter of the innermost function
 abbrev pub parameter : Elem
 parameter = Variable (Bound 0)
 
--- one console, and two
+-- a context with one console
 abbrev pub with_console : Context
 with_console = TermEntry (BaseShape bases.Console) (single Cap) ∷ []
 
+-- with two
 abbrev pub with_two : Context
 with_two = TermEntry (BaseShape bases.Console) (single Cap) ∷ with_console
 
@@ -46,17 +53,18 @@ with_two = TermEntry (BaseShape bases.Console) (single Cap) ∷ with_console
 abbrev pub PrintingDemands : Type 0
 PrintingDemands =
     TypesHaveDemands with_console (capturing printing (single first)) (capturing printing empty)
-    (record { context = with_console; left = single first; right = empty } ∷ [])
+    (demanded with_console (single first) empty ∷ [])
 
 -- boxes are below the bound Any, and nothing is demanded of their sets
 abbrev pub BoxesAreBelowAny : Type 0
 BoxesAreBelowAny = HasDemands with_console (BoxShape printing (single first)) AnyShape []
 
--- Type functions with different bounds do not match, also where the left one takes more.
+-- the type of the identity on what is below the bound
 abbrev pub identity_below : Shape → Shape
 identity_below bound =
     TypeFunctionShape bound (FunctionShape (TypeVariable (Bound 0)) empty (TypeVariable (Bound 1)) empty) empty
 
+-- Type functions with different bounds do not match, also where the left one takes more.
 abbrev pub DifferentBoundsMismatch : Type 0
 DifferentBoundsMismatch = IsMismatch [] (identity_below AnyShape) (identity_below number)
 
@@ -72,35 +80,38 @@ ExposingGoesOn = exposed (TypeEntry (TypeVariable (Free 0)) ∷ TypeEntry number
 abbrev pub boxed : Set → Shape
 boxed set = BoxShape printing set
 
--- What functions take compares from the right one to the left one, and first. What they give compares where the parameter
--- has the type of the right one: its own set, and then that of the content.
+-- What functions take compares from the right one to the left one, and first. What they give compares where the
+-- parameter has the type of the right one: its own set, and then that of the content.
 abbrev pub ParametersGoRightToLeft : Type 0
 ParametersGoRightToLeft =
     HasDemands with_two
     (FunctionShape printing (single first) (boxed (single parameter)) (single parameter))
     (FunctionShape printing (single second) (boxed (single first)) (single second))
-    (record { context = with_two; left = single second; right = single first }
-    ∷ record { context = TermEntry printing (single second) ∷ with_two; left = single third; right = single second }
-    ∷ record { context = TermEntry printing (single second) ∷ with_two; left = single third; right = single first }
+    (demanded with_two (single second) (single first)
+    ∷ demanded (TermEntry printing (single second) ∷ with_two) (single third) (single second)
+    ∷ demanded (TermEntry printing (single second) ∷ with_two) (single third) (single first)
     ∷ [])
 
--- Let p print on c, and let q have the set {p} and take functions with the set {p}. Without p the set of q is that of p,
--- and what q takes has the empty set.
+-- Let p print on c, and let q have the set {p} and take functions with the set {p}. Without p the set of q is that of
+-- p, and what q takes has the empty set.
 abbrev pub AvoidingWidensAndNarrows : Type 0
 AvoidingWidensAndNarrows =
-    avoided_type Positive 1 (single first) (capturing (FunctionShape printing (single second) nothing empty) (single second))
+    avoided_type Positive 1 (single first)
+    (capturing (FunctionShape printing (single second) nothing empty) (single second))
     ≡ Some (capturing (FunctionShape printing empty nothing empty) (single first))
 
 -- what takes such functions in its own parameter has the sign turned twice, so there the set is widened again
 abbrev pub AvoidingTurnsTwice : Type 0
 AvoidingTurnsTwice =
-    avoided Positive 1 (single first) (FunctionShape (FunctionShape printing (single second) nothing empty) empty nothing (single second))
+    avoided Positive 1 (single first)
+    (FunctionShape (FunctionShape printing (single second) nothing empty) empty nothing (single second))
     ≡ Some (FunctionShape (FunctionShape printing (single first) nothing empty) empty nothing (single first))
 
--- there is no answer where the position stands in the bound of a type function, or inside the shape of an exit
+-- there is no answer where the position stands in the bound of a type function
 abbrev pub BoundsAreNotAvoided : Type 0
 BoundsAreNotAvoided =
     avoided Positive 1 (single first) (TypeFunctionShape (BoxShape number (single second)) nothing empty) ≡ None
 
+-- and in the shape of an exit
 abbrev pub ExitsAreNotAvoided : Type 0
 ExitsAreNotAvoided = avoided Positive 1 (single first) (ExitShape (BoxShape number (single second))) ≡ None

@@ -2,3 +2,4 @@ pub mod Avoidance
 pub mod Comparison
 pub mod Examples
 pub mod Exposing
+pub mod Weights

@@ -1,34 +1,34 @@
-use Rattle.cc_core.proofs.TermWellFormedness.{acted_term-well_formed, body_term-bound_within, body_term-no_outermost_type, body_term-positions_below, body_term-under_term_binder, body_term-under_type_binder, closed_term-well_formed, filled_term-well_formed, more_term-well_formed, opened_term-well_formed, put_shape_term-well_formed, put_term-well_formed, renamed_term-well_formed, unopened_term-well_formed, well_formed_term-bound_within, well_formed_term-positions_below}
-use Rattle.cc_core.proofs.WellFormedness.{acted_type-well_formed, body_type-bound_within, body_type-no_outermost_type, body_type-positions_below, body_type-under_term_binder, body_type-under_type_binder, closed_type-well_formed, filled_type-well_formed, more_type-well_formed, opened_type-well_formed, put_shape_type-well_formed, put_type-well_formed, renamed_type-well_formed, unopened_type-well_formed, well_formed_type-bound_within, well_formed_type-positions_below}
+use Rattle.cc_core.proofs.Sorts.{TermSort, TypeSort}
+use Rattle.cc_core.proofs.WellFormedness.{acted-well_formed, body-bound_within, body-no_outermost_type, body-positions_below, body-under_term_binder, body-under_type_binder, closed-well_formed, filled-well_formed, more-well_formed, opened-well_formed, put-well_formed, put_shape-well_formed, renamed-well_formed, unopened-well_formed, well_formed-bound_within, well_formed-positions_below}
 use Rattle.cc_core.proofs.laws.well_formedness.Goals as goal
 
 pub returns : goal.returns
 returns c =
     record {
-      opened_types = opened_type-well_formed;
-      opened_terms = opened_term-well_formed;
-      closed_types = closed_type-well_formed;
-      closed_terms = closed_term-well_formed;
-      unopened_types = unopened_type-well_formed;
-      unopened_terms = unopened_term-well_formed;
-      put_types = put_type-well_formed;
-      put_terms = put_term-well_formed;
-      put_shape_types = put_shape_type-well_formed;
-      put_shape_terms = put_shape_term-well_formed;
-      renamed_types = renamed_type-well_formed;
-      renamed_terms = renamed_term-well_formed;
-      acted_types = acted_type-well_formed;
-      acted_terms = acted_term-well_formed;
-      filled_types = filled_type-well_formed;
-      filled_terms = filled_term-well_formed;
-      more_types = more_type-well_formed;
-      more_terms = more_term-well_formed;
-      positions_types = λ g x h. (well_formed_type-positions_below g x h, well_formed_type-bound_within g x h);
-      positions_terms = λ g x h. (well_formed_term-positions_below g x h, well_formed_term-bound_within g x h);
-      bodies_types = λ g k x h. (body_type-positions_below g k x h, body_type-bound_within g k x h);
-      bodies_terms = λ g k x h. (body_term-positions_below g k x h, body_term-bound_within g k x h);
-      term_bodies_types = λ g x h. (body_type-under_term_binder g x h, body_type-no_outermost_type g x h);
-      term_bodies_terms = λ g x h. (body_term-under_term_binder g x h, body_term-no_outermost_type g x h);
-      type_bodies_types = body_type-under_type_binder;
-      type_bodies_terms = body_term-under_type_binder;
+      opened_types = opened-well_formed TypeSort;
+      opened_terms = opened-well_formed TermSort;
+      closed_types = closed-well_formed TypeSort;
+      closed_terms = closed-well_formed TermSort;
+      unopened_types = unopened-well_formed TypeSort;
+      unopened_terms = unopened-well_formed TermSort;
+      put_types = put-well_formed TypeSort;
+      put_terms = put-well_formed TermSort;
+      put_shape_types = put_shape-well_formed TypeSort;
+      put_shape_terms = put_shape-well_formed TermSort;
+      renamed_types = renamed-well_formed TypeSort;
+      renamed_terms = renamed-well_formed TermSort;
+      acted_types = acted-well_formed TypeSort;
+      acted_terms = acted-well_formed TermSort;
+      filled_types = filled-well_formed TypeSort;
+      filled_terms = filled-well_formed TermSort;
+      more_types = more-well_formed TypeSort;
+      more_terms = more-well_formed TermSort;
+      positions_types = λ g x h. (well_formed-positions_below TypeSort g x h, well_formed-bound_within TypeSort g x h);
+      positions_terms = λ g x h. (well_formed-positions_below TermSort g x h, well_formed-bound_within TermSort g x h);
+      bodies_types = λ g k x h. (body-positions_below TypeSort g k x h, body-bound_within TypeSort g k x h);
+      bodies_terms = λ g k x h. (body-positions_below TermSort g k x h, body-bound_within TermSort g k x h);
+      term_bodies_types = λ g x h. (body-under_term_binder TypeSort g x h, body-no_outermost_type TypeSort g x h);
+      term_bodies_terms = λ g x h. (body-under_term_binder TermSort g x h, body-no_outermost_type TermSort g x h);
+      type_bodies_types = body-under_type_binder TypeSort;
+      type_bodies_terms = body-under_type_binder TermSort;
     }
