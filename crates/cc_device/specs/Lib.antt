@@ -1,2 +1,5 @@
+pub mod DeviceLaws
 pub mod Devices
+pub mod Endings
 pub mod Events
+pub mod WorkedAnswers
