@@ -14,7 +14,8 @@ use Rattle.cc_core.specs.Typing.{HasType}
 use Rattle.cc_device.specs.Devices.{Devices, Console, Counter}
 use Rattle.cc_device.specs.Events.{Operated, Entered, Exited}
 use Rattle.cc_meta_runs.specs.Machine.{Configuration, configured, literal_in}
-use Rattle.cc_meta_runs.specs.Runs.{State, run, Done}
+use Rattle.cc_device.specs.Endings.{ShownLiteral, Done}
+use Rattle.cc_meta_runs.specs.Runs.{State, Ends, run}
 
 abbrev number : ℕ → Term
 number n = LiteralTerm (NumberLiteral (pos n))
@@ -66,7 +67,7 @@ nested_boundaries = started 2 (ValueCell leaves_both ∷ two_cells)
 abbrev pub NestedBoundariesRun : Type 0
 NestedBoundariesRun =
     ((run 9 nested_boundaries).events ≡ Entered 0 ∷ Entered 1 ∷ Exited 0 ∷ Operated 0 operations.Print (NumberLiteral (pos 4)) ∷ [])
-    × ((run 9 nested_boundaries).ending ≡ Done)
+    × ((run 9 nested_boundaries).ending ≡ Ends (Done (ShownLiteral UnitLiteral)))
     × ((run 9 nested_boundaries).steps ≡ 9)
     × (literal_answered (run 9 nested_boundaries).last.configuration ≡ Some UnitLiteral)
 
@@ -99,7 +100,7 @@ boxes_pass = started 4 (ValueCell calls_what_was_boxed ∷ ValueCell printing �
 abbrev pub BoxesPassRun : Type 0
 BoxesPassRun =
     ((run 16 boxes_pass).events ≡ Operated 0 operations.Print (NumberLiteral (pos 3)) ∷ [])
-    × ((run 16 boxes_pass).ending ≡ Done)
+    × ((run 16 boxes_pass).ending ≡ Ends (Done (ShownLiteral (NumberLiteral (pos 3)))))
     × ((run 16 boxes_pass).steps ≡ 16)
     × (literal_answered (run 16 boxes_pass).last.configuration ≡ Some (NumberLiteral (pos 3)))
 

@@ -1,7 +1,10 @@
 pub mod Alike
+pub mod Answers
 pub mod ExampleRuns
 pub mod Machine
 pub mod Reach
+pub mod RunLaws
 pub mod Runs
 pub mod SoundRuns
 pub mod Soundness
+pub mod StoreLaws

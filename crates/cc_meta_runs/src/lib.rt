@@ -2,4 +2,5 @@
 //! law as its contract.
 #![tactic(auto)]
 
+pub mod runs;
 pub mod soundness;
