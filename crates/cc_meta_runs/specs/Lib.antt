@@ -1,5 +1,7 @@
 pub mod Alike
 pub mod Answers
+pub mod ExampleOperators
+pub mod ExamplePrograms
 pub mod ExampleRuns
 pub mod Machine
 pub mod Reach

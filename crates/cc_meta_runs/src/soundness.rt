@@ -3,7 +3,6 @@ ghost use Rattle.cc_meta_runs.specs.Alike as alike;
 ghost use Rattle.cc_meta_runs.specs.Soundness as steps;
 ghost use Rattle.cc_meta_runs.specs.SoundRuns as runs;
 ghost use Rattle.cc_meta_runs.specs.StoreLaws as stores;
-ghost use Rattle.cc_meta_runs.specs.ExampleRuns as example;
 
 /// Progress and preservation: a sound configuration is not stuck, and each step from it leads to a sound one, whatever a
 /// device answers.
@@ -42,13 +41,6 @@ pub fn stores_hold_what_they_say()
 pub fn scopes_are_kept()
     ensures followed { runs.ScopesFollowEvents }
     ensures well_scoped { runs.EventsAreWellScoped }
-{}
-
-/// The runs of two programs, by computation, and the type of a third.
-pub fn worked_runs()
-    ensures boundaries { example.NestedBoundariesRun }
-    ensures boxes { example.BoxesPassRun }
-    ensures typed { example.LeavingAtOnceIsTyped }
 {}
 
 /// No type or shape that is written in a term decides a step, a run, what is shown, or what is captured.
