@@ -2,6 +2,7 @@ pub mod AnswerRows
 pub mod Authority
 pub mod CanonicalForms
 pub mod DeviceTable
+pub mod DevicesFirst
 pub mod Erasure
 pub mod Finality
 pub mod Invariant
@@ -16,4 +17,5 @@ pub mod StepTheorem
 pub mod StoreTheorems
 pub mod StoreTyping
 pub mod TermRows
+pub mod WorkedAuthorities
 pub mod WorkedRuns

@@ -1,5 +1,6 @@
 pub mod Alike
 pub mod Answers
+pub mod ExampleAuthorities
 pub mod ExampleOperators
 pub mod ExamplePrograms
 pub mod ExampleRuns

@@ -1,4 +1,5 @@
 //! Worked examples of runs, by computation. The functions do nothing.
+ghost use Rattle.cc_meta_runs.specs.ExampleAuthorities as authorities;
 ghost use Rattle.cc_meta_runs.specs.ExampleOperators as operators;
 ghost use Rattle.cc_meta_runs.specs.ExampleRuns as example;
 
@@ -26,4 +27,13 @@ pub fn worked_runs()
     ensures recursion { example.RecursionRuns }
     ensures shown { example.AnswersAreShown }
     ensures typed { example.LeavingAtOnceIsTyped }
+{}
+
+/// The authority of sets by example, and two entries that start soundly: what they operate at any fuel.
+pub fn worked_authorities()
+    ensures sets { authorities.AuthoritiesOfSets }
+    ensures idle { authorities.IdleStartsSoundly }
+    ensures nothing { authorities.IdleOperatesNothing }
+    ensures main { authorities.MainStartsSoundly }
+    ensures console { authorities.MainOperatesTheConsoleAlone }
 {}

@@ -1,0 +1,94 @@
+-- The authority of sets by example, and two entries whose starts are sound: what they may operate at any fuel.
+use Rattle.std.specs.Prelude.{◌≡◌, ℕ, [], ◌∷◌}
+use Rattle.cc_base.specs.declared.literal.Base.TheVariants as bases
+use Rattle.cc_base.specs.declared.literal.Op.{Op}
+use Rattle.cc_base.specs.Literals.{Literal, UnitLiteral}
+use Rattle.cc_capture.specs.declared.var.Var.TheVariants.{Bound, Free}
+use Rattle.cc_capture.specs.declared.var.Elem.TheVariants.{Cap}
+use Rattle.cc_capture.specs.Sets.{empty, union}
+use Rattle.cc_core.specs.Shapes.{Shape, BaseShape, FunctionShape, BoxShape}
+use Rattle.cc_core.specs.Terms.{VariableTerm, LiteralTerm, BoxTerm, Application}
+use Rattle.cc_core.specs.Contexts.{TermEntry, Context}
+use Rattle.cc_core.specs.Substitution.{single}
+use Rattle.cc_core.specs.Captured.{variable_set}
+use Rattle.cc_core.specs.Stores.{ValueCell, Store, authority}
+use Rattle.cc_device.specs.Events.{Operated}
+use Rattle.cc_meta_runs.specs.ExamplePrograms.{number, whole_numbers, nothing, entry_with, val, two_cells, two_devices, out, hits, prints_number}
+use Rattle.cc_meta_runs.specs.Runs.{State, run}
+use Rattle.cc_meta_runs.specs.SoundRuns.{IsAmong, IsSoundStart, start}
+
+-- Over two devices: no device for the empty set, those that are named, in the order of their positions, and all for the
+-- universal capability. Other positions name no device.
+abbrev pub AuthoritiesOfSets : Type 0
+AuthoritiesOfSets =
+    (authority 2 empty ≡ [])
+    × (authority 2 (variable_set out) ≡ 0 ∷ [])
+    × (authority 2 (variable_set hits) ≡ 1 ∷ [])
+    × (authority 2 (union (variable_set hits) (variable_set out)) ≡ 0 ∷ 1 ∷ [])
+    × (authority 2 (single Cap) ≡ 0 ∷ 1 ∷ [])
+    × (authority 2 (variable_set (Free 2)) ≡ [])
+    × (authority 0 (single Cap) ≡ [])
+
+-- A program with its declared types:
+--   def f: ((x: Int) -> Unit)^{out} = fun (x: Int) => out.print(x)
+--   def b: Box[((x: Int) -> Unit)^{out}] = box f
+--   def idle: (u: Unit) -> Box[((x: Int) -> Unit)^{out}] = fun (u: Unit) => b
+--   def main: ((u: Unit) -> Unit)^{out} = fun (u: Unit) => f(5)
+abbrev pub worked_store : Store
+worked_store =
+    ValueCell (LiteralTerm UnitLiteral)
+    ∷ ValueCell (entry_with (val (number 5) (Application (Free 2) (Bound 0))))
+    ∷ ValueCell (entry_with (VariableTerm (Free 3)))
+    ∷ ValueCell (BoxTerm (Free 2))
+    ∷ ValueCell prints_number
+    ∷ two_cells
+
+abbrev pub printing : Shape
+printing = FunctionShape whole_numbers empty nothing empty
+
+abbrev pub boxed_printing : Shape
+boxed_printing = BoxShape printing (variable_set out)
+
+abbrev pub idle_shape : Shape
+idle_shape = FunctionShape nothing empty boxed_printing empty
+
+abbrev pub main_shape : Shape
+main_shape = FunctionShape nothing empty nothing empty
+
+abbrev pub worked_context : Context
+worked_context =
+    TermEntry nothing empty
+    ∷ TermEntry main_shape (variable_set out)
+    ∷ TermEntry idle_shape empty
+    ∷ TermEntry boxed_printing empty
+    ∷ TermEntry printing (variable_set out)
+    ∷ TermEntry (BaseShape bases.Counter) (single Cap)
+    ∷ TermEntry (BaseShape bases.Console) (single Cap)
+    ∷ []
+
+-- the entries at their positions, applied to unit at its own
+abbrev pub idle_start : State
+idle_start = start worked_store 4 6 two_devices
+
+abbrev pub main_start : State
+main_start = start worked_store 5 6 two_devices
+
+-- Both start soundly. The box that the first one gives back holds a function that prints, and still the first one
+-- operates no device, whatever its fuel; the second one operates the console alone.
+abbrev pub IdleStartsSoundly : Type 0
+IdleStartsSoundly = IsSoundStart worked_store worked_context 4 6 2 idle_shape empty two_devices
+
+abbrev pub MainStartsSoundly : Type 0
+MainStartsSoundly = IsSoundStart worked_store worked_context 5 6 2 main_shape (variable_set out) two_devices
+
+abbrev pub IdleOperatesNothing : Type 0
+IdleOperatesNothing =
+    (fuel device : ℕ) (operation : Op) (literal : Literal)
+    → IsAmong (Operated device operation literal) (run fuel idle_start).events
+    → ⊥
+
+abbrev pub MainOperatesTheConsoleAlone : Type 0
+MainOperatesTheConsoleAlone =
+    (fuel device : ℕ) (operation : Op) (literal : Literal)
+    → IsAmong (Operated device operation literal) (run fuel main_start).events
+    → device ≡ 0
