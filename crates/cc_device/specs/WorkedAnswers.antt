@@ -5,10 +5,11 @@ use Rattle.cc_base.specs.declared.literal.Op.TheVariants as operations
 use Rattle.cc_base.specs.Literals.{Literal, UnitLiteral, TruthLiteral, NumberLiteral, TextLiteral}
 use Rattle.cc_device.specs.Devices.{DeviceState, Console, File, Counter, answer_of, Devices, operate}
 
--- the greatest and the least number that a literal can be
+-- the greatest number that a literal can be
 abbrev pub greatest : ℤ
 greatest = pos 9223372036854775807
 
+-- the least number that a literal can be
 abbrev pub least : ℤ
 least = negsuc 9223372036854775807
 
@@ -21,10 +22,11 @@ Answers device operation argument literal afterwards =
 abbrev pub HasNoAnswer : DeviceState → Op → Option Literal → Type 0
 HasNoAnswer device operation argument = answer_of device operation argument ≡ None
 
--- two lines, a number and a text
+-- a number
 abbrev pub five : Literal
 five = NumberLiteral (pos 5)
 
+-- a text
 abbrev pub greeting : Literal
 greeting = TextLiteral (104 ∷ 105 ∷ [])
 

@@ -1,10 +1,9 @@
 -- Where devices stand in a store as cells are added.
-use Rattle.std.proofs.Common.{◌≡◌, ◌<◌, arith, ℕ, suc, List, [], ◌∷◌, ◌++◌, map, length, Option, Some, None, inl, inr, refl, sym, ap, ◌∙◌}
+use Rattle.std.proofs.Common.{◌≡◌, ◌<◌, arith, ℕ, suc, List, [], ◌∷◌, ◌++◌, map, length, Some, inl, inr, sym, ap, ◌∙◌}
 use Rattle.std.specs.Prelude.{slice_get}
 use Rattle.cc_base.specs.declared.literal.Base.{Base}
 use Rattle.cc_core.specs.Terms.{Term}
-use Rattle.cc_core.specs.Contexts.{lookup}
-use Rattle.cc_core.specs.Stores.{Cell, ValueCell, DeviceCell, Store}
+use Rattle.cc_core.specs.Stores.{ValueCell, DeviceCell, Store}
 use Rattle.cc_device.specs.Devices.{DeviceState, base_of_device, Devices}
 use Rattle.cc_meta_typing.proofs.FreeMaps.{lookup_cases}
 use Rattle.cc_meta_runs.specs.SoundRuns.{FitsDevices, DevicesStandFirst}

@@ -1,33 +1,32 @@
 -- Two entries start soundly, and keep their authority.
-use Rattle.std.proofs.Common.{◌≡◌, ℕ, List, [], ◌∷◌, Some, inl, inr, refl, sym, ap, ◌∙◌, subst}
+use Rattle.std.proofs.Common.{◌≡◌, ℕ, List, [], ◌∷◌, Some, inl, inr, refl, sym, ap, subst}
 use Rattle.cc_base.specs.declared.literal.Base.TheVariants as bases
 use Rattle.cc_base.specs.declared.literal.Op.TheVariants as operations
-use Rattle.cc_base.specs.Literals.{UnitLiteral, NumberLiteral}
+use Rattle.cc_base.specs.Literals.{UnitLiteral}
 use Rattle.std.specs.Prelude.{pos}
 use Rattle.cc_capture.specs.declared.var.Var.TheVariants.{Bound, Free}
-use Rattle.cc_capture.specs.declared.var.Elem.{Elem}
 use Rattle.cc_capture.specs.declared.var.Elem.TheVariants.{Var as Variable, Cap}
 use Rattle.cc_capture.specs.Elements.{element_order, same_element}
 use Rattle.cc_capture.specs.Rising.{placed}
 use Rattle.cc_capture.specs.Sets.{Set, Member, contains, empty, insert, union, from_list, flat_image}
-use Rattle.cc_capture.proofs.Membership.{Member-empty, Member-union}
-use Rattle.cc_core.specs.Shapes.{Shape, BaseShape, FunctionShape, BoxShape, CapturingType, capturing}
+use Rattle.cc_capture.proofs.Membership.{Member-empty}
+use Rattle.cc_core.specs.Shapes.{Shape, BaseShape, capturing}
 use Rattle.cc_core.specs.Terms.{Term, VariableTerm, LiteralTerm, BoxTerm, Application}
 use Rattle.cc_core.specs.Contexts.{TermEntry, Context, lookup}
 use Rattle.cc_core.specs.Substitution.{single}
 use Rattle.cc_core.specs.Captured.{captured_variables, variable_set}
-use Rattle.cc_core.specs.Subcapturing.{Subcaptures, element, variable, SubcapturesSet}
+use Rattle.cc_core.specs.Subcapturing.{Subcaptures, variable, SubcapturesSet}
 use Rattle.cc_core.specs.WellFormed.{IsWellFormedType}
 use Rattle.cc_core.specs.Subtyping.{reflexive}
 use Rattle.cc_device.specs.Devices.{Console, Counter}
 use Rattle.cc_meta_runs.specs.Soundness.{IsListed}
 use Rattle.cc_core.specs.Typing.{HasTyping, t-var, t-lit, t-abs, t-app, t-box, t-let, t-op, t-sub, HasType}
-use Rattle.cc_core.specs.Stores.{ValueCell, DeviceCell, Store, HasStoreTyping, none_stored, value_stored, device_stored, authority}
-use Rattle.cc_core.proofs.Moving.{Member-single, Member-single_itself}
+use Rattle.cc_core.specs.Stores.{DeviceCell, HasStoreTyping, none_stored, value_stored, device_stored}
+use Rattle.cc_core.proofs.Moving.{Member-single}
 use Rattle.cc_core.proofs.SubcapturingLemmas.{subcaptures_reflexive}
-use Rattle.cc_meta_runs.specs.ExamplePrograms.{number, whole_numbers, nothing, entry_with, val, two_cells, two_devices, out, hits, print, prints_number}
+use Rattle.cc_meta_runs.specs.ExamplePrograms.{number, whole_numbers, nothing, entry_with, val, two_cells, two_devices, out, prints_number}
 use Rattle.cc_meta_runs.specs.ExampleAuthorities.{AuthoritiesOfSets, worked_store, printing, boxed_printing, idle_shape, main_shape, worked_context, IdleStartsSoundly, MainStartsSoundly, IdleOperatesNothing, MainOperatesTheConsoleAlone}
-use Rattle.cc_meta_runs.specs.SoundRuns.{FitsDevices, DevicesStandFirst, NamesDevices, IsSoundStart}
+use Rattle.cc_meta_runs.specs.SoundRuns.{FitsDevices, DevicesStandFirst, NamesDevices}
 use Rattle.cc_meta_runs.proofs.DevicesFirst.{no_devices_first, no_devices_fit, device_first, device_fits, values_first, values_fit}
 use Rattle.cc_meta_runs.proofs.RunTheorems.{typed_programs_start_soundly, entries_keep_their_authority}
 

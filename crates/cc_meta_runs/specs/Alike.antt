@@ -28,17 +28,19 @@ erased (Operation operation receiver argument) = Operation operation receiver ar
 erased (Boundary gives body) = Boundary AnyShape (erased body)
 erased (Leave gives c exit value) = Leave AnyShape empty exit value
 
--- the same in a cell, in a frame, and everywhere in a configuration
+-- the same in a cell
 abbrev pub erased_cell : Cell → Cell
 erased_cell (ValueCell value) = ValueCell (erased value)
 erased_cell (DeviceCell device base) = DeviceCell device base
 erased_cell (LabelCell label) = LabelCell label
 
+-- the same in a frame
 abbrev pub erased_frame : Frame → Frame
 erased_frame (LetFrame body) = LetFrame (erased body)
 erased_frame (ScopeFrame label) = ScopeFrame label
 erased_frame (RepetitionFrame function begun wanted) = RepetitionFrame function begun wanted
 
+-- the same everywhere in a configuration
 abbrev pub erased_configuration : Configuration → Configuration
 erased_configuration configuration =
     configured (map erased_cell configuration.store) (map erased_frame configuration.stack) configuration.labels_made

@@ -11,9 +11,9 @@ use Rattle.cc_core.specs.Terms.{VariableTerm, LiteralTerm, BoxTerm, Application}
 use Rattle.cc_core.specs.Contexts.{TermEntry, Context}
 use Rattle.cc_core.specs.Substitution.{single}
 use Rattle.cc_core.specs.Captured.{variable_set}
-use Rattle.cc_core.specs.Stores.{ValueCell, Store, authority}
+use Rattle.cc_core.specs.Stores.{Store, authority}
 use Rattle.cc_device.specs.Events.{Operated}
-use Rattle.cc_meta_runs.specs.ExamplePrograms.{number, whole_numbers, nothing, entry_with, val, two_cells, two_devices, out, hits, prints_number}
+use Rattle.cc_meta_runs.specs.ExamplePrograms.{number, whole_numbers, nothing, entry_with, val, defining, two_cells, two_devices, out, hits, prints_number}
 use Rattle.cc_meta_runs.specs.Runs.{State, run}
 use Rattle.cc_meta_runs.specs.SoundRuns.{IsAmong, IsSoundStart, start}
 
@@ -36,25 +36,30 @@ AuthoritiesOfSets =
 --   def main: ((u: Unit) -> Unit)^{out} = fun (u: Unit) => f(5)
 abbrev pub worked_store : Store
 worked_store =
-    ValueCell (LiteralTerm UnitLiteral)
-    ∷ ValueCell (entry_with (val (number 5) (Application (Free 2) (Bound 0))))
-    ∷ ValueCell (entry_with (VariableTerm (Free 3)))
-    ∷ ValueCell (BoxTerm (Free 2))
-    ∷ ValueCell prints_number
-    ∷ two_cells
+    defining (prints_number
+    ∷ BoxTerm (Free 2)
+    ∷ entry_with (VariableTerm (Free 3))
+    ∷ entry_with (val (number 5) (Application (Free 2) (Bound 0)))
+    ∷ LiteralTerm UnitLiteral
+    ∷ []) two_cells
 
+-- the declared shape of f
 abbrev pub printing : Shape
 printing = FunctionShape whole_numbers empty nothing empty
 
+-- the declared shape of b
 abbrev pub boxed_printing : Shape
 boxed_printing = BoxShape printing (variable_set out)
 
+-- the declared shape of idle
 abbrev pub idle_shape : Shape
 idle_shape = FunctionShape nothing empty boxed_printing empty
 
+-- the declared shape of main
 abbrev pub main_shape : Shape
 main_shape = FunctionShape nothing empty nothing empty
 
+-- the declared types of all cells, the newest first
 abbrev pub worked_context : Context
 worked_context =
     TermEntry nothing empty
@@ -66,27 +71,31 @@ worked_context =
     ∷ TermEntry (BaseShape bases.Console) (single Cap)
     ∷ []
 
--- the entries at their positions, applied to unit at its own
+-- the start of idle: it is at position 4, and unit at position 6
 abbrev pub idle_start : State
 idle_start = start worked_store 4 6 two_devices
 
+-- the start of main
 abbrev pub main_start : State
 main_start = start worked_store 5 6 two_devices
 
--- Both start soundly. The box that the first one gives back holds a function that prints, and still the first one
--- operates no device, whatever its fuel; the second one operates the console alone.
+-- Both start soundly. The box that idle gives back holds a function that prints, and still idle operates no device,
+-- whatever its fuel; and main operates the console alone.
 abbrev pub IdleStartsSoundly : Type 0
 IdleStartsSoundly = IsSoundStart worked_store worked_context 4 6 2 idle_shape empty two_devices
 
+-- so does main
 abbrev pub MainStartsSoundly : Type 0
 MainStartsSoundly = IsSoundStart worked_store worked_context 5 6 2 main_shape (variable_set out) two_devices
 
+-- no event of idle operates a device
 abbrev pub IdleOperatesNothing : Type 0
 IdleOperatesNothing =
     (fuel device : ℕ) (operation : Op) (literal : Literal)
     → IsAmong (Operated device operation literal) (run fuel idle_start).events
     → ⊥
 
+-- each event of main that operates a device operates the console
 abbrev pub MainOperatesTheConsoleAlone : Type 0
 MainOperatesTheConsoleAlone =
     (fuel device : ℕ) (operation : Op) (literal : Literal)

@@ -6,20 +6,23 @@ use Rattle.cc_base.specs.Literals.{NumberLiteral, TruthLiteral}
 use Rattle.cc_device.specs.WorkedAnswers.{greatest, least}
 use Rattle.cc_meta_runs.specs.Machine.{result_of}
 
--- the operator gives the number, or the truth value
+-- the operator gives the number
 abbrev pub Gives : Operator → ℤ → ℤ → ℤ → Type 0
 Gives operator left right number = result_of operator left right ≡ NumberLiteral number
 
+-- the operator gives the truth value
 abbrev pub Tells : Operator → ℤ → ℤ → Bool → Type 0
 Tells operator left right truth = result_of operator left right ≡ TruthLiteral truth
 
--- the negative numbers -1, -4 and so on: negsuc n is -(n + 1)
+-- -1; the number that is written negsuc n is -(n + 1)
 abbrev pub minus_one : ℤ
 minus_one = negsuc 0
 
+-- -2
 abbrev pub minus_two : ℤ
 minus_two = negsuc 1
 
+-- -4
 abbrev pub minus_four : ℤ
 minus_four = negsuc 3
 

@@ -1,6 +1,6 @@
--- Small programs, and their runs as the definitions give them. Definitions stand after the devices `out` and `hits`, and
--- the cell with unit after them; a step is one line of the machine's table.
-use Rattle.std.specs.Prelude.{◌≡◌, ℕ, pos, [], ◌∷◌, Some, None}
+-- Small programs, and their runs as the definitions give them. Definitions stand after the devices `out` and `hits`, so
+-- the first one is at position 2; the cell with unit stands after them. A step is one line of the machine's table.
+use Rattle.std.specs.Prelude.{◌≡◌, ℕ, pos, List, [], ◌∷◌, Some, None}
 use Rattle.cc_base.specs.declared.literal.Base.TheVariants as bases
 use Rattle.cc_base.specs.declared.literal.Operator.TheVariants as operators
 use Rattle.cc_base.specs.declared.literal.Op.TheVariants as operations
@@ -8,10 +8,10 @@ use Rattle.cc_base.specs.Literals.{UnitLiteral, NumberLiteral, TextLiteral}
 use Rattle.cc_capture.specs.declared.var.Var.{Var}
 use Rattle.cc_capture.specs.declared.var.Var.TheVariants.{Bound, Free}
 use Rattle.cc_capture.specs.Sets.{empty}
-use Rattle.cc_core.specs.Shapes.{BaseShape, AnyShape, TypeVariable, FunctionShape, BoxShape, capturing}
+use Rattle.cc_core.specs.Shapes.{Shape, BaseShape, AnyShape, TypeVariable, FunctionShape, BoxShape, capturing}
 use Rattle.cc_core.specs.Terms.{Written, Term, VariableTerm, LiteralTerm, FunctionTerm, TypeFunctionTerm, BoxTerm, Application, TypeApplication, Unboxing, Primitive, Conditional, Repetition, Operation, Boundary, Leave}
 use Rattle.cc_core.specs.Captured.{variable_set}
-use Rattle.cc_core.specs.Stores.{ValueCell, DeviceCell, LabelCell, Store}
+use Rattle.cc_core.specs.Stores.{ValueCell, DeviceCell, LabelCell}
 use Rattle.cc_core.specs.Typing.{HasType}
 use Rattle.cc_device.specs.Devices.{Console, File, Counter}
 use Rattle.cc_device.specs.Endings.{ShownFunction, ShownTypeFunction, ShownBox, ShownDevice, ShownLabel}
@@ -26,7 +26,7 @@ use Rattle.cc_meta_runs.specs.Runs.{State, run}
 --   def f = fun (x: Int) => out.print(x)
 --   def main = fun (u: Unit) => f(5)
 abbrev pub calls_it : State
-calls_it = started 3 (ValueCell (entry_with (val (number 5) (Application (Free 2) (Bound 0)))) ∷ ValueCell prints_number ∷ two_cells)
+calls_it = started 3 (prints_number ∷ entry_with (val (number 5) (Application (Free 2) (Bound 0))) ∷ [])
 
 -- It takes four steps, and with fuel for three it is out of fuel before it prints; more fuel changes nothing.
 abbrev pub FuelIsExact : Type 0
@@ -42,11 +42,14 @@ FuelIsExact =
 --   def idle = fun (u: Unit) => b
 --   def main = fun (u: Unit) => (unbox {out} b)(7)
 abbrev pub opens_it : Term
-opens_it = entry_with (val (Unboxing (Some (variable_set out)) (Free 3)) (val (number 7) (Application (Bound 1) (Bound 0))))
+opens_it =
+    entry_with
+    (val (Unboxing (Some (variable_set out)) (Free 3))
+    (val (number 7) (Application (Bound 1) (Bound 0))))
 
-abbrev pub with_box : Store
-with_box =
-    ValueCell opens_it ∷ ValueCell (entry_with (VariableTerm (Free 3))) ∷ ValueCell (BoxTerm (Free 2)) ∷ ValueCell prints_number ∷ two_cells
+-- the four definitions
+abbrev pub with_box : List Term
+with_box = prints_number ∷ BoxTerm (Free 2) ∷ entry_with (VariableTerm (Free 3)) ∷ opens_it ∷ []
 
 -- a box that is not opened does nothing
 abbrev pub BoxRuns : Type 0
@@ -60,12 +63,15 @@ BoxRuns =
 -- and the same with 3 < 2
 abbrev pub chooses : ℕ → ℕ → State
 chooses left right =
-    started 3 (ValueCell (entry_with (val
-    (val (number left) (val (number right) (Primitive operators.Less (Bound 1) (Bound 0))))
+    started 3 (prints_number
+    ∷ entry_with
+    (val (val (number left) (val (number right) (Primitive operators.Less (Bound 1) (Bound 0))))
     (Conditional (Written nothing empty) (Bound 0)
     (val (number 1) (Application (Free 2) (Bound 0)))
-    (val (number 2) (Application (Free 2) (Bound 0)))))) ∷ ValueCell prints_number ∷ two_cells)
+    (val (number 2) (Application (Free 2) (Bound 0)))))
+    ∷ [])
 
+-- a true one takes the first branch, and a false one the second
 abbrev pub ChoiceRuns : Type 0
 ChoiceRuns =
     RunsTo 100 (chooses 2 3) (printed 1 ∷ []) done_with_unit 10
@@ -74,22 +80,25 @@ ChoiceRuns =
 -- A boundary that its body ends, with a value and with a variable:
 --   fun (u: Unit) => val r = boundary [Int] a => 7; out.print(r)
 --   fun (u: Unit) => val n = 7; val r = boundary [Int] a => n; out.print(r)
-abbrev pub ends_with_value : State
-ends_with_value =
-    started 2 (ValueCell (entry_with (val (Boundary whole_numbers (number 7)) (print (Bound 0)))) ∷ two_cells)
+abbrev pub ends_with_value : Term
+ends_with_value = entry_with (val (Boundary whole_numbers (number 7)) (print (Bound 0)))
 
-abbrev pub ends_with_variable : State
+-- the second of them
+abbrev pub ends_with_variable : Term
 ends_with_variable =
-    started 2 (ValueCell (entry_with (val (number 7)
-    (val (Boundary whole_numbers (VariableTerm (Bound 1))) (print (Bound 0))))) ∷ two_cells)
+    entry_with
+    (val (number 7)
+    (val (Boundary whole_numbers (VariableTerm (Bound 1)))
+    (print (Bound 0))))
 
 -- An exit of the outer one of two boundaries:
 --   fun (u: Unit) => val r = boundary [Int] a => val s = boundary [Int] b => exit [Int] (a, 4); s + 100; out.print(r)
 abbrev pub leaves_both : Term
 leaves_both =
-    entry_with (val
-    (Boundary whole_numbers (val
-    (Boundary whole_numbers (val (number 4) (Leave whole_numbers empty (Bound 2) (Bound 0))))
+    entry_with
+    (val
+    (Boundary whole_numbers
+    (val (Boundary whole_numbers (val (number 4) (Leave whole_numbers empty (Bound 2) (Bound 0))))
     (val (number 100) (Primitive operators.Add (Bound 1) (Bound 0)))))
     (print (Bound 0)))
 
@@ -97,10 +106,9 @@ leaves_both =
 -- would add is not added.
 abbrev pub BoundaryRuns : Type 0
 BoundaryRuns =
-    RunsTo 9 ends_with_value (Entered 0 ∷ Ended 0 ∷ printed 7 ∷ []) done_with_unit 6
-    × RunsTo 9 ends_with_variable (Entered 0 ∷ Ended 0 ∷ printed 7 ∷ []) done_with_unit 7
-    × RunsTo 9 (started 2 (ValueCell leaves_both ∷ two_cells)) (Entered 0 ∷ Entered 1 ∷ Exited 0 ∷ printed 4 ∷ [])
-    done_with_unit 9
+    RunsTo 9 (started 2 (ends_with_value ∷ [])) (Entered 0 ∷ Ended 0 ∷ printed 7 ∷ []) done_with_unit 6
+    × RunsTo 9 (started 2 (ends_with_variable ∷ [])) (Entered 0 ∷ Ended 0 ∷ printed 7 ∷ []) done_with_unit 7
+    × RunsTo 9 (started 2 (leaves_both ∷ [])) (Entered 0 ∷ Entered 1 ∷ Exited 0 ∷ printed 4 ∷ []) done_with_unit 9
 
 -- A box that goes through a function of any type:
 --   def id = fun [X <: Any] => fun (x: X) => x
@@ -109,13 +117,19 @@ BoundaryRuns =
 abbrev pub identity : Term
 identity = TypeFunctionTerm AnyShape (FunctionTerm (TypeVariable (Bound 0)) empty (VariableTerm (Bound 0)))
 
+-- the definition f
 abbrev pub prints_and_gives : Term
 prints_and_gives = of_number (val (print (Bound 0)) (VariableTerm (Bound 1)))
 
+-- the shape of f
+abbrev pub prints_and_gives_shape : Shape
+prints_and_gives_shape = FunctionShape whole_numbers empty whole_numbers empty
+
+-- the definition main
 abbrev pub calls_what_was_boxed : Term
 calls_what_was_boxed =
     entry_with
-    (val (TypeApplication (Free 2) (BoxShape (FunctionShape whole_numbers empty whole_numbers empty) (variable_set out)))
+    (val (TypeApplication (Free 2) (BoxShape prints_and_gives_shape (variable_set out)))
     (val
     (val (val (BoxTerm (Free 3)) (Application (Bound 1) (Bound 0))) (Unboxing (Some (variable_set out)) (Bound 0)))
     (val (number 3) (Application (Bound 1) (Bound 0)))))
@@ -123,22 +137,21 @@ calls_what_was_boxed =
 -- the box that comes back is the one that went in
 abbrev pub BoxesPass : Type 0
 BoxesPass =
-    RunsTo 100 (started 4 (ValueCell calls_what_was_boxed ∷ ValueCell prints_and_gives ∷ ValueCell identity ∷ two_cells))
-    (printed 3 ∷ []) (done_with_number 3) 16
+    RunsTo 100 (started 4 (identity ∷ prints_and_gives ∷ calls_what_was_boxed ∷ [])) (printed 3 ∷ [])
+    (done_with_number 3) 16
 
 -- Repetitions, of a count that is itself a term:
 --   fun (u: Unit) => val f = fun (i: Int) => out.print(i); repeat(COUNT, f)
 -- or where what is repeated gives a variable, as fun (i: Int) => val w = out.print(i); w, or does nothing
 abbrev pub repeats : Term → Term → State
-repeats function count =
-    started 2 (ValueCell (entry_with (val function (val count (Repetition (Bound 0) (Bound 1))))) ∷ two_cells)
+repeats function count = started 2 (entry_with (val function (val count (Repetition (Bound 0) (Bound 1)))) ∷ [])
 
 -- 0 - 1
 abbrev pub one_less_than_none : Term
 one_less_than_none = val (number 0) (val (number 1) (Primitive operators.Sub (Bound 1) (Bound 0)))
 
--- There are as many calls as the count says, with the numbers from 0 on, and none where it is 0 or negative. What a call
--- gives, a value or a variable, does not end the repetition, which gives unit.
+-- There are as many calls as the count says, with the numbers from 0 on, and none where it is 0 or negative. What a
+-- call gives, a value or a variable, does not end the repetition, which gives unit.
 abbrev pub RepetitionRuns : Type 0
 RepetitionRuns =
     RunsTo 100 (repeats prints_number one_less_than_none) [] done_with_unit 8
@@ -158,18 +171,23 @@ RepetitionRuns =
 --     val a = title("start");
 --     val each = fun (i: Int) => val n = next(unit); line(n * 10 + i);
 --     repeat(2, each)
+-- The first of them is at this position.
 abbrev pub next : Var
 next = Free 2
 
+-- the position of line
 abbrev pub line : Var
 line = Free 3
 
+-- the position of title
 abbrev pub title : Var
 title = Free 4
 
+-- the text "start"
 abbrev pub text_start : Term
 text_start = LiteralTerm (TextLiteral (115 ∷ 116 ∷ 97 ∷ 114 ∷ 116 ∷ []))
 
+-- the function that is repeated
 abbrev pub each : Term
 each =
     of_number
@@ -178,6 +196,7 @@ each =
     (val (val (number 10) (Primitive operators.Mul (Bound 1) (Bound 0))) (Primitive operators.Add (Bound 0) (Bound 2)))
     (Application line (Bound 0))))
 
+-- the definition main
 abbrev pub uses_three_modules : Term
 uses_three_modules =
     entry_with
@@ -185,10 +204,14 @@ uses_three_modules =
     (val each
     (val (number 2) (Repetition (Bound 0) (Bound 1)))))
 
+-- the three modules, where `next` has the body
 abbrev pub linked : Term → State
 linked counting =
-    started 5 (ValueCell uses_three_modules ∷ ValueCell (FunctionTerm (BaseShape bases.Str) empty (say (Bound 0)))
-    ∷ ValueCell prints_number ∷ ValueCell (entry_with counting) ∷ two_cells)
+    started 5 (entry_with counting
+    ∷ prints_number
+    ∷ FunctionTerm (BaseShape bases.Str) empty (say (Bound 0))
+    ∷ uses_three_modules
+    ∷ [])
 
 -- The second time `next` is fun (u: Unit) => val a = hits.tick(); hits.tick()
 abbrev pub LinkedRuns : Type 0
@@ -208,16 +231,17 @@ LinkedDevices =
 
 -- The greatest number and one more, after a repetition of none:
 --   fun (u: Unit) => val f = fun (i: Int) => out.print(i); val a = repeat(0, f); 9223372036854775807 + 1
-abbrev pub passes_the_greatest : State
+abbrev pub passes_the_greatest : Term
 passes_the_greatest =
-    started 2 (ValueCell (entry_with
+    entry_with
     (val prints_number
     (val (val (number 0) (Repetition (Bound 0) (Bound 1)))
     (val (LiteralTerm (NumberLiteral greatest))
-    (val (number 1) (Primitive operators.Add (Bound 1) (Bound 0))))))) ∷ two_cells)
+    (val (number 1) (Primitive operators.Add (Bound 1) (Bound 0))))))
 
+-- the sum is the least number, and nothing is printed
 abbrev pub NumbersWrapInRuns : Type 0
-NumbersWrapInRuns = RunsTo 100 passes_the_greatest [] (done_with (NumberLiteral least)) 9
+NumbersWrapInRuns = RunsTo 100 (started 2 (passes_the_greatest ∷ [])) [] (done_with (NumberLiteral least)) 9
 
 -- A file `d` that begins with the number 3, beside the console and the counter:
 --   fun (u: Unit) =>
@@ -225,12 +249,15 @@ NumbersWrapInRuns = RunsTo 100 passes_the_greatest [] (done_with (NumberLiteral 
 abbrev pub file : Var
 file = Free 2
 
+-- d.read()
 abbrev pub read : Term
 read = Operation operations.Read file None
 
-abbrev pub file_event : ℕ → Event
-file_event n = Operated 2 operations.Read (NumberLiteral (pos n))
+-- `d` answered the number
+abbrev pub was_read : ℕ → Event
+was_read n = Operated 2 operations.Read (NumberLiteral (pos n))
 
+-- the entry
 abbrev pub reads_what_was_written : Term
 reads_what_was_written =
     entry_with
@@ -244,15 +271,17 @@ reads_what_was_written =
     (Primitive operators.Add (Bound 0) (Bound 1)))
     (print (Bound 0)))))))
 
+-- its start
 abbrev pub with_file : State
 with_file =
     started_on (Console [] ∷ Counter (pos 0) ∷ File (pos 3 ∷ []) 0 ∷ []) 3
     (ValueCell reads_what_was_written ∷ DeviceCell 2 bases.File ∷ two_cells)
 
+-- The file gives 3, what was written, and then 0.
 abbrev pub FileRun : Type 0
 FileRun =
     RunsTo 100 with_file
-    (Operated 2 operations.Write (NumberLiteral (pos 8)) ∷ file_event 3 ∷ file_event 8 ∷ file_event 0 ∷ printed 83 ∷ [])
+    (Operated 2 operations.Write (NumberLiteral (pos 8)) ∷ was_read 3 ∷ was_read 8 ∷ was_read 0 ∷ printed 83 ∷ [])
     done_with_unit 25
 
 -- Definitions that name themselves, by their own positions:
@@ -266,13 +295,15 @@ down =
     (Conditional (Written whole_numbers empty) (Bound 0) (number 0)
     (val (val (number 1) (Primitive operators.Sub (Bound 2) (Bound 0))) (Application (Free 2) (Bound 0)))))
 
+-- the definition loop
 abbrev pub loop : Term
 loop = entry_with (val (val (number 1) (print (Bound 0))) (Application (Free 4) (Bound 1)))
 
-abbrev pub recursive_definitions : Store
-recursive_definitions =
-    ValueCell loop ∷ ValueCell (entry_with (val (number 3) (Application (Free 2) (Bound 0)))) ∷ ValueCell down ∷ two_cells
+-- the three definitions
+abbrev pub recursive_definitions : List Term
+recursive_definitions = down ∷ entry_with (val (number 3) (Application (Free 2) (Bound 0))) ∷ loop ∷ []
 
+-- The first one comes to its end; the second one goes on for as long as it has fuel.
 abbrev pub RecursionRuns : Type 0
 RecursionRuns =
     RunsTo 100 (started 3 recursive_definitions) [] (done_with_number 0) 38
@@ -281,9 +312,9 @@ RecursionRuns =
 -- What is shown of answers: functions, type functions and boxes as such, a device by its number, and an exit by its
 -- label. The entries are fun (u: Unit) => f, and so on.
 abbrev pub gives : Var → State
-gives variable =
-    started 5 (ValueCell (entry_with (VariableTerm variable)) ∷ ValueCell (BoxTerm (Free 2)) ∷ ValueCell identity ∷ ValueCell prints_number ∷ two_cells)
+gives variable = started 5 (prints_number ∷ identity ∷ BoxTerm (Free 2) ∷ entry_with (VariableTerm variable) ∷ [])
 
+-- each as such
 abbrev pub AnswersAreShown : Type 0
 AnswersAreShown =
     RunsTo 9 (gives (Free 2)) [] (done_showing ShownFunction) 1

@@ -33,6 +33,7 @@ HasShapesOfCells store devices =
     (position number : ℕ) (base : Base) → lookup store position ≡ Some (DeviceCell number base)
     → option_map base_of_device (slice_get devices number) ≡ Some base
 
+-- the two are one
 abbrev pub FittingIsByShapes : Type 0
 FittingIsByShapes =
     (store : Store) (devices : Devices)
@@ -64,6 +65,7 @@ IsSoundMove before IsStuck = ⊥
 IsSoundMove before IsFinal = (shows : Shown) × (shown before.configuration ≡ Some shows)
 IsSoundMove before (Moves event after) = IsKeptSound before event after
 
+-- Moves from sound states are sound.
 abbrev pub MovesAreSound : Type 0
 MovesAreSound = (state : State) → IsSoundState state → IsSoundMove state (move state)
 
@@ -142,7 +144,8 @@ start store entry unit devices =
 
 -- The start is sound, its store has so many devices at the first positions, and the entry's declared set names devices
 -- alone, besides the universal capability.
-pub record IsSoundStart (store : Store) (context : Context) (entry unit count : ℕ) (shape : Shape) (set : Set) (devices : Devices) : Type 0 where
+pub record IsSoundStart (store : Store) (context : Context) (entry unit count : ℕ) (shape : Shape) (set : Set)
+    (devices : Devices) : Type 0 where
   pub sound : IsSoundState (start store entry unit devices)
   pub stored : HasStoreTyping store context
   pub declared : lookup context entry ≡ Some (TermEntry shape set)
