@@ -3,3 +3,4 @@ pub mod Devices
 pub mod Endings
 pub mod Events
 pub mod WorkedAnswers
+pub mod WorkedScopes

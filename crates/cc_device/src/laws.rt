@@ -1,6 +1,7 @@
 //! The device table, by its laws and by example. The functions do nothing.
 ghost use Rattle.cc_device.specs.DeviceLaws as law;
 ghost use Rattle.cc_device.specs.WorkedAnswers as example;
+ghost use Rattle.cc_device.specs.WorkedScopes as scopes;
 
 /// An operation touches one device, and keeps its shape and the number of the devices.
 pub fn operations_touch_one_device()
@@ -20,4 +21,10 @@ pub fn worked_answers()
     ensures other_kinds { example.OtherKindsDoNotAnswer }
     ensures other_arguments { example.OtherArgumentsHaveNoAnswer }
     ensures by_number { example.DevicesAnswerByTheirNumbers }
+{}
+
+/// Which events are well scoped, by example, and which are not.
+pub fn worked_scopes()
+    ensures fit { scopes.ScopesThatFit }
+    ensures do_not_fit { scopes.ScopesThatDoNotFit }
 {}

@@ -1,4 +1,4 @@
--- The authority of sets by example, and two entries whose starts are sound: what they may operate at any fuel.
+-- The authority of sets by example, and entries whose starts are sound: what they may operate at any fuel.
 use Rattle.std.specs.Prelude.{◌≡◌, ℕ, [], ◌∷◌}
 use Rattle.cc_base.specs.declared.literal.Base.TheVariants as bases
 use Rattle.cc_base.specs.declared.literal.Op.{Op}
@@ -13,7 +13,7 @@ use Rattle.cc_core.specs.Substitution.{single}
 use Rattle.cc_core.specs.Captured.{variable_set}
 use Rattle.cc_core.specs.Stores.{Store, authority}
 use Rattle.cc_device.specs.Events.{Operated}
-use Rattle.cc_meta_runs.specs.ExamplePrograms.{number, whole_numbers, nothing, entry_with, val, defining, two_cells, two_devices, out, hits, prints_number}
+use Rattle.cc_meta_runs.specs.ExamplePrograms.{number, whole_numbers, nothing, entry_with, val, defining, two_cells, two_devices, out, hits, print, prints_number}
 use Rattle.cc_meta_runs.specs.Runs.{State, run}
 use Rattle.cc_meta_runs.specs.SoundRuns.{IsAmong, IsSoundStart, start}
 
@@ -34,12 +34,14 @@ AuthoritiesOfSets =
 --   def b: Box[((x: Int) -> Unit)^{out}] = box f
 --   def idle: (u: Unit) -> Box[((x: Int) -> Unit)^{out}] = fun (u: Unit) => b
 --   def main: ((u: Unit) -> Unit)^{out} = fun (u: Unit) => f(5)
+--   def rec loop: ((u: Unit) -> Unit)^{out} = fun (u: Unit) => val w = out.print(1); loop(u)
 abbrev pub worked_store : Store
 worked_store =
     defining (prints_number
     ∷ BoxTerm (Free 2)
     ∷ entry_with (VariableTerm (Free 3))
     ∷ entry_with (val (number 5) (Application (Free 2) (Bound 0)))
+    ∷ entry_with (val (val (number 1) (print (Bound 0))) (Application (Free 6) (Bound 1)))
     ∷ LiteralTerm UnitLiteral
     ∷ []) two_cells
 
@@ -55,7 +57,7 @@ boxed_printing = BoxShape printing (variable_set out)
 abbrev pub idle_shape : Shape
 idle_shape = FunctionShape nothing empty boxed_printing empty
 
--- the declared shape of main
+-- the declared shape of main, and of loop
 abbrev pub main_shape : Shape
 main_shape = FunctionShape nothing empty nothing empty
 
@@ -64,6 +66,7 @@ abbrev pub worked_context : Context
 worked_context =
     TermEntry nothing empty
     ∷ TermEntry main_shape (variable_set out)
+    ∷ TermEntry main_shape (variable_set out)
     ∷ TermEntry idle_shape empty
     ∷ TermEntry boxed_printing empty
     ∷ TermEntry printing (variable_set out)
@@ -71,33 +74,32 @@ worked_context =
     ∷ TermEntry (BaseShape bases.Console) (single Cap)
     ∷ []
 
--- the start of idle: it is at position 4, and unit at position 6
-abbrev pub idle_start : State
-idle_start = start worked_store 4 6 two_devices
+-- the start of the entry at the position; unit is at position 7
+abbrev pub starting : ℕ → State
+starting entry = start worked_store entry 7 two_devices
 
--- the start of main
-abbrev pub main_start : State
-main_start = start worked_store 5 6 two_devices
+-- each starts soundly
+abbrev pub EntriesStartSoundly : Type 0
+EntriesStartSoundly =
+    IsSoundStart worked_store worked_context 4 7 2 idle_shape empty two_devices
+    × IsSoundStart worked_store worked_context 5 7 2 main_shape (variable_set out) two_devices
+    × IsSoundStart worked_store worked_context 6 7 2 main_shape (variable_set out) two_devices
 
--- Both start soundly. The box that idle gives back holds a function that prints, and still idle operates no device,
--- whatever its fuel; and main operates the console alone.
-abbrev pub IdleStartsSoundly : Type 0
-IdleStartsSoundly = IsSoundStart worked_store worked_context 4 6 2 idle_shape empty two_devices
-
--- so does main
-abbrev pub MainStartsSoundly : Type 0
-MainStartsSoundly = IsSoundStart worked_store worked_context 5 6 2 main_shape (variable_set out) two_devices
-
--- no event of idle operates a device
+-- The box that idle gives back holds a function that prints, and still no event of idle operates a device, whatever its
+-- fuel.
 abbrev pub IdleOperatesNothing : Type 0
 IdleOperatesNothing =
     (fuel device : ℕ) (operation : Op) (literal : Literal)
-    → IsAmong (Operated device operation literal) (run fuel idle_start).events
+    → IsAmong (Operated device operation literal) (run fuel (starting 4)).events
     → ⊥
 
--- each event of main that operates a device operates the console
-abbrev pub MainOperatesTheConsoleAlone : Type 0
-MainOperatesTheConsoleAlone =
+-- each event of the entry that operates a device operates the console
+abbrev pub OperatesTheConsoleAlone : ℕ → Type 0
+OperatesTheConsoleAlone entry =
     (fuel device : ℕ) (operation : Op) (literal : Literal)
-    → IsAmong (Operated device operation literal) (run fuel main_start).events
+    → IsAmong (Operated device operation literal) (run fuel (starting entry)).events
     → device ≡ 0
+
+-- Main and loop, which goes on for ever, operate the console alone.
+abbrev pub OthersOperateTheConsole : Type 0
+OthersOperateTheConsole = OperatesTheConsoleAlone 5 × OperatesTheConsoleAlone 6

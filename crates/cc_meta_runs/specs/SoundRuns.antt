@@ -125,7 +125,7 @@ EventsAreWellScoped =
     (fuel : ℕ) (state : State) → IsSoundState state → scopes_of state.configuration.stack ≡ []
     → IsWellScoped (run fuel state).events
 
--- so many devices stand at the first positions, each at its number
+-- devices stand only at the first positions, so many of them, and each at its number
 abbrev pub DevicesStandFirst : Store → ℕ → Type 0
 DevicesStandFirst store count =
     (position number : ℕ) (base : Base) → lookup store position ≡ Some (DeviceCell number base)

@@ -29,11 +29,10 @@ pub fn worked_runs()
     ensures typed { example.LeavingAtOnceIsTyped }
 {}
 
-/// The authority of sets by example, and two entries that start soundly: what they operate at any fuel.
+/// The authority of sets by example, and entries that start soundly: what they operate at any fuel.
 pub fn worked_authorities()
     ensures sets { authorities.AuthoritiesOfSets }
-    ensures idle { authorities.IdleStartsSoundly }
+    ensures sound { authorities.EntriesStartSoundly }
     ensures nothing { authorities.IdleOperatesNothing }
-    ensures main { authorities.MainStartsSoundly }
-    ensures console { authorities.MainOperatesTheConsoleAlone }
+    ensures console { authorities.OthersOperateTheConsole }
 {}

@@ -1,12 +1,11 @@
-use Rattle.cc_meta_runs.proofs.WorkedAuthorities.{authorities_of_sets, idle_starts_soundly, idle_operates_nothing, main_starts_soundly, main_operates_the_console_alone}
+use Rattle.cc_meta_runs.proofs.WorkedAuthorities.{authorities_of_sets, entries_start_soundly, idle_operates_nothing, others_operate_the_console}
 use Rattle.cc_meta_runs.proofs.examples.worked_authorities.Goals as goal
 
 pub returns : goal.returns
 returns c =
     record {
       sets = authorities_of_sets;
-      idle = idle_starts_soundly;
+      sound = entries_start_soundly;
       nothing = idle_operates_nothing;
-      main = main_starts_soundly;
-      console = main_operates_the_console_alone;
+      console = others_operate_the_console;
     }
