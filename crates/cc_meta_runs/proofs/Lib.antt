@@ -18,4 +18,5 @@ pub mod StoreTheorems
 pub mod StoreTyping
 pub mod TermRows
 pub mod WorkedAuthorities
+pub mod WorkedOperators
 pub mod WorkedRuns

@@ -14,11 +14,15 @@ use Rattle.cc_core.specs.Subcapturing.{Subcaptures, variable, SubcapturesSet}
 use Rattle.cc_core.specs.Subtyping.{reflexive}
 use Rattle.cc_core.specs.Typing.{t-var, t-lit, t-let, t-boundary, t-exit, t-sub}
 use Rattle.cc_core.proofs.Moving.{Member-single}
-use Rattle.cc_meta_runs.specs.ExampleRuns.{FuelIsExact, BoxRuns, ChoiceRuns, BoundaryRuns, BoxesPass, RepetitionRuns, LinkedRuns, LinkedDevices, NumbersWrapInRuns, FileRun, RecursionRuns, AnswersAreShown, LeavingAtOnceIsTyped}
+use Rattle.cc_meta_runs.specs.ExampleRuns.{FuelIsExact, NamesNeedNoCell, BoxRuns, ChoiceRuns, BoundaryRuns, BoxesPass, RepetitionRuns, LinkedRuns, LinkedDevices, NumbersWrapInRuns, FileRun, RecursionRuns, AnswersAreShown, LeavingAtOnceIsTyped}
 
 pub fuel_is_exact : FuelIsExact
 unfolding int_wrap
 fuel_is_exact = ((refl, refl, refl), (refl, refl, refl), (refl, refl, refl), (refl, refl, refl))
+
+pub names_need_no_cell : NamesNeedNoCell
+unfolding int_wrap
+names_need_no_cell = ((refl, refl, refl), refl)
 
 pub box_runs : BoxRuns
 unfolding int_wrap

@@ -1,6 +1,6 @@
 -- Small programs, and their runs as the definitions give them. Definitions stand after the devices `out` and `hits`, so
 -- the first one is at position 2; the cell with unit stands after them. A step is one line of the machine's table.
-use Rattle.std.specs.Prelude.{◌≡◌, ℕ, pos, List, [], ◌∷◌, Some, None}
+use Rattle.std.specs.Prelude.{◌≡◌, ℕ, pos, List, [], ◌∷◌, length, Some, None}
 use Rattle.cc_base.specs.declared.literal.Base.TheVariants as bases
 use Rattle.cc_base.specs.declared.literal.Operator.TheVariants as operators
 use Rattle.cc_base.specs.declared.literal.Op.TheVariants as operations
@@ -35,6 +35,16 @@ FuelIsExact =
     × RunsTo 3 calls_it [] out_of_fuel 3
     × RunsTo 0 calls_it [] out_of_fuel 0
     × RunsTo 100 calls_it (printed 5 ∷ []) done_with_unit 4
+
+-- A name for what has one:
+--   def main = fun (u: Unit) => val n = 5; val m = n; out.print(m)
+abbrev pub renames : State
+renames = started 2 (entry_with (val (number 5) (val (VariableTerm (Bound 0)) (print (Bound 0)))) ∷ [])
+
+-- That is one step without a cell: at the end there are the cells of two devices, of main, of unit, and of 5.
+abbrev pub NamesNeedNoCell : Type 0
+NamesNeedNoCell =
+    RunsTo 9 renames (printed 5 ∷ []) done_with_unit 4 × (length (run 9 renames).last.configuration.store ≡ 5)
 
 -- A box, and its opening:
 --   def f = fun (x: Int) => out.print(x)

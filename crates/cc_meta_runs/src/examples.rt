@@ -15,6 +15,7 @@ pub fn worked_operators()
 /// Whole runs, with their events, their end and what it shows, and the number of their steps; and the type of one term.
 pub fn worked_runs()
     ensures fuel { example.FuelIsExact }
+    ensures names { example.NamesNeedNoCell }
     ensures boxes { example.BoxRuns }
     ensures choices { example.ChoiceRuns }
     ensures boundaries { example.BoundaryRuns }

@@ -1,16 +1,14 @@
-use Rattle.std.proofs.Common.{refl}
-use Rattle.std.specs.Int.{int_wrap}
+use Rattle.cc_device.proofs.ComputedAnswers.{consoles_take_lines, files_give_their_numbers, files_take_numbers, counters_count, other_kinds_do_not_answer, other_arguments_have_no_answer, devices_answer_by_their_numbers}
 use Rattle.cc_device.proofs.laws.worked_answers.Goals as goal
 
 pub returns : goal.returns
-unfolding int_wrap
 returns c =
     record {
-      consoles = (refl, refl, refl);
-      files_give = (refl, refl, refl, refl);
-      files_take = (refl, refl, refl);
-      counters = (refl, refl, refl, refl);
-      other_kinds = (refl, refl, refl, refl, refl, refl, refl, refl, refl, refl);
-      other_arguments = (refl, refl, refl, refl, refl, refl, refl, refl, refl, refl);
-      by_number = (refl, refl, refl);
+      consoles = consoles_take_lines;
+      files_give = files_give_their_numbers;
+      files_take = files_take_numbers;
+      counters = counters_count;
+      other_kinds = other_kinds_do_not_answer;
+      other_arguments = other_arguments_have_no_answer;
+      by_number = devices_answer_by_their_numbers;
     }
