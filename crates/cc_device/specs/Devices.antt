@@ -25,6 +25,7 @@ pub record Answer : Type 0 where
   pub literal : Literal
   pub device : DeviceState
 
+-- the answer of the literal, which leaves the device so
 abbrev pub answering : Literal → DeviceState → Option Answer
 answering literal device = Some (record { literal = literal; device = device })
 
@@ -34,10 +35,12 @@ append_line (Console lines) line = answering UnitLiteral (Console (lines ++ line
 append_line (File numbers place) line = None
 append_line (Counter count) line = None
 
+-- a number is taken as a line, and nothing else is
 abbrev pub print_number : DeviceState → Option Literal → Option Answer
 print_number device (Some (NumberLiteral number)) = append_line device (NumberLiteral number)
 print_number device _ = None
 
+-- a text is taken as a line, and nothing else is
 abbrev pub say_text : DeviceState → Option Literal → Option Answer
 say_text device (Some (TextLiteral text)) = append_line device (TextLiteral text)
 say_text device _ = None
@@ -47,6 +50,7 @@ abbrev pub read_at : List ℤ → ℕ → Option ℤ → Option Answer
 read_at numbers place (Some number) = answering (NumberLiteral number) (File numbers (suc place))
 read_at numbers place None = answering (NumberLiteral (pos 0)) (File numbers place)
 
+-- a file is read without an argument
 abbrev pub read_number : DeviceState → Option Literal → Option Answer
 read_number (File numbers place) None = read_at numbers place (slice_get numbers place)
 read_number _ _ = None
@@ -63,8 +67,8 @@ tick_count (Counter count) None =
     answering (NumberLiteral (int_wrap w64 (count +ℤ pos 1))) (Counter (int_wrap w64 (count +ℤ pos 1)))
 tick_count _ _ = None
 
--- The device table: what a device answers to an operation with its argument, and the device afterwards. There is no answer
--- where the device is not of the operation's kind or the argument is not what the operation takes.
+-- The device table: what a device answers to an operation with its argument, and the device afterwards. There is no
+-- answer where the device is not of the operation's kind or the argument is not what the operation takes.
 abbrev pub answer_of : DeviceState → Op → Option Literal → Option Answer
 answer_of device operations.Print argument = print_number device argument
 answer_of device operations.Say argument = say_text device argument
@@ -81,9 +85,11 @@ pub record Reply : Type 0 where
   pub literal : Literal
   pub devices : Devices
 
+-- the answer of the device of the number, with that device in its place among all
 abbrev pub replying : Devices → ℕ → Answer → Reply
 replying devices number answer = record { literal = answer.literal; devices = slice_set devices number answer.device }
 
+-- the reply of the device that stands at the number, if one does
 abbrev pub reply_of : Devices → ℕ → Op → Option Literal → Option DeviceState → Option Reply
 reply_of devices number operation argument (Some device) =
     option_map (replying devices number) (answer_of device operation argument)

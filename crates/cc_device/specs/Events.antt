@@ -3,8 +3,8 @@ use Rattle.std.specs.Prelude.{◌≡◌, ℕ, List, [], ◌∷◌, ◌++◌, Opt
 use Rattle.cc_base.specs.declared.literal.Op.{Op}
 use Rattle.cc_base.specs.Literals.{Literal}
 
--- A device was operated, with the literal that it took, or else the one that it answered; or a boundary was entered, ended
--- by an answer of its body, or was left by an exit.
+-- A device was operated, with the literal that it took, or else the one that it answered; or a boundary was entered,
+-- ended by an answer of its body, or was left by an exit.
 pub data Event : Type 0 where
   Operated : (device : ℕ) (operation : Op) (literal : Literal) → Event
   Entered : (label : ℕ) → Event
@@ -16,8 +16,8 @@ abbrev pub literal_shown : Option Literal → Literal → Literal
 literal_shown (Some argument) answer = argument
 literal_shown None answer = answer
 
--- The stack of the boundaries that are entered and not yet left, after the event: an end takes the newest one away, and an
--- exit takes all down to its own, which stands there.
+-- The stack of the boundaries that are entered and not yet left, after the event: an end takes the newest one away, and
+-- an exit takes all down to its own, which stands there.
 pub data Follows : List ℕ → Event → List ℕ → Type 0 where
   operated : {scopes : List ℕ} {device : ℕ} {operation : Op} {literal : Literal}
       → Follows scopes (Operated device operation literal) scopes

@@ -36,7 +36,7 @@ same_exits (type_functions results body) s s' ex ey = cc
 same_exits (boxes sets body) s s' ex ey = cc
 
 -- a literal, or a device
-abbrev BaseIn : Option Cell → Base → Type 0
+abbrev pub BaseIn : Option Cell → Base → Type 0
 BaseIn o b = ((l : Literal) × (o ≡ Some (ValueCell (LiteralTerm l))) × (base_of l ≡ b)) ⊎ ((n : ℕ) × (o ≡ Some (DeviceCell n b)) × (is_device_base b ≡ true))
 
 no_function_base : {g : Context} {s s' : Shape} {c d : Set} {b : Base} → SubtypesDirectly g (FunctionShape s c s' d) (BaseShape b) → ⊥
@@ -79,11 +79,11 @@ base_cell (a_device {n = n} {b = b0} isd) b below =
     inr (n, ap (λ x. Some (DeviceCell n x)) same, ap is_device_base (sym same) ∙ isd)
 base_cell a_label b below = absurd (no_exit_base below)
 
-base_at : {st : Store} {g : Context} → StoreTyped st g → {v : Var} {b : Base} {d : Set} → HasVariable g v (BaseShape b) d → BaseIn (cell_at st v) b
+pub base_at : {st : Store} {g : Context} → StoreTyped st g → {v : Var} {b : Base} {d : Set} → HasVariable g v (BaseShape b) d → BaseIn (cell_at st v) b
 base_at stored {b = b} has = base_cell (cell_of stored has) b has.below
 
 -- a literal is of no device's shape
-literal_base : (l : Literal) → is_device_base (base_of l) ≡ false
+pub literal_base : (l : Literal) → is_device_base (base_of l) ≡ false
 literal_base UnitLiteral = refl
 literal_base (TruthLiteral t) = refl
 literal_base (NumberLiteral z) = refl

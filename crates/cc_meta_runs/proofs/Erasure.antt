@@ -19,16 +19,19 @@ use Rattle.cc_core.specs.Typing.{base_operated, base_taken}
 use Rattle.cc_core.specs.Stores.{Cell, ValueCell, DeviceCell, LabelCell, Store, cell_at}
 use Rattle.cc_core.proofs.Lookups.{lookup-map, length_map}
 use Rattle.cc_core.proofs.FreeActions.{putting_shape_set}
+use Rattle.cc_device.specs.Devices.{Devices, Reply, operate}
 use Rattle.cc_device.specs.Events.{Event, Entered}
+use Rattle.cc_meta_runs.specs.Answers.{shown_value, shown_cell, shown_answer, shown}
+use Rattle.cc_meta_runs.specs.Runs.{State, Move, IsStuck, IsFinal, Moves, answered, closed, move, Run, ended, after_move, end_with, ending_of, run_on, run}
 use Rattle.cc_meta_runs.specs.Machine.{Frame, LetFrame, ScopeFrame, RepetitionFrame, Stack, Configuration, configured, Outcome, Stuck, Final, Next, Ask, going, put_in, bound_to_new, let_step, apply_step, type_apply_step, unbox_step, literal_in, primitive_step, conditional_step, call_with_number, repetition_step, repeat_step, same_base, is_taken, argument_at, operation_step, below_scope, exit_to, exit_step, boundary_step, variable_step, value_step, term_step, step}
 use Rattle.cc_meta_runs.specs.Reach.{captured_by_frame, captured_by_stack, captured_set}
-use Rattle.cc_meta_runs.specs.Alike.{erased, erased_cell, erased_frame, erased_configuration, AreAlike, AlikeCaptureTheSame, AlikeStepAlike}
+use Rattle.cc_meta_runs.specs.Alike.{erased, erased_cell, erased_frame, erased_configuration, AreAlike, AlikeCaptureTheSame, AlikeStepAlike, AlikeShowTheSame, AlikeRunAlike}
 
 -- actions on what is erased
 no_set : (a : Action) (d : ℕ) → act_set a d empty ≡ empty
 no_set a d = flat_image-empty (a.element d)
 
-erased-act : (a : Action) (d : ℕ) (t : Term) → act_term a d (erased t) ≡ erased (act_term a d t)
+pub erased-act : (a : Action) (d : ℕ) (t : Term) → act_term a d (erased t) ≡ erased (act_term a d t)
 erased-act a d (VariableTerm v) = refl
 erased-act a d (LiteralTerm l) = refl
 erased-act a d (FunctionTerm s c t) = λ i. FunctionTerm AnyShape (no_set a d i) (erased-act a (suc d) t i)
@@ -57,7 +60,7 @@ same_optional None = refl
 same_optional (Some v) = refl
 
 -- no type variable is left in what is erased
-erased-putting_shape : (r : Shape) (d : ℕ) (t : Term) → act_term (putting_shape r) d (erased t) ≡ erased t
+pub erased-putting_shape : (r : Shape) (d : ℕ) (t : Term) → act_term (putting_shape r) d (erased t) ≡ erased t
 erased-putting_shape r d (VariableTerm v) = refl
 erased-putting_shape r d (LiteralTerm l) = refl
 erased-putting_shape r d (FunctionTerm s c t) = λ i. FunctionTerm AnyShape (no_set (putting_shape r) d i) (erased-putting_shape r (suc d) t i)
@@ -127,7 +130,7 @@ alike_capture_the_same left right same =
     ∙ (λ i. union (captured-erased right.term i) (captured-erased_stack right.stack i))
 
 -- what comes of a configuration, erased
-abbrev erased_outcome : Outcome → Outcome
+abbrev pub erased_outcome : Outcome → Outcome
 erased_outcome Stuck = Stuck
 erased_outcome Final = Final
 erased_outcome (Next event next) = Next event (erased_configuration next)
@@ -356,7 +359,7 @@ value-erased st (LetFrame body ∷ k) made v = bound-erased st k made v body
 value-erased st (ScopeFrame j ∷ k) made v = refl
 value-erased st (RepetitionFrame f b w ∷ k) made v = repeat-erased st k made f b w
 
-term-erased : (st : Store) (k : Stack) (made : ℕ) (t : Term) → term_step (map erased_cell st) (map erased_frame k) made (erased t) ≡ erased_outcome (term_step st k made t)
+pub term-erased : (st : Store) (k : Stack) (made : ℕ) (t : Term) → term_step (map erased_cell st) (map erased_frame k) made (erased t) ≡ erased_outcome (term_step st k made t)
 term-erased st k made (VariableTerm v) = variable-erased st k made v
 term-erased st k made (LiteralTerm l) = value-erased st k made (LiteralTerm l)
 term-erased st k made (FunctionTerm s c t) = value-erased st k made (FunctionTerm s c t)
@@ -407,3 +410,109 @@ pub alike_step_alike : AlikeStepAlike
 alike_step_alike left right same =
     alike_outcomes (step left) (step right)
     (sym (term-erased left.store left.stack left.labels_made left.term) ∙ ap step same ∙ term-erased right.store right.stack right.labels_made right.term)
+
+-- what is shown
+value_shown-erased : (v : Term) → shown_value (erased v) ≡ shown_value v
+value_shown-erased (LiteralTerm l) = refl
+value_shown-erased (BoxTerm v) = refl
+value_shown-erased (FunctionTerm s c t) = refl
+value_shown-erased (VariableTerm v) = refl
+value_shown-erased (TypeFunctionTerm s t) = refl
+value_shown-erased (Application v w) = refl
+value_shown-erased (TypeApplication v s) = refl
+value_shown-erased (Unboxing o v) = refl
+value_shown-erased (Let n s t) = refl
+value_shown-erased (Primitive p v w) = refl
+value_shown-erased (Conditional n v s t) = refl
+value_shown-erased (Repetition v w) = refl
+value_shown-erased (Operation p v o) = refl
+value_shown-erased (Boundary s t) = refl
+value_shown-erased (Leave s c v w) = refl
+
+cell_shown-erased : (o : Option Cell) → shown_cell (option_map erased_cell o) ≡ shown_cell o
+cell_shown-erased (Some (ValueCell v)) = value_shown-erased v
+cell_shown-erased (Some (DeviceCell n b)) = refl
+cell_shown-erased (Some (LabelCell n)) = refl
+cell_shown-erased None = refl
+
+answer_shown-erased : (st : Store) (t : Term) → shown_answer (map erased_cell st) (erased t) ≡ shown_answer st t
+answer_shown-erased st (VariableTerm v) = ap shown_cell (cell_at-erased st v) ∙ cell_shown-erased (cell_at st v)
+answer_shown-erased st (LiteralTerm l) = refl
+answer_shown-erased st (BoxTerm v) = refl
+answer_shown-erased st (FunctionTerm s c t) = refl
+answer_shown-erased st (TypeFunctionTerm s t) = refl
+answer_shown-erased st (Application v w) = refl
+answer_shown-erased st (TypeApplication v s) = refl
+answer_shown-erased st (Unboxing o v) = refl
+answer_shown-erased st (Let n s t) = refl
+answer_shown-erased st (Primitive p v w) = refl
+answer_shown-erased st (Conditional n v s t) = refl
+answer_shown-erased st (Repetition v w) = refl
+answer_shown-erased st (Operation p v o) = refl
+answer_shown-erased st (Boundary s t) = refl
+answer_shown-erased st (Leave s c v w) = refl
+
+pub shown-erased : (c : Configuration) → shown (erased_configuration c) ≡ shown c
+shown-erased c = answer_shown-erased c.store c.term
+
+pub alike_show_the_same : AlikeShowTheSame
+alike_show_the_same left right same = sym (shown-erased left) ∙ ap shown same ∙ shown-erased right
+
+-- moves and runs of what is erased
+abbrev pub erased_state : State → State
+erased_state state = record { configuration = erased_configuration state.configuration; devices = state.devices }
+
+abbrev pub erased_move : Move → Move
+erased_move IsStuck = IsStuck
+erased_move IsFinal = IsFinal
+erased_move (Moves event next) = Moves event (erased_state next)
+
+abbrev pub erased_run : Run → Run
+erased_run run = record { events = run.events; ending = run.ending; steps = run.steps; last = erased_state run.last }
+
+answered-erased : (n : ℕ) (op : Op) (a : Option Literal) (resume : Literal → Configuration) (o : Option Reply)
+    → answered n op a (λ answer. erased_configuration (resume answer)) o ≡ erased_move (answered n op a resume o)
+answered-erased n op a resume (Some reply) = refl
+answered-erased n op a resume None = refl
+
+closed-erased : (devices : Devices) (x : Outcome) → closed devices (erased_outcome x) ≡ erased_move (closed devices x)
+closed-erased devices Stuck = refl
+closed-erased devices Final = refl
+closed-erased devices (Next event next) = refl
+closed-erased devices (Ask n op a resume) = answered-erased n op a resume (operate devices n op a)
+
+pub move-erased : (state : State) → move (erased_state state) ≡ erased_move (move state)
+move-erased state =
+    let c = state.configuration in
+    ap (closed state.devices) (term-erased c.store c.stack c.labels_made c.term) ∙ closed-erased state.devices (step c)
+
+ending-erased : (state : State) (m : Move) → ending_of (erased_state state) (erased_move m) ≡ ending_of state m
+ending-erased state IsStuck = refl
+ending-erased state IsFinal = ap end_with (shown-erased state.configuration)
+ending-erased state (Moves event next) = refl
+
+ended-erased : (state : State) (m : Move) → ended (ending_of (erased_state state) (erased_move m)) (erased_state state) ≡ erased_run (ended (ending_of state m) state)
+ended-erased state m = ap (λ e. ended e (erased_state state)) (ending-erased state m)
+
+run_on-erased : (fuel : ℕ) (state : State) (m : Move) → ((next : State) → run fuel (erased_state next) ≡ erased_run (run fuel next))
+    → run_on (run fuel) (erased_state state) (erased_move m) ≡ erased_run (run_on (run fuel) state m)
+run_on-erased fuel state IsStuck rest = refl
+run_on-erased fuel state IsFinal rest = ended-erased state IsFinal
+run_on-erased fuel state (Moves event next) rest = ap (after_move event) (rest next)
+
+pub run-erased : (fuel : ℕ) (state : State) → run fuel (erased_state state) ≡ erased_run (run fuel state)
+run-erased zero state =
+    ap (λ m. ended (ending_of (erased_state state) m) (erased_state state)) (move-erased state) ∙ ended-erased state (move state)
+run-erased (suc fuel) state =
+    ap (run_on (run fuel) (erased_state state)) (move-erased state) ∙ run_on-erased fuel state (move state) (run-erased fuel)
+
+pub alike_run_alike : AlikeRunAlike
+alike_run_alike fuel left right same =
+    let states : erased_state left ≡ erased_state right = λ i. record { configuration = same.0 i; devices = same.1 i } in
+    let is : erased_run (run fuel left) ≡ erased_run (run fuel right) = sym (run-erased fuel left) ∙ ap (run fuel) states ∙ run-erased fuel right in
+    record {
+      events = ap (λ r. r.events) is;
+      ending = ap (λ r. r.ending) is;
+      steps = ap (λ r. r.steps) is;
+      last = (ap (λ r. r.last.configuration) is, ap (λ r. r.last.devices) is);
+    }

@@ -52,7 +52,7 @@ store_entry (label_cell {st = st} {g = g} {n = n} {s = s} stored ks) p x there =
 pub kinded_within : (g : Context) (q : ℕ) (c : Set) → IsKindedSet (kinds_of g) [] c → Member (Variable (Free q)) c → q < length g
 kinded_within g q c k m = let below = lookup-below (kinds_of g) q TermKind (k (Variable (Free q)) m) in let len = length-kinds_of g in omega arith
 
-value_of : {g : Context} {o : Option Cell} {s : Shape} {c : Set} → CellTyped g o s c → (v : Term) → o ≡ Some (ValueCell v) → Typed g v s c
+pub value_of : {g : Context} {o : Option Cell} {s : Shape} {c : Set} → CellTyped g o s c → (v : Term) → o ≡ Some (ValueCell v) → Typed g v s c
 value_of {g = g} (a_value {v = v} {s = s} {c = c} isv typed) w e = subst (λ x. Typed g x s c) (let same : v ≡ w = cc in same) typed
 value_of (a_device b) w e = cc
 value_of a_label w e = cc

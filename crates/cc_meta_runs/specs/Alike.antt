@@ -1,12 +1,14 @@
 -- Configurations that differ at most in the types and shapes written in terms. The sets of unboxings count.
-use Rattle.std.specs.Prelude.{◌≡◌, map}
+use Rattle.std.specs.Prelude.{◌≡◌, ℕ, map}
 use Rattle.cc_capture.specs.Sets.{empty}
 use Rattle.cc_core.specs.Shapes.{AnyShape}
 use Rattle.cc_base.specs.Literals.{Literal}
 use Rattle.cc_core.specs.Terms.{Absent, Term, VariableTerm, LiteralTerm, FunctionTerm, TypeFunctionTerm, BoxTerm, Application, TypeApplication, Unboxing, Let, Primitive, Conditional, Repetition, Operation, Boundary, Leave}
 use Rattle.cc_core.specs.Stores.{Cell, ValueCell, DeviceCell, LabelCell}
 use Rattle.cc_meta_runs.specs.Machine.{Frame, LetFrame, ScopeFrame, RepetitionFrame, Configuration, configured, Outcome, Stuck, Final, Next, Ask, step}
+use Rattle.cc_meta_runs.specs.Answers.{shown}
 use Rattle.cc_meta_runs.specs.Reach.{captured_set}
+use Rattle.cc_meta_runs.specs.Runs.{State, Run, run}
 
 -- the term without what is written for types and shapes
 abbrev pub erased : Term → Term
@@ -26,20 +28,25 @@ erased (Operation operation receiver argument) = Operation operation receiver ar
 erased (Boundary gives body) = Boundary AnyShape (erased body)
 erased (Leave gives c exit value) = Leave AnyShape empty exit value
 
+-- the same in a cell
 abbrev pub erased_cell : Cell → Cell
 erased_cell (ValueCell value) = ValueCell (erased value)
 erased_cell (DeviceCell device base) = DeviceCell device base
 erased_cell (LabelCell label) = LabelCell label
 
+-- the same in a frame
 abbrev pub erased_frame : Frame → Frame
 erased_frame (LetFrame body) = LetFrame (erased body)
 erased_frame (ScopeFrame label) = ScopeFrame label
 erased_frame (RepetitionFrame function begun wanted) = RepetitionFrame function begun wanted
 
+-- the same everywhere in a configuration
 abbrev pub erased_configuration : Configuration → Configuration
 erased_configuration configuration =
-    configured (map erased_cell configuration.store) (map erased_frame configuration.stack) configuration.labels_made (erased configuration.term)
+    configured (map erased_cell configuration.store) (map erased_frame configuration.stack) configuration.labels_made
+    (erased configuration.term)
 
+-- the configurations are one but for types and shapes that are written
 abbrev pub IsAlike : Configuration → Configuration → Type 0
 IsAlike left right = erased_configuration left ≡ erased_configuration right
 
@@ -49,7 +56,8 @@ AreAlike Stuck Stuck = Unit {0}
 AreAlike Final Final = Unit {0}
 AreAlike (Next event next) (Next event' next') = (event ≡ event') × IsAlike next next'
 AreAlike (Ask device operation argument resume) (Ask device' operation' argument' resume') =
-    (device ≡ device') × (operation ≡ operation') × (argument ≡ argument') × ((answer : Literal) → IsAlike (resume answer) (resume' answer))
+    (device ≡ device') × (operation ≡ operation') × (argument ≡ argument')
+    × ((answer : Literal) → IsAlike (resume answer) (resume' answer))
 AreAlike _ _ = ⊥
 
 -- alike configurations capture the same
@@ -59,3 +67,23 @@ AlikeCaptureTheSame = (left right : Configuration) → IsAlike left right → ca
 -- what comes of alike configurations is alike
 abbrev pub AlikeStepAlike : Type 0
 AlikeStepAlike = (left right : Configuration) → IsAlike left right → AreAlike (step left) (step right)
+
+-- states of alike configurations with the same devices
+abbrev pub AreAlikeStates : State → State → Type 0
+AreAlikeStates left right = IsAlike left.configuration right.configuration × (left.devices ≡ right.devices)
+
+-- runs with the same events, the same end, which shows the same, and as many steps, to alike states
+pub record AreAlikeRuns (left right : Run) : Type 0 where
+  pub events : left.events ≡ right.events
+  pub ending : left.ending ≡ right.ending
+  pub steps : left.steps ≡ right.steps
+  pub last : AreAlikeStates left.last right.last
+
+-- alike configurations show the same
+abbrev pub AlikeShowTheSame : Type 0
+AlikeShowTheSame = (left right : Configuration) → IsAlike left right → shown left ≡ shown right
+
+-- alike states have alike runs
+abbrev pub AlikeRunAlike : Type 0
+AlikeRunAlike =
+    (fuel : ℕ) (left right : State) → AreAlikeStates left right → AreAlikeRuns (run fuel left) (run fuel right)

@@ -1,7 +1,13 @@
 pub mod Alike
+pub mod Answers
+pub mod ExampleAuthorities
+pub mod ExampleOperators
+pub mod ExamplePrograms
 pub mod ExampleRuns
 pub mod Machine
 pub mod Reach
+pub mod RunLaws
 pub mod Runs
 pub mod SoundRuns
 pub mod Soundness
+pub mod StoreLaws

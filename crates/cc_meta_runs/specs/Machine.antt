@@ -20,8 +20,8 @@ use Rattle.cc_core.specs.Typing.{base_of, base_operated, base_taken}
 use Rattle.cc_core.specs.Stores.{Cell, ValueCell, DeviceCell, LabelCell, Store, cell_at}
 use Rattle.cc_device.specs.Events.{Event, Entered, Ended, Exited}
 
--- What waits for an answer: the body of a let, whose variable it becomes; a boundary, which it leaves; or a repetition of a
--- function, of which so many calls have begun and so many are wanted.
+-- What waits for an answer: the body of a let, whose variable it becomes; a boundary, which it leaves; or a repetition
+-- of a function, of which so many calls have begun and so many are wanted.
 pub data Frame : Type 0 where
   LetFrame : (body : Term) → Frame
   ScopeFrame : (label : ℕ) → Frame
@@ -38,14 +38,15 @@ pub record Configuration : Type 0 where
   pub labels_made : ℕ
   pub term : Term
 
--- What comes of a configuration: it is stuck or final, or it has a next one, with an event or without; or it asks a device
--- and goes on with the answer.
+-- What comes of a configuration: it is stuck or final, or it has a next one, with an event or without; or it asks a
+-- device and goes on with the answer.
 pub data Outcome : Type 0 where
   Stuck : Outcome
   Final : Outcome
   Next : (event : Option Event) (next : Configuration) → Outcome
   Ask : (device : ℕ) (operation : Op) (argument : Option Literal) (resume : Literal → Configuration) → Outcome
 
+-- the configuration of these parts
 abbrev pub configured : Store → Stack → ℕ → Term → Configuration
 configured store stack labels term = record { store = store; stack = stack; labels_made = labels; term = term }
 
@@ -70,16 +71,19 @@ let_step store stack labels right body =
     then bound_to_new store stack labels right body
     else going store (LetFrame body ∷ stack) labels right
 
+-- a function in the cell goes on with its body, which has the argument
 abbrev pub apply_step : Store → Stack → ℕ → Var → Option Cell → Outcome
 apply_step store stack labels argument (Some (ValueCell (FunctionTerm takes c body))) =
     going store stack labels (put_in argument body)
 apply_step store stack labels argument _ = Stuck
 
+-- a type function in the cell goes on with its body, which has the shape
 abbrev pub type_apply_step : Store → Stack → ℕ → Shape → Option Cell → Outcome
 type_apply_step store stack labels argument (Some (ValueCell (TypeFunctionTerm bound body))) =
     going store stack labels (act_term (putting_shape argument) zero body)
 type_apply_step store stack labels argument _ = Stuck
 
+-- a box in the cell goes on with its content
 abbrev pub unbox_step : Store → Stack → ℕ → Option Cell → Outcome
 unbox_step store stack labels (Some (ValueCell (BoxTerm content))) = going store stack labels (VariableTerm content)
 unbox_step store stack labels _ = Stuck
@@ -97,11 +101,13 @@ result_of operators.Mul left right = NumberLiteral (int_wrap w64 (left *ℤ righ
 result_of operators.Less left right = TruthLiteral (int_lt left right)
 result_of operators.Equal left right = TruthLiteral (int_eq left right)
 
+-- two numbers give the operator's result
 abbrev pub primitive_step : Store → Stack → ℕ → Operator → Option Literal → Option Literal → Outcome
 primitive_step store stack labels operator (Some (NumberLiteral left)) (Some (NumberLiteral right)) =
     going store stack labels (LiteralTerm (result_of operator left right))
 primitive_step store stack labels operator _ _ = Stuck
 
+-- a truth value chooses the branch: a true one the first
 abbrev pub conditional_step : Store → Stack → ℕ → Term → Term → Option Literal → Outcome
 conditional_step store stack labels positive negative (Some (TruthLiteral truth)) =
     going store stack labels (if truth then positive else negative)
@@ -110,7 +116,8 @@ conditional_step store stack labels positive negative _ = Stuck
 -- a new cell has the number, and the function is called with it, as a frame keeps count
 abbrev pub call_with_number : Store → Stack → ℕ → Var → ℕ → ℕ → ℕ → Outcome
 call_with_number store stack labels function begun wanted number =
-    going (ValueCell (LiteralTerm (NumberLiteral (pos number))) ∷ store) (RepetitionFrame function begun wanted ∷ stack) labels
+    going (ValueCell (LiteralTerm (NumberLiteral (pos number))) ∷ store)
+    (RepetitionFrame function begun wanted ∷ stack) labels
     (Application function (Free (length store)))
 
 -- a repetition calls its function first with 0, and not at all where the count is 0 or negative
@@ -161,6 +168,7 @@ below_scope label (ScopeFrame other ∷ stack) = if nat_eq other label then Some
 below_scope label (LetFrame body ∷ stack) = below_scope label stack
 below_scope label (RepetitionFrame function begun wanted ∷ stack) = below_scope label stack
 
+-- the exit goes on with its value on the stack below its scope, if that stands
 abbrev pub exit_to : Store → ℕ → Var → ℕ → Option Stack → Outcome
 exit_to store labels value label (Some stack) =
     Next (Some (Exited label)) (configured store stack labels (VariableTerm value))
@@ -174,7 +182,8 @@ exit_step store stack labels value _ = Stuck
 -- a boundary has a new label, which its body is given
 abbrev pub boundary_step : Store → Stack → ℕ → Term → Outcome
 boundary_step store stack labels body =
-    Next (Some (Entered labels)) (configured (LabelCell labels ∷ store) (ScopeFrame labels ∷ stack) (suc labels) (opened_term (length store) body))
+    Next (Some (Entered labels))
+    (configured (LabelCell labels ∷ store) (ScopeFrame labels ∷ stack) (suc labels) (opened_term (length store) body))
 
 -- what a variable that is an answer does to the top frame
 abbrev pub variable_step : Store → Stack → ℕ → Var → Outcome

@@ -16,8 +16,8 @@ IsEnd (ValueCell value) = ⊥
 IsEnd (DeviceCell device base) = Unit {0}
 IsEnd (LabelCell label) = Unit {0}
 
--- A chain leads from a position to the cell of a device or a label: each link goes from a value to what it captures, and a
--- box captures nothing. A device or a label is reached from its own position.
+-- A chain leads from a position to the cell of a device or a label: each link goes from a value to what it captures,
+-- and a box captures nothing. A device or a label is reached from its own position.
 pub data Reaches (store : Store) : ℕ → Cell → Type 0 where
   here : {position : ℕ} {cell : Cell} → lookup store position ≡ Some cell → IsEnd cell → Reaches store position cell
   through : {position next : ℕ} {value : Term} {cell : Cell}
@@ -36,6 +36,7 @@ captured_by_frame (LetFrame body) = without_binder (captured_variables body)
 captured_by_frame (ScopeFrame label) = empty
 captured_by_frame (RepetitionFrame function begun wanted) = variable_set function
 
+-- what the frames of a stack capture
 abbrev pub captured_by_stack : Stack → Set
 captured_by_stack [] = empty
 captured_by_stack (frame ∷ stack) = union (captured_by_frame frame) (captured_by_stack stack)

@@ -24,8 +24,8 @@ use Rattle.cc_meta_runs.specs.Reach.{SetReaches, captured_by_frame, captured_set
 abbrev pub repeated : Shape
 repeated = FunctionShape (BaseShape bases.Int) empty (BaseShape bases.Unit) empty
 
--- The stack takes an answer of the type of the shape and the set. The body of a let has the type that the frame below takes;
--- what a boundary or a repetition gives is below that type.
+-- The stack takes an answer of the type of the shape and the set. The body of a let has the type that the frame below
+-- takes; what a boundary or a repetition gives is below that type.
 pub data HasStackTyping (store : Store) (context : Context) : Stack → Shape → Set → Type 0 where
   no_frame : {shape : Shape} {set : Set} → IsWellFormedType context (capturing shape set)
       → HasStackTyping store context [] shape set
@@ -67,6 +67,7 @@ scopes_of (LetFrame body ∷ stack) = scopes_of stack
 scopes_of (ScopeFrame label ∷ stack) = label ∷ scopes_of stack
 scopes_of (RepetitionFrame function begun wanted ∷ stack) = scopes_of stack
 
+-- the number is one of the list
 abbrev pub IsListed : ℕ → List ℕ → Type 0
 IsListed number [] = ⊥
 IsListed number (first ∷ others) = (number ≡ first) ⊎ IsListed number others
@@ -87,9 +88,9 @@ FramesReachScopes store [] = Unit {0}
 FramesReachScopes store (frame ∷ stack) =
     ReachesOnlyScopes store (captured_by_frame frame) stack × FramesReachScopes store stack
 
--- The configuration is sound: its store, its term and its stack are typed in one context, the term with the type that the
--- stack takes; its labels have the numbers from 0 on in the order of the store; the labels of its scopes rise towards the
--- top of the stack; and its term and each frame reach only labels of scopes that stand below.
+-- The configuration is sound: its store, its term and its stack are typed in one context, the term with the type that
+-- the stack takes; its labels have the numbers from 0 on in the order of the store; the labels of its scopes rise
+-- towards the top of the stack; and its term and each frame reach only labels of scopes that stand below.
 pub record IsSound (configuration : Configuration) : Type 0 where
   pub context : Context
   pub shape : Shape
@@ -137,9 +138,10 @@ pub record IsSoundStep (before : Configuration) (event : Option Event) (after : 
   pub scopes : FitsScopes (scopes_of before.stack) event (scopes_of after.stack)
   pub operates_none : OperatesNoDevice event
 
--- A device is asked only if the term reaches it and it is of the operation's kind, with an argument that the operation takes;
--- and each answer of the operation's kind is gone on from soundly.
-pub record IsSoundQuestion (before : Configuration) (device : ℕ) (operation : Op) (argument : Option Literal) (resume : Literal → Configuration) : Type 0 where
+-- A device is asked only if the term reaches it and it is of the operation's kind, with an argument that the operation
+-- takes; and each answer of the operation's kind is gone on from soundly.
+pub record IsSoundQuestion (before : Configuration) (device : ℕ) (operation : Op) (argument : Option Literal)
+    (resume : Literal → Configuration) : Type 0 where
   pub reached : SetReaches before.store (captured_variables before.term) (DeviceCell device (base_operated operation))
   pub taken : IsTrue (is_taken (base_taken operation) argument)
   pub answered : (answer : Literal) → base_of answer ≡ base_answered operation → IsSoundStep before None (resume answer)

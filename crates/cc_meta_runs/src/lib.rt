@@ -2,4 +2,6 @@
 //! law as its contract.
 #![tactic(auto)]
 
+pub mod examples;
+pub mod runs;
 pub mod soundness;

@@ -1,3 +1,4 @@
+use Rattle.cc_meta_runs.proofs.Authority.{authority_is_what_is_named}
 use Rattle.cc_meta_runs.proofs.RunTheorems.{operated_devices_are_reached, reach_never_grows, entries_keep_their_authority}
 use Rattle.cc_meta_runs.proofs.soundness.runs_keep_their_authority.Goals as goal
 
@@ -7,4 +8,5 @@ returns c =
       operated = operated_devices_are_reached;
       reached = reach_never_grows;
       authority = entries_keep_their_authority;
+      named = authority_is_what_is_named;
     }

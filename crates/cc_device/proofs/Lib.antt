@@ -1,0 +1,3 @@
+pub mod ComputedAnswers
+pub mod Operations
+pub mod Scopes
