@@ -12,7 +12,8 @@ unfoldable pub put_reply : List ℕ → List ℕ
 put_reply name = line (codes "put " ++ encode_utf8_all name)
 
 unfoldable pub check_reply : List ℕ → ModuleVerdict → List ℕ
-check_reply name verdict = line (line (codes "check") ++ codes "  " ++ encode_utf8_all name ++ codes " " ++ verdict_text verdict)
+check_reply name verdict =
+    line (line (codes "check") ++ codes "  " ++ encode_utf8_all name ++ codes " " ++ verdict_text verdict)
 
 -- all that is written for the job
 unfoldable pub output_of : Job → List ℕ

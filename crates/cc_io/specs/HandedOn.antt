@@ -15,8 +15,8 @@ pub record Counted (S : Type 0) : Type 0 where
 abbrev pub counted : {S : Type 0} → S → ℕ → Counted S
 counted stream faults = record { stream = stream; faults = faults }
 
--- The reader was read once, into all of the room. An error is handed on as a failure. Any other answer is handed on as it
--- is, the end of the reader too, with the bytes that the reader gave.
+-- The reader was read once, into all of the room. An error is handed on as a failure. Any other answer is handed on as
+-- it is, the end of the reader too, with the bytes that the reader gave.
 abbrev pub HandsOnRead : {R : Type 0} → (R → List ℕ → Result ℕ Error → List ℕ → R → Type 0)
     → R → R → List ℕ → List ℕ → Result ℕ Failed → Type 0
 HandsOnRead reads old new room filled (Ok n) = reads old room (Ok n) filled new
@@ -41,7 +41,8 @@ HandsOnWrite writes flushes old new piece (Err write_errors.Failed) =
     ⊎ ((n : ℕ) × (error : Error) × IsFlushedBehind writes flushes old new piece n (Err error))
 HandsOnWrite writes flushes old new piece (Err write_errors.NoMemory) = ⊥
 
--- The writer got the front of the piece that is answered, and at an error some front: what it took before a flush failed.
+-- The writer got the front of the piece that is answered, and at an error some front: what it took before it failed to
+-- flush.
 abbrev pub GivesFront : Option (List ℕ) → Option (List ℕ) → Result ℕ WriteError → List ℕ → Type 0
 GivesFront old new (Ok n) piece = Appends old new (take n piece)
 GivesFront old new (Err error) piece = AppendsFront old new piece
