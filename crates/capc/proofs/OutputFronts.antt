@@ -1,6 +1,6 @@
 -- A front of a reply, written behind the replies before it, is a front of the whole output.
-use Rattle.std.proofs.Common.{◌≡◌, ℕ, ◌+◌, ◌≤◌, List, ◌++◌, length, take, Option, Some, None, Ok, Err, refl, sym, ap, ◌∙◌, arith}
-use Rattle.std.specs.Io.KnownBytes.{Appends}
+use Rattle.std.proofs.Common.{◌≡◌, ℕ, ◌+◌, List, ◌++◌, length, take, Option, Some, None, Err, sym, ap, ◌∙◌, arith}
+use Rattle.std.specs.Io.KnownBytes.{Appends, Keeps}
 use Rattle.std.proofs.lemmas.List.{append_assoc, append-nil, length-append, take-append-le, take_all}
 use Rattle.std.proofs.Math.Seq.{take-append-add}
 use Rattle.cc_io.specs.Wholes.{AppendsFront, WritesWhole}
@@ -18,6 +18,12 @@ AppendsFront-first (Some xs) None first second h = absurd h.2
 AppendsFront-first (Some xs) (Some ys) first second h =
     let inside = h.1 in
     (h.0, omega (arith, length-append first second), h.2 ∙ ap (λ t. xs ++ t) (sym (take-append-le h.0 first second inside)))
+
+-- nothing at all is a front
+pub AppendsFront-none : (old new : Option (List ℕ)) (bytes : List ℕ) → Keeps old new → AppendsFront old new bytes
+AppendsFront-none None new bytes h = (0, omega arith, tt)
+AppendsFront-none (Some xs) None bytes h = absurd h
+AppendsFront-none (Some xs) (Some ys) bytes h = (0, omega arith, h ∙ sym (append-nil xs))
 
 pub AppendsFront-whole : (old new : Option (List ℕ)) (bytes : List ℕ) → Appends old new bytes → AppendsFront old new bytes
 AppendsFront-whole None new bytes h = (0, omega arith, tt)

@@ -1,10 +1,13 @@
 -- Each answer comes exactly where its cause is: what the outcome of a call says of a source that tells its bytes.
-use Rattle.std.specs.Prelude.{◌≡◌, ℕ, ◌<◌, ◌≤◌, ◌⊎◌, List, length, Some, if◌then◌else◌}
+use Rattle.std.specs.Prelude.{◌≡◌, ◌↔◌, ℕ, ◌<◌, ◌≤◌, ◌⊎◌, List, length, Some, if◌then◌else◌}
+use Rattle.std.specs.Io.KnownBytes.{Keeps}
+use Rattle.cc_io.specs.Wholes.{AppendsFront}
 use Rattle.cc_job.specs.declared.job.Job.{Job}
 use Rattle.cc_job.specs.Job.{IsJob}
 use Rattle.capc.specs.declared.status.Status.{Status}
 use Rattle.capc.specs.declared.status.Status.TheVariants as statuses
-use Rattle.capc.specs.Outcome.{job_limit, Ends, IsSilent, IsCarriedOut, has_refusal, Outcome}
+use Rattle.capc.specs.Output.{output_of}
+use Rattle.capc.specs.Outcome.{job_limit, Ends, IsSilent, ReadsJob, IsCarriedOut, has_refusal, Outcome}
 
 -- how a call ends that carried the job out
 abbrev pub status_of : Job → Status
@@ -20,20 +23,38 @@ pub record IsFaultless (before after : Ends) (bytes : List ℕ) : Type 0 where
 abbrev pub IsSilentForMemory : Ends → Ends → Status → Type 0
 IsSilentForMemory before after status = (status ≡ statuses.NoMemory) × IsSilent before after
 
--- a job within the limit is carried out, its output written whole, unless memory lacks
+-- memory lacked, and a front of the job's output was written
+abbrev pub IsCutOffForMemory : Ends → Ends → Job → Status → Type 0
+IsCutOffForMemory before after job status =
+    (status ≡ statuses.NoMemory) × AppendsFront before.written after.written (output_of job)
+
+-- A job within the limit is carried out, its output written whole, unless memory lacks: then a front of it is written.
 abbrev pub AJobIsAnswered : Type 0
-AJobIsAnswered =
-    (before after : Ends) (status : Status) (bytes : List ℕ) (job : Job) → IsFaultless before after bytes → length bytes ≤ job_limit → IsJob bytes job → Outcome before after status
-    → (IsCarriedOut before after job × (status ≡ status_of job)) ⊎ (status ≡ statuses.NoMemory)
+AJobIsAnswered = (before after : Ends) (status : Status) (bytes : List ℕ) (job : Job)
+    → IsFaultless before after bytes → length bytes ≤ job_limit → IsJob bytes job → Outcome before after status
+    → (IsCarriedOut before after job × (status ≡ status_of job)) ⊎ IsCutOffForMemory before after job status
 
 -- bytes within the limit that are no job are refused as such, unless memory lacks, and nothing is written
 abbrev pub WhatIsNoJobIsRefused : Type 0
-WhatIsNoJobIsRefused =
-    (before after : Ends) (status : Status) (bytes : List ℕ) → IsFaultless before after bytes → length bytes ≤ job_limit → ((job : Job) → IsJob bytes job → ⊥) → Outcome before after status
+WhatIsNoJobIsRefused = (before after : Ends) (status : Status) (bytes : List ℕ)
+    → IsFaultless before after bytes → length bytes ≤ job_limit → ((job : Job) → IsJob bytes job → ⊥)
+    → Outcome before after status
     → ((status ≡ statuses.BadJob 0) × IsSilent before after) ⊎ IsSilentForMemory before after status
 
 -- more bytes than the limit are refused as too long, unless memory lacks, and nothing is written
 abbrev pub WhatIsTooLongIsRefused : Type 0
-WhatIsTooLongIsRefused =
-    (before after : Ends) (status : Status) (bytes : List ℕ) → IsFaultless before after bytes → job_limit < length bytes → Outcome before after status
+WhatIsTooLongIsRefused = (before after : Ends) (status : Status) (bytes : List ℕ)
+    → IsFaultless before after bytes → job_limit < length bytes → Outcome before after status
     → ((status ≡ statuses.TooLong) × IsSilent before after) ⊎ IsSilentForMemory before after status
+
+-- Whatever the streams tell: a read failed exactly where the status says so, and so did a write.
+abbrev pub AFaultIsTold : Type 0
+AFaultIsTold = (before after : Ends) (status : Status) → Outcome before after status
+    → ((before.read_faults < after.read_faults) ↔ (status ≡ statuses.ReadFault))
+    × ((before.write_faults < after.write_faults) ↔ (status ≡ statuses.WriteFault))
+
+-- Whatever the streams tell: nothing is written but a front of the output of the job that was read.
+abbrev pub OnlyTheOutputIsWritten : Type 0
+OnlyTheOutputIsWritten = (before after : Ends) (status : Status) → Outcome before after status
+    → Keeps before.written after.written
+    ⊎ ((job : Job) × ReadsJob before after job × AppendsFront before.written after.written (output_of job))

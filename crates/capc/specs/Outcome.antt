@@ -1,5 +1,5 @@
 -- What a call of the program may do: what is read and written, for each status.
-use Rattle.std.specs.Prelude.{◌≡◌, ℕ, ◌+◌, ◌<◌, ◌≤◌, Bool, true, false, ◌⊎◌, List, [], length, Option}
+use Rattle.std.specs.Prelude.{◌≡◌, ℕ, ◌+◌, ◌<◌, ◌≤◌, Bool, true, false, ◌⊎◌, List, length, Option}
 use Rattle.std.specs.Io.KnownBytes.{Consumes, IsAtEnd, Keeps, Appends}
 use Rattle.cc_io.specs.Wholes.{TakesCount, AppendsFront}
 use Rattle.cc_job.specs.declared.job.Job.{Job}
@@ -69,17 +69,35 @@ pub record ReadsNoJob (before after : Ends) : Type 0 where
 abbrev pub has_refusal : Job → Bool
 has_refusal job = is_refused (verdict_of job.device_name job.text)
 
--- what was read and written, for each status
+-- a read failed: no more than the limit had been taken, and nothing was written
+pub record FailsToRead (before after : Ends) : Type 0 where
+  pub fault : before.read_faults < after.read_faults
+  pub taken : TakesCount (λ n. n ≤ job_limit) before.left after.left
+  pub silent : IsSilent before after
+
+-- a write failed: the job had been read, and a front of its output was written
+pub record FailsToWrite (before after : Ends) (job : Job) : Type 0 where
+  pub fault : before.write_faults < after.write_faults
+  pub cut : IsCutOff before after job
+
+-- memory lacked before a job was read: no more than the limit had been taken, and nothing was written
+pub record LacksMemoryEarly (before after : Ends) : Type 0 where
+  pub taken : TakesMany (λ n. n ≤ job_limit) before after
+  pub silent : IsSilent before after
+
+-- memory lacked behind the reading of the job: a front of its output was written, and no write failed
+pub record LacksMemoryLate (before after : Ends) (job : Job) : Type 0 where
+  pub cut : IsCutOff before after job
+  pub no_fault : after.write_faults ≡ before.write_faults
+
+-- What was read and written, for each status.
 abbrev pub Outcome : Ends → Ends → Status → Type 0
 Outcome before after statuses.Clean = (job : Job) × IsCarriedOut before after job × (has_refusal job ≡ false)
 Outcome before after statuses.Refusals = (job : Job) × IsCarriedOut before after job × (has_refusal job ≡ true)
 Outcome before after (statuses.BadJob number) = (number ≡ 0) × ReadsNoJob before after
-Outcome before after statuses.ReadFault =
-    (before.read_faults < after.read_faults) × TakesCount (λ n. n ≤ job_limit) before.left after.left
-    × IsSilent before after
-Outcome before after statuses.WriteFault =
-    (before.write_faults < after.write_faults) × ((job : Job) × IsCutOff before after job)
+Outcome before after statuses.ReadFault = FailsToRead before after
+Outcome before after statuses.WriteFault = (job : Job) × FailsToWrite before after job
 Outcome before after statuses.NoMemory =
-    (TakesMany (λ n. n ≤ job_limit) before after × IsSilent before after) ⊎ ((after.write_faults ≡ before.write_faults) × ((job : Job) × IsCutOff before after job))
+    LacksMemoryEarly before after ⊎ ((job : Job) × LacksMemoryLate before after job)
 Outcome before after statuses.BadWords = ⊥
 Outcome before after statuses.TooLong = TakesMany (λ n. n ≡ job_limit + 1) before after × IsSilent before after

@@ -1,7 +1,8 @@
-//! What the contract of the top call says of a source that tells its bytes, where no read and no write fails.
-ghost use Rattle.capc.specs.Exactness.{AJobIsAnswered, WhatIsNoJobIsRefused, WhatIsTooLongIsRefused};
+//! What the contract of the top call says: of a source that tells its bytes, where no read and no write fails, and of faults
+//! and what is written, for all streams.
+ghost use Rattle.capc.specs.Exactness.{AJobIsAnswered, WhatIsNoJobIsRefused, WhatIsTooLongIsRefused, AFaultIsTold, OnlyTheOutputIsWritten};
 
-/// A job is carried out and its output written whole, unless memory lacks.
+/// A job is carried out and its output written whole, unless memory lacks: then a front of it is written.
 pub fn a_job_is_answered()
     ensures { AJobIsAnswered }
 {}
@@ -14,4 +15,14 @@ pub fn what_is_no_job_is_refused()
 /// What is longer than the limit is refused as such, unless memory lacks, and nothing is written.
 pub fn what_is_too_long_is_refused()
     ensures { WhatIsTooLongIsRefused }
+{}
+
+/// A read failed exactly where the status says so, and so did a write.
+pub fn a_fault_is_told()
+    ensures { AFaultIsTold }
+{}
+
+/// Nothing is written but a front of the output of the job that was read.
+pub fn only_the_output_is_written()
+    ensures { OnlyTheOutputIsWritten }
 {}

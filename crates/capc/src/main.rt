@@ -10,11 +10,13 @@ mod run;
 mod status;
 #[cfg(test)]
 mod tests;
+mod words;
 
 ghost use Rattle.std.specs.Prelude.{◌≡◌, ◌<◌};
 
 use crate::run::capc;
 use crate::status::Status;
+use crate::words::words_of;
 use cc_base::steps::Steps;
 use cc_io::{StdSink, StdSource};
 use std::alloc::Global;
@@ -35,21 +37,14 @@ fn run_standard<L: Ledger>(rt: &HostRuntime, words: &[String], blank: Blank) -> 
     capc(rt.alloc(), words, &mut source, &mut sink, &mut steps)
 }
 
-/// The words after the program's name, where the system gives them as texts.
-fn words(rt: &HostRuntime) -> io::Result<Vec<String>> {
-    let mut words = Vec::new(rt.alloc());
-    for word in env::args(rt)?.skip(1) {
-        words.push(word)?;
-    }
-    Ok(words)
-}
-
 fn main(rt: HostRuntime) -> ExitCode {
-    let status = match words(&rt) {
+    let status = match words_of(rt.alloc(), env::args(&rt)) {
         Ok(words) => run_standard::<Brand>(&rt, words.as_slice(), Blank::new(1)),
-        Err(error) if error.kind() == io::ErrorKind::OutOfMemory => Status::NoMemory,
-        Err(_) => Status::BadWords,
+        Err(status) => status,
     };
-    status.report(&rt);
-    ExitCode::from(status.number())
+    if status.has_message() {
+        // A message that cannot be written changes nothing.
+        let _ = eprintln!(rt; "{status}");
+    }
+    status.exit_code()
 }

@@ -1,5 +1,9 @@
-ghost use Rattle.std.specs.Prelude.{◌≡◌};
-ghost use Rattle.capc.specs.Status.{number_of};
+ghost use Rattle.std.specs.Prelude.{◌≡◌, ◌↔◌, IsTrue, IsSome};
+ghost use Rattle.std.specs.Process.{exit_status};
+ghost use Rattle.capc.specs.Status.{number_of, message_of};
+
+use std::fmt;
+use std::process::ExitCode;
 
 /// How a call of the program ended.
 #[derive(Clone, Copy, Debug, PartialEq, Eq)]
@@ -39,16 +43,36 @@ impl Status {
         }
     }
 
-    /// Says on standard error why nothing more came, where the job was not carried out. That this fails is not told.
-    pub fn report(self, rt: &impl Eprint) {
-        let _ = match self {
+    /// Whether the program says something on standard error: the text of `Display`.
+    pub fn has_message(self) -> bool
+        ensures { IsTrue result ↔ IsSome (message_of self) }
+    {
+        !matches!(self, Status::Clean | Status::Refusals)
+    }
+
+    /// What `main` answers.
+    pub fn exit_code(self) -> ExitCode
+        ensures { exit_status result ≡ number_of self }
+    {
+        ExitCode::from(self.number())
+    }
+}
+
+/// Why nothing more came, where the job was not carried out.
+impl fmt::Display for Status {
+    ghost use Rattle.capc.specs.Status.{message_of};
+
+    ghost output = { message_of };
+
+    fn fmt<W: fmt::Write>(&self, f: &mut fmt::Formatter<W>) -> fmt::Result {
+        match self {
             Status::Clean | Status::Refusals => Ok(()),
-            Status::BadJob(line) => eprintln!(rt; "capc: bad job at line {line}"),
-            Status::ReadFault => eprintln!(rt; "capc: read fault"),
-            Status::WriteFault => eprintln!(rt; "capc: write fault"),
-            Status::NoMemory => eprintln!(rt; "capc: out of memory"),
-            Status::BadWords => eprintln!(rt; "capc: bad words"),
-            Status::TooLong => eprintln!(rt; "capc: job too long"),
-        };
+            Status::BadJob(line) => write!(f, "capc: bad job at line {line}"),
+            Status::ReadFault => f.write_str("capc: read fault"),
+            Status::WriteFault => f.write_str("capc: write fault"),
+            Status::NoMemory => f.write_str("capc: out of memory"),
+            Status::BadWords => f.write_str("capc: bad words"),
+            Status::TooLong => f.write_str("capc: job too long"),
+        }
     }
 }

@@ -1,3 +1,4 @@
 pub mod CallPlans
 pub mod Calls
 pub mod Wholes
+pub mod HandedOn

@@ -1,4 +1,4 @@
-ghost use Rattle.std.specs.Prelude.{◌≡◌, ◌≢◌, ◌-◌, ◌^◌, ◌<◌, ◌≤◌, [], length, Some, IfOk};
+ghost use Rattle.std.specs.Prelude.{◌≡◌, ◌≢◌, ◌+◌, ◌-◌, ◌^◌, ◌<◌, ◌≤◌, [], length, Some, IfOk};
 ghost use Rattle.std.specs.Io.{ReadsAtMost};
 ghost use Rattle.std.specs.Io.KnownBytes.{ReadConsumes};
 ghost use Rattle.cc_io.specs.Calls.{ReadCause, WriteCause, Writes};
@@ -52,12 +52,15 @@ impl Source for MemSource {
 
     ghost faults = { λ s. s.faults };
 
+    ghost read_count = { λ s. s.plan.calls };
+
     /// Gives at least one byte while bytes are left and `buf` is not empty.
     fn read(&mut self, buf: &mut [u8]) -> Result<usize, Failed>
         requires { self.old.faults < 2 ^ 64 - 1 }
         ensures bound { ReadsAtMost result buf.new }
         ensures bytes { ReadConsumes (Some self.old.left) (Some self.new.left) result buf.new }
         ensures cause { ReadCause self.old.faults self.new.faults result }
+        ensures counted { self.new.plan.calls ≤ self.old.plan.calls + 1 }
         ensures most { IfOk result (λ n. n ≤ self.old.plan.most) }
         ensures some { IfOk result (λ n. 0 < length buf.old → self.old.left ≢ [] → 0 < n) }
         ensures planned { ReadFollows self.old.plan result }

@@ -1,41 +1,52 @@
-ghost use Rattle.std.specs.Prelude.{◌≡◌, ◌<◌, ◌≤◌, length, None, IfOk};
+ghost use Rattle.std.specs.Prelude.{◌≡◌, ◌+◌, ◌-◌, ◌^◌, ◌<◌, None, OnErr};
+ghost use Rattle.std.specs.Io.{ReadsAtMost};
+ghost use Rattle.std.specs.Io.KnownBytes.{ReadConsumes};
+ghost use Rattle.cc_io.specs.Calls.{ReadCause, WriteCause, Writes};
+ghost use Rattle.cc_io.specs.HandedOn.{HandsOnRead, HandsOnWrite, GivesFront, counted};
 
+use crate::streams::{Reader, Writer};
 use crate::traits::{Failed, Sink, Source, WriteError};
-use std::io::{Read, Write};
 use std::marker::Model;
 
-/// A source over a reader of std, such as standard input. It tells no bytes: contracts see its count of faults.
+/// A source over a reader of std, such as standard input. It tells the bytes that the reader tells.
 #[derive(Drop)]
-pub struct StdSource<R: Read + Drop> {
+pub struct StdSource<R: Reader + Drop> {
     reader: R,
     faults: u64,
 }
 
-impl<R: Read + Drop> Model for StdSource<R> {
-    ghost use Rattle.std.specs.Prelude.{ℕ};
+impl<R: Reader + Drop> Model for StdSource<R> {
+    ghost use Rattle.cc_io.specs.HandedOn.{Counted, counted};
 
-    ghost Value = { ℕ };
+    ghost Value = { Counted R };
 
-    ghost view = { λ s. s.faults };
+    ghost view = { λ s. counted s.reader s.faults };
 }
 
-impl<R: Read + Drop> StdSource<R> {
+impl<R: Reader + Drop> StdSource<R> {
     /// Reads from `reader`, with no fault so far.
     pub fn new(reader: R) -> StdSource<R>
-        ensures left { ⟦<StdSource<R> as Source>⟧.left result ≡ None }
-        ensures faults { ⟦<StdSource<R> as Source>⟧.faults result ≡ 0 }
+        ensures { result ≡ counted reader 0 }
     {
         StdSource { reader, faults: 0 }
     }
 }
 
-impl<R: Read + Drop> Source for StdSource<R> {
-    ghost left = { λ _. None };
+impl<R: Reader + Drop> Source for StdSource<R> {
+    ghost left = { λ s. R.remaining s.stream };
 
-    ghost faults = { λ s. s };
+    ghost faults = { λ s. s.faults };
 
-    fn read(&mut self, buf: &mut [u8]) -> Result<usize, Failed> {
-        match self.reader.read(buf) {
+    /// Reads the reader once, and hands on what it answers.
+    fn read(&mut self, buf: &mut [u8]) -> Result<usize, Failed>
+        requires { self.old.faults < 2 ^ 64 - 1 }
+        ensures bound { ReadsAtMost result buf.new }
+        ensures bytes { ReadConsumes (R.remaining self.old.stream) (R.remaining self.new.stream) result buf.new }
+        ensures cause { ReadCause self.old.faults self.new.faults result }
+        ensures by_one { OnErr result (self.new.faults ≡ self.old.faults + 1) }
+        ensures call { HandsOnRead R.reads self.old.stream self.new.stream buf.old buf.new result }
+    {
+        match self.reader.read_once(buf) {
             Ok(read) => Ok(read),
             Err(_) => {
                 self.faults += 1;
@@ -45,61 +56,67 @@ impl<R: Read + Drop> Source for StdSource<R> {
     }
 }
 
-/// A sink over a writer of std, such as standard output. It flushes the writer at each write, and tells no bytes:
-/// contracts see its count of faults.
+/// A sink over a writer of std, such as standard output. It flushes the writer at each write. It tells no bytes, since a
+/// writer may have taken some of a piece whose write fails.
 #[derive(Drop)]
-pub struct StdSink<W: Write + Drop> {
+pub struct StdSink<W: Writer + Drop> {
     writer: W,
     faults: u64,
 }
 
-impl<W: Write + Drop> Model for StdSink<W> {
-    ghost use Rattle.std.specs.Prelude.{ℕ};
+impl<W: Writer + Drop> Model for StdSink<W> {
+    ghost use Rattle.cc_io.specs.HandedOn.{Counted, counted};
 
-    ghost Value = { ℕ };
+    ghost Value = { Counted W };
 
-    ghost view = { λ s. s.faults };
+    ghost view = { λ s. counted s.writer s.faults };
 }
 
-impl<W: Write + Drop> StdSink<W> {
+impl<W: Writer + Drop> StdSink<W> {
     /// Writes to `writer`, with no fault so far.
     pub fn new(writer: W) -> StdSink<W>
-        ensures written { ⟦<StdSink<W> as Sink>⟧.written result ≡ None }
-        ensures faults { ⟦<StdSink<W> as Sink>⟧.faults result ≡ 0 }
+        ensures { result ≡ counted writer 0 }
     {
         StdSink { writer, faults: 0 }
     }
 }
 
-impl<W: Write + Drop> Sink for StdSink<W> {
+impl<W: Writer + Drop> Sink for StdSink<W> {
     ghost written = { λ _. None };
 
-    ghost faults = { λ s. s };
+    ghost faults = { λ s. s.faults };
 
-    /// A writer that takes nothing of a nonempty piece fails, and so does one that does not flush.
-    fn write(&mut self, piece: &[u8]) -> Result<usize, WriteError> {
-        match write_and_flush(&mut self.writer, piece) {
-            Ok(taken) => Ok(taken),
-            Err(Failed) => {
-                self.faults += 1;
-                Err(WriteError::Failed)
-            }
+    /// Writes to the writer once and then flushes it once. A writer that takes nothing of a nonempty piece fails.
+    fn write(&mut self, piece: &[u8]) -> Result<usize, WriteError>
+        requires { self.old.faults < 2 ^ 64 - 1 }
+        ensures taken { Writes None None result piece.now }
+        ensures cause { WriteCause self.old.faults self.new.faults result }
+        ensures by_one { OnErr result (self.new.faults ≡ self.old.faults + 1) }
+        ensures calls { HandsOnWrite W.writes W.flushes self.old.stream self.new.stream piece.now result }
+        ensures given { GivesFront (W.contents self.old.stream) (W.contents self.new.stream) result piece.now }
+    {
+        let answer = write_and_flush(&mut self.writer, piece);
+        if answer.is_err() {
+            self.faults += 1;
         }
+        answer
     }
 }
 
-/// Writes a front of `piece`, at least a byte of a nonempty piece, and flushes.
-fn write_and_flush<W: Write>(writer: &mut W, piece: &[u8]) -> Result<usize, Failed>
-    ensures { IfOk result (λ n. (n ≤ length piece.now) × (0 < length piece.now → 0 < n)) }
+/// Writes to the writer once and then flushes it once. A writer that takes nothing of a nonempty piece fails.
+fn write_and_flush<W: Writer>(writer: &mut W, piece: &[u8]) -> Result<usize, WriteError>
+    ensures taken { Writes None None result piece.now }
+    ensures calls { HandsOnWrite W.writes W.flushes writer.old writer.new piece.now result }
+    ensures given { GivesFront (W.contents writer.old) (W.contents writer.new) result piece.now }
 {
-    let Ok(taken) = writer.write(piece) else {
-        return Err(Failed);
+    let Ok(taken) = writer.write_once(piece) else {
+        return Err(WriteError::Failed);
     };
     if taken == 0 && !piece.is_empty() {
-        return Err(Failed);
+        return Err(WriteError::Failed);
     }
-    match writer.flush() {
+    match writer.flush_once() {
         Ok(()) => Ok(taken),
-        Err(_) => Err(Failed),
+        Err(_) => Err(WriteError::Failed),
     }
 }

@@ -1,9 +1,9 @@
 use crate::{
-    MemSink, MemSource, NeverSink, NeverSource, ReadAll, StdSink, StdSource, WriteAll, read_all,
-    write_all,
+    Failed, MemSink, MemSource, NeverSink, NeverSource, ReadAll, Sink, Source, StdSink, StdSource,
+    WriteAll, WriteError, read_all, write_all,
 };
 use std::alloc::{AllocError, Global};
-use std::io::{self, Write};
+use std::io::{self, Read, Write};
 use std::test::Fail;
 
 /// How many bytes there are, how many a call moves at most, and how many calls that moves bytes it takes to move all.
@@ -117,42 +117,210 @@ fn a_sink_that_never_fails_keeps_all(rt: HostRuntime) -> Result<(), Fail> {
     Ok(())
 }
 
-/// A writer that takes at most three bytes a call, and counts its calls and its flushes.
-#[derive(Drop)]
-struct Slow {
-    writes: u32,
-    flushes: u32,
+/// What a reader or a writer was asked for, and what it answered.
+#[derive(Clone, Copy, Debug, PartialEq, Eq)]
+enum Call {
+    Read(usize),
+    ReadFailed,
+    Wrote(usize),
+    WriteFailed,
+    Flushed,
+    FlushFailed,
 }
 
-impl Write for Slow {
+/// A reader of `left` that gives at most `most` bytes a call, fails at the call of this number, counted from 1, and records
+/// its calls.
+#[derive(Drop)]
+struct FakeReader<'a> {
+    left: &'a [u8],
+    most: usize,
+    failing: usize,
+    calls: Vec<Call>,
+}
+
+impl Read for FakeReader<'_> {
+    fn read(&mut self, buf: &mut [u8]) -> io::Result<usize> {
+        if self.calls.len() == self.failing.saturating_sub(1) && self.failing > 0 {
+            self.calls.push(Call::ReadFailed)?;
+            return Err(io::Error::other("no read"));
+        }
+        let room = buf.len().min(self.most);
+        let read = self.left.read(&mut buf[..room])?;
+        self.calls.push(Call::Read(read))?;
+        Ok(read)
+    }
+}
+
+/// A writer that takes at most `most` bytes a call, fails at the call of this number, counted from 1, and records its calls.
+#[derive(Drop)]
+struct FakeWriter {
+    most: usize,
+    failing: usize,
+    calls: Vec<Call>,
+}
+
+impl FakeWriter {
+    fn fails_now(&self) -> bool {
+        self.failing > 0 && self.calls.len() == self.failing - 1
+    }
+}
+
+impl Write for FakeWriter {
     fn write(&mut self, buf: &[u8]) -> io::Result<usize> {
-        self.writes = self.writes.saturating_add(1);
-        Ok(buf.len().min(3))
+        if self.fails_now() {
+            self.calls.push(Call::WriteFailed)?;
+            return Err(io::Error::other("no write"));
+        }
+        let taken = buf.len().min(self.most);
+        self.calls.push(Call::Wrote(taken))?;
+        Ok(taken)
     }
 
     fn flush(&mut self) -> io::Result<()> {
-        self.flushes = self.flushes.saturating_add(1);
+        if self.fails_now() {
+            self.calls.push(Call::FlushFailed)?;
+            return Err(io::Error::other("no flush"));
+        }
+        self.calls.push(Call::Flushed)?;
         Ok(())
     }
 }
 
 #[test]
-fn reads_and_writes_by_std(rt: HostRuntime) -> Result<(), Fail> {
-    let text = b"one two".as_slice();
-    let mut source = StdSource::new(text);
-    match read_all(rt.alloc(), &mut source, 7) {
-        Ok(all) => assert_eq!(rt; all.as_slice(), text),
-        Err(error) => assert!(rt; false, "{error:?}"),
+fn a_source_hands_on_what_its_reader_answers(rt: HostRuntime) -> Result<(), Fail> {
+    let alloc = rt.alloc();
+    // Seven bytes, at most three a call: the fourth call finds the end.
+    let all = [Call::Read(3), Call::Read(3), Call::Read(1), Call::Read(0)];
+    for failing in [0, 1, 2, 3, 4, 5] {
+        let mut reader = FakeReader {
+            left: b"one two",
+            most: 3,
+            failing,
+            calls: Vec::new(alloc),
+        };
+        let answer = read_all(alloc, &mut StdSource::new(&mut reader), 7);
+        let fails = failing > 0 && failing <= 4;
+        match answer {
+            Ok(bytes) => assert!(rt;
+                !fails && bytes.as_slice() == b"one two".as_slice(),
+                "{failing}"
+            ),
+            Err(error) => assert!(rt; fails && error == ReadAll::ReadFault, "{failing}"),
+        }
+        // Nothing is asked of a reader that failed.
+        let answered = if fails { failing - 1 } else { 4 };
+        assert!(rt; answered <= 4);
+        let mut calls = Vec::from_slice(alloc, &all[..answered])?;
+        if fails {
+            calls.push(Call::ReadFailed)?;
+        }
+        assert_eq!(rt; reader.calls, calls, "{failing}");
     }
+    Ok(())
+}
 
-    let mut slow = Slow {
-        writes: 0,
-        flushes: 0,
+#[test]
+fn a_source_goes_on_behind_a_failed_read(rt: HostRuntime) -> Result<(), Fail> {
+    let mut reader = FakeReader {
+        left: b"one two",
+        most: 3,
+        failing: 2,
+        calls: Vec::new(rt.alloc()),
     };
-    assert_eq!(rt; write_all(&mut StdSink::new(&mut slow), text), Ok(()));
-    assert_eq!(rt; slow.writes, 3);
-    assert_eq!(rt; slow.flushes, 3);
+    let mut source = StdSource::new(&mut reader);
+    let mut buf = [b'.'; 5];
+    assert_eq!(rt; source.read(&mut buf), Ok(3));
+    assert_eq!(rt; &buf[..], b"one..".as_slice());
+    assert_eq!(rt; source.read(&mut buf), Err(Failed));
+    assert_eq!(rt; source.read(&mut buf), Ok(3));
+    assert_eq!(rt; &buf[..], b" tw..".as_slice());
+    Ok(())
+}
 
+#[test]
+fn a_sink_flushes_behind_each_write(rt: HostRuntime) -> Result<(), Fail> {
+    let alloc = rt.alloc();
+    let all = [
+        Call::Wrote(3),
+        Call::Flushed,
+        Call::Wrote(3),
+        Call::Flushed,
+        Call::Wrote(1),
+        Call::Flushed,
+    ];
+    for failing in [0, 1, 2, 3, 4, 5, 6, 7] {
+        let mut writer = FakeWriter {
+            most: 3,
+            failing,
+            calls: Vec::new(alloc),
+        };
+        let answer = write_all(&mut StdSink::new(&mut writer), b"one two");
+        let fails = failing > 0 && failing <= 6;
+        assert_eq!(rt;
+            answer,
+            if fails {
+                Err(WriteAll::WriteFault)
+            } else {
+                Ok(())
+            },
+            "{failing}"
+        );
+        let answered = if fails { failing - 1 } else { 6 };
+        assert!(rt; answered <= 6);
+        let mut calls = Vec::from_slice(alloc, &all[..answered])?;
+        if fails {
+            calls.push(if failing % 2 == 1 {
+                Call::WriteFailed
+            } else {
+                Call::FlushFailed
+            })?;
+        }
+        assert_eq!(rt; writer.calls, calls, "{failing}");
+    }
+    Ok(())
+}
+
+#[test]
+fn a_sink_goes_on_behind_a_failed_write(rt: HostRuntime) -> Result<(), Fail> {
+    let alloc = rt.alloc();
+    for (most, failing, piece, answer, calls) in [
+        (
+            3,
+            0,
+            b"one two".as_slice(),
+            Ok(3),
+            [Call::Wrote(3), Call::Flushed].as_slice(),
+        ),
+        (9, 0, b"one two", Ok(7), &[Call::Wrote(7), Call::Flushed]),
+        (3, 0, b"", Ok(0), &[Call::Wrote(0), Call::Flushed]),
+        (0, 0, b"one", Err(WriteError::Failed), &[Call::Wrote(0)]),
+        (3, 1, b"one", Err(WriteError::Failed), &[Call::WriteFailed]),
+        (
+            3,
+            2,
+            b"one",
+            Err(WriteError::Failed),
+            &[Call::Wrote(3), Call::FlushFailed],
+        ),
+    ] {
+        let mut writer = FakeWriter {
+            most,
+            failing,
+            calls: Vec::new(alloc),
+        };
+        let mut sink = StdSink::new(&mut writer);
+        assert_eq!(rt; sink.write(piece), answer);
+        // The next write asks the writer again.
+        assert_eq!(rt; sink.write(b""), Ok(0));
+        let mut all = Vec::from_slice(alloc, calls)?;
+        all.extend_from_slice(&[Call::Wrote(0), Call::Flushed])?;
+        assert_eq!(rt; writer.calls, all);
+    }
+    Ok(())
+}
+
+#[test]
+fn reads_and_writes_by_the_system(rt: HostRuntime) -> Result<(), Fail> {
     assert_eq!(rt; write_all(&mut StdSink::new(io::writer(&rt)), b""), Ok(()));
     let rest = read_all(rt.alloc(), &mut StdSource::new(rt.reader()), 1000);
     assert!(rt; rest.is_ok());

@@ -1,4 +1,4 @@
-ghost use Rattle.std.specs.Prelude.{ℕ, ◌-◌, ◌^◌, ◌<◌, List, Option};
+ghost use Rattle.std.specs.Prelude.{ℕ, ◌+◌, ◌-◌, ◌^◌, ◌<◌, ◌≤◌, List, Option};
 ghost use Rattle.std.specs.Io.{ReadsAtMost};
 ghost use Rattle.std.specs.Io.KnownBytes.{ReadConsumes};
 ghost use Rattle.cc_io.specs.Calls.{ReadCause, WriteCause, Writes};
@@ -24,6 +24,9 @@ pub trait Source {
     // how often a read failed
     ghost faults: { Self → ℕ };
 
+    // how many reads were made, where the source counts them
+    ghost read_count: { Self → ℕ } = { λ _. 0 };
+
     /// Puts bytes to the front of `buf` and answers how many. It answers 0 to a nonempty `buf` only at the end.
     ///
     /// `Failed`: the count of faults rose, and no byte was taken.
@@ -31,7 +34,8 @@ pub trait Source {
         requires { faults self.old < 2 ^ 64 - 1 }
         ensures bound { ReadsAtMost result buf.new }
         ensures bytes { ReadConsumes (left self.old) (left self.new) result buf.new }
-        ensures cause { ReadCause (faults self.old) (faults self.new) result };
+        ensures cause { ReadCause (faults self.old) (faults self.new) result }
+        ensures counted { read_count self.new ≤ read_count self.old + 1 };
 }
 
 /// Where bytes go. A sink may tell the bytes that were written, and counts its faults. It may take memory to write.

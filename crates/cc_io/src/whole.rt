@@ -1,4 +1,4 @@
-ghost use Rattle.std.specs.Prelude.{ℕ, ◌-◌, ◌^◌, ◌<◌, ◌≤◌, length, IfOk};
+ghost use Rattle.std.specs.Prelude.{ℕ, ◌+◌, ◌-◌, ◌^◌, ◌<◌, ◌≤◌, length, IfOk};
 ghost use Rattle.std.specs.Io.KnownBytes.{Consumes, IsAtEnd};
 ghost use Rattle.cc_io.specs.Wholes.{Takes, ReadAllCause, WritesWhole, WriteAllCause};
 
@@ -28,7 +28,8 @@ pub enum WriteAll {
     NoMemory,
 }
 
-/// Reads to the end: all the bytes that were left, if they are at most `limit`. It takes no more than `limit + 1` bytes.
+/// Reads to the end: all the bytes that were left, if they are at most `limit`. It takes no more than `limit + 1` bytes,
+/// in no more than `limit + 1` reads.
 ///
 /// `ReadFault`: a read failed, and the count of faults rose. `TooLong`: `limit + 1` bytes were taken.
 /// `NoMemory`: there is no memory for the bytes. At an error the source does not get back what was taken.
@@ -43,6 +44,7 @@ pub fn read_all<S: Source>(alloc: Global, source: &mut S, limit: usize) -> Resul
     // How many bytes were taken at each answer.
     ensures taken { Takes limit (S.left source.old) (S.left source.new) result }
     ensures cause { ReadAllCause (S.faults source.old) (S.faults source.new) result }
+    ensures reads { S.read_count source.new ≤ S.read_count source.old + limit + 1 }
 {
     let mut bytes = Vec::new(alloc);
     let mut buf = [0; CHUNK];

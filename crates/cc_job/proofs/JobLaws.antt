@@ -1,6 +1,6 @@
 -- Reading finds a job exactly where the bytes are the text of one, and they are the text of at most one.
-use Rattle.std.proofs.Common.{◌≡◌, ℕ, ◌^◌, ◌<◌, ◌≤◌, Bool, true, false, ◌&&◌, cond, leb, List, [], ◌∷◌, ◌++◌, length, Option, Some, None, refl, sym, ap, ◌∙◌, subst, inl, inr, ◌⊎◌, ⊎_elim, arith, rules, tests}
-use Rattle.std.specs.Prelude.{codes, encode_utf8_all, IsTrue, ◌==◌, count_by, nat_le, unwrap_or}
+use Rattle.std.proofs.Common.{◌≡◌, ℕ, ◌^◌, ◌<◌, ◌≤◌, true, ◌&&◌, cond, List, [], ◌∷◌, ◌++◌, length, Option, Some, None, refl, sym, ap, ◌∙◌, subst, inl, inr, ⊎_elim, arith}
+use Rattle.std.specs.Prelude.{codes, encode_utf8_all, ◌==◌, nat_le, unwrap_or}
 use Rattle.std.specs.Fmt.{decimal}
 use Rattle.std.specs.Str.{bytes_eq}
 use Rattle.std.proofs.lemmas.List.{append_assoc}
@@ -12,7 +12,8 @@ use Rattle.cc_base.specs.Names.{IsName}
 use Rattle.cc_job.specs.declared.job.Job.{Job}
 use Rattle.cc_job.specs.Job.{text_limit, line, are_lines, line_count, device_line_text, put_line_text, front_text, IsJob, BytesHaveOneJob}
 use Rattle.cc_job.specs.Reading.{◌>>=◌, after_prefix, cut_at, name_of, device_line, put_line, text_before_check, is_text, job_of}
-use Rattle.cc_job.proofs.Steps.{some_from_bind, passed, both, after_prefix_gives, after_prefix-append, cut_at_gives, cut_at-append, name_of_gives, name_of-encoded, Lacks-name, Lacks, Lacks-decimal, EndsWithCheck, text_before_check_gives, text_before_check-append}
+use Rattle.cc_job.proofs.Steps.{some_from_bind, passed, both, after_prefix_gives, after_prefix-append, cut_at_gives, cut_at-append, name_of_gives, Lacks, Lacks-decimal, EndsWithCheck, text_before_check_gives, text_before_check-append}
+use Rattle.cc_job.proofs.NameBytes.{name_of-encoded, Lacks-name}
 
 -- what device_line does behind each of its steps
 abbrev after_device_name : List ℕ → List ℕ → Option (List ℕ × List ℕ)
@@ -58,7 +59,7 @@ device_line-text name rest named =
     let behind = console_line ++ rest in
     ap device_line (device_line_text_is name rest)
     ∙ (ap (λ o. o >>= after_device) (after_prefix-append device_front (encode_utf8_all name ++ 32 ∷ behind))
-    ∙ (ap (λ o. o >>= after_device_cut) (cut_at-append 32 (encode_utf8_all name) behind (Lacks-name name named))
+    ∙ (ap (λ o. o >>= after_device_cut) (cut_at-append 32 (encode_utf8_all name) behind (Lacks-name 32 name refl named))
     ∙ (ap (λ o. o >>= λ it. after_device_name it behind) (name_of-encoded name named)
     ∙ ap (λ o. o >>= λ it. Some (name, it)) (after_prefix-append console_line rest))))
 
@@ -112,7 +113,7 @@ unfolding put_line
 put_line-text name digits rest named lacks =
     let behind = digits ++ 10 ∷ rest in
     ap (λ o. o >>= after_put) (after_prefix-append (codes "put ") (encode_utf8_all name ++ 32 ∷ behind))
-    ∙ (ap (λ o. o >>= after_put_cut) (cut_at-append 32 (encode_utf8_all name) behind (Lacks-name name named))
+    ∙ (ap (λ o. o >>= after_put_cut) (cut_at-append 32 (encode_utf8_all name) behind (Lacks-name 32 name refl named))
     ∙ (ap (λ o. o >>= λ it. after_put_name it behind) (name_of-encoded name named)
     ∙ ap (λ o. o >>= λ number. Some (name, number.0, number.1)) (cut_at-append 10 digits rest lacks)))
 

@@ -1,18 +1,16 @@
 -- Each step of reading gives what stands there, and what stands there is read.
-use Rattle.std.proofs.Common.{◌≡◌, ◌≢◌, ℕ, zero, suc, ◌+◌, ◌-◌, ◌*◌, ◌^◌, ◌<◌, ◌≤◌, ◌/◌, ◌%◌, Bool, true, false, ◌&&◌, ◌==◌, eqb, cond, List, [], ◌∷◌, ◌++◌, length, take, drop, get_or, Option, Some, None, refl, sym, ap, ◌∙◌, subst, inl, inr, ◌⊎◌, ⊎_elim, arith, rules, tests}
-use Rattle.std.specs.Prelude.{codes, encode_utf8_all, IsTrue}
-use Rattle.std.specs.Option.{option_map, option_and_then}
-use Rattle.std.specs.Str.{chars, is_utf8, bytes_eq, IsUtf8, IsAscii}
-use Rattle.std.specs.List.{list_all}
-use Rattle.std.specs.Char.{is_ascii_alphanumeric, is_ascii_alphabetic}
+use Rattle.std.proofs.Common.{◌≡◌, ℕ, ◌+◌, ◌-◌, ◌^◌, ◌<◌, ◌%◌, Bool, true, false, ◌&&◌, ◌==◌, cond, List, [], ◌∷◌, ◌++◌, length, take, drop, get_or, Option, Some, None, refl, sym, ap, ◌∙◌, subst, inl, inr, ◌⊎◌, ⊎_elim, arith}
+use Rattle.std.specs.Prelude.{codes, encode_utf8_all}
+use Rattle.std.specs.Option.{option_map}
+use Rattle.std.specs.Str.{chars, is_utf8, IsUtf8}
 use Rattle.std.specs.Fmt.{decimal}
-use Rattle.std.proofs.lemmas.Str.{IsUtf8-from_is_utf8, is_utf8-from_IsUtf8, encodes-chars, chars-IsAscii, encodes-IsAscii, IsUtf8-from_ascii}
+use Rattle.std.proofs.lemmas.Str.{IsUtf8-from_is_utf8, is_utf8-from_IsUtf8, encodes-chars}
 use Rattle.std.proofs.lemmas.Slice.Eq.{bytes_eq-Decides}
 use Rattle.std.proofs.lemmas.List.{take-append-drop, take_at, drop_at, length-append, at_drop_more, append_assoc, take_more, same_from_push}
 use Rattle.std.proofs.lemmas.Bool.Decides.{nat_tests, Decides-eqb}
 use Rattle.std.proofs.lemmas.Fmt.{decimal_by_steps}
 use Rattle.std.proofs.lemmas.Option.{some_pair_parts}
-use Rattle.cc_base.specs.Names.{spells_name, first_passes, is_reserved, IsName}
+use Rattle.cc_base.specs.Names.{spells_name, IsName}
 use Rattle.cc_job.specs.Reading.{◌>>=◌, after_prefix, before_suffix, cut_at, name_of, first_of_both, text_before_check}
 
 -- a step that gave something
@@ -91,32 +89,7 @@ cut_at_turn c bytes i inside other =
     ap (before_cut (take i bytes)) (at_drop_more (cut_at c) bytes i 0 inside)
     ∙ (rw (other, take_more bytes i 0 inside) (before_cut_more (take i bytes) (get_or bytes i 0) (cut_at c (drop (i + 1) bytes))))
 
--- a name is ASCII, so its text is itself, and no separator stands in it
-alphanumeric_is_ascii : (c : ℕ) → is_ascii_alphanumeric c ≡ true → (c < 128) × ((c == 32) ≡ false) × ((c == 10) ≡ false)
-alphanumeric_is_ascii c h = (grind (arith, nat_tests), grind (arith, nat_tests), grind (arith, nat_tests))
-
-list_all-cons : (test : ℕ → Bool) (c : ℕ) (cs : List ℕ) → list_all test (c ∷ cs) ≡ true → (test c ≡ true) × (list_all test cs ≡ true)
-list_all-cons test c cs h = both (test c) (list_all test cs) h
-
-IsAscii-alphanumeric : (cs : List ℕ) → list_all is_ascii_alphanumeric cs ≡ true → IsAscii cs
-IsAscii-alphanumeric [] h zero = omega arith
-IsAscii-alphanumeric [] h (suc i) = omega arith
-IsAscii-alphanumeric (c ∷ cs) h zero = (alphanumeric_is_ascii c (list_all-cons is_ascii_alphanumeric c cs h).0).0
-IsAscii-alphanumeric (c ∷ cs) h (suc i) = IsAscii-alphanumeric cs (list_all-cons is_ascii_alphanumeric c cs h).1 i
-
-Lacks-alphanumeric : (cs : List ℕ) → list_all is_ascii_alphanumeric cs ≡ true → Lacks 32 cs
-Lacks-alphanumeric [] h = tt
-Lacks-alphanumeric (c ∷ cs) h = ((alphanumeric_is_ascii c (list_all-cons is_ascii_alphanumeric c cs h).0).1, Lacks-alphanumeric cs (list_all-cons is_ascii_alphanumeric c cs h).1)
-
-name_characters : (name : List ℕ) → IsName name → list_all is_ascii_alphanumeric name ≡ true
-name_characters name h = (both _ _ (both _ _ h).0).1
-
-pub encoded_name : (name : List ℕ) → IsName name → encode_utf8_all name ≡ name
-encoded_name name h = encodes-IsAscii name (IsAscii-alphanumeric name (name_characters name h))
-
-pub Lacks-name : (name : List ℕ) → IsName name → Lacks 32 (encode_utf8_all name)
-Lacks-name name h = rw (encoded_name name h) (Lacks-alphanumeric name (name_characters name h))
-
+-- the name that a word is
 pub name_of_gives : (word name : List ℕ) → name_of word ≡ Some name → IsName name × (word ≡ encode_utf8_all name)
 unfolding name_of
 name_of_gives word name h =
@@ -132,13 +105,7 @@ pub name_of-none : (word : List ℕ) → (IsUtf8 word → ⊥) → name_of word 
 unfolding name_of
 name_of-none word none = elim (is_utf8 word) as (λ b. (is_utf8 word ≡ b → cond (b && spells_name (chars word)) (Some (chars word)) None ≡ None)) [ true ↦ λ h. absurd (none (IsUtf8-from_is_utf8 word h)) | false ↦ λ h. refl ] refl
 
-pub name_of-encoded : (name : List ℕ) → IsName name → name_of (encode_utf8_all name) ≡ Some name
-name_of-encoded name h =
-    let ascii = IsAscii-alphanumeric name (name_characters name h) in
-    let same = chars-IsAscii name ascii in
-    rw (encoded_name name h) (name_of-text name (IsUtf8-from_ascii name ascii) (subst (λ cs. IsName cs) (sym same) h) ∙ ap Some same)
-
-Lacks-append : (c : ℕ) (xs ys : List ℕ) → Lacks c xs → Lacks c ys → Lacks c (xs ++ ys)
+pub Lacks-append : (c : ℕ) (xs ys : List ℕ) → Lacks c xs → Lacks c ys → Lacks c (xs ++ ys)
 Lacks-append c [] ys p q = q
 Lacks-append c (x ∷ xs) ys p q = (p.0, Lacks-append c xs ys p.1 q)
 

@@ -1,5 +1,6 @@
 -- The text of a job.
-use Rattle.std.specs.Prelude.{◌≡◌, ℕ, ◌≤◌, ◌-◌, slice_get, Bool, true, ◌==◌, ◌⊎◌, List, [], ◌∷◌, ◌++◌, length, codes, count_by, encode_utf8_all, IsTrue, Result, Ok, Err}
+use Rattle.std.specs.Prelude.{◌≡◌, ℕ, ◌≤◌, ◌-◌, Bool, true, ◌==◌, ◌⊎◌, List, [], ◌∷◌, ◌++◌, length}
+use Rattle.std.specs.Prelude.{slice_get, codes, count_by, encode_utf8_all, IsTrue, Result, Ok, Err}
 use Rattle.std.specs.Option.{option_map_or}
 use Rattle.std.specs.Fmt.{decimal}
 use Rattle.cc_base.specs.Names.{IsName}

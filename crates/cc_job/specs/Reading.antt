@@ -1,5 +1,6 @@
 -- Reading a job, step by step from its front.
-use Rattle.std.specs.Prelude.{ℕ, ◌-◌, Bool, true, false, ◌&&◌, ◌==◌, nat_le, List, [], ◌∷◌, ◌++◌, length, take, drop, codes, Option, Some, None, if◌then◌else◌}
+use Rattle.std.specs.Prelude.{ℕ, ◌-◌, Bool, ◌&&◌, ◌==◌, nat_le, List, [], ◌∷◌, ◌++◌, length, take, drop, codes}
+use Rattle.std.specs.Prelude.{Option, Some, None, if◌then◌else◌}
 use Rattle.std.specs.Option.{option_map, option_and_then}
 use Rattle.std.specs.Str.{chars, is_utf8, bytes_eq}
 use Rattle.std.specs.Fmt.{decimal}
@@ -19,7 +20,8 @@ after_prefix bytes prefix =
 -- the bytes before the suffix
 abbrev pub before_suffix : List ℕ → List ℕ → Option (List ℕ)
 before_suffix bytes suffix =
-    if bytes_eq (drop (length bytes - length suffix) bytes) suffix then Some (take (length bytes - length suffix) bytes) else None
+    let front = length bytes - length suffix in
+    if bytes_eq (drop front bytes) suffix then Some (take front bytes) else None
 
 -- the bytes before the first c, and those behind it
 abbrev pub cut_at : ℕ → List ℕ → Option (List ℕ × List ℕ)
@@ -66,4 +68,6 @@ job_of bytes = do
   device ← device_line bytes
   put ← put_line device.1
   text ← text_before_check put.2
-  if is_text put.1 text then Some (record { device_name = device.0; module_name = put.0; text = text }) else None
+  if is_text put.1 text
+      then Some (record { device_name = device.0; module_name = put.0; text = text })
+      else None
