@@ -1,2 +1,1 @@
-pub mod Lexical
-pub mod Cutting
+pub mod Lexemes

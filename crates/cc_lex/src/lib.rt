@@ -1,6 +1,4 @@
 //! The tokens of a module's text, each with its place.
 #![tactic(auto)]
 
-pub mod laws;
-pub mod lexer;
 pub mod token;

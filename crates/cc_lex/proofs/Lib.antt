@@ -1,4 +1,0 @@
-mod Words
-mod Spelling
-mod Fronts
-pub mod CuttingLaws
