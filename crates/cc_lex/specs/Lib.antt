@@ -1,1 +1,4 @@
 pub mod Lexemes
+pub mod Forms
+pub mod Lexical
+pub mod Cutting

@@ -1,4 +1,8 @@
 //! The tokens of a module's text, each with its place.
 #![tactic(auto)]
 
+pub mod error;
+pub mod form;
+pub mod kind;
 pub mod token;
+pub mod words;

@@ -1,0 +1,6 @@
+mod Booleans
+mod Prefixes
+mod WordTexts
+mod WordsOrNames
+mod NumberTexts
+mod QuotedTexts
