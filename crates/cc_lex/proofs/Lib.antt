@@ -4,3 +4,7 @@ mod WordTexts
 mod WordsOrNames
 mod NumberTexts
 mod QuotedTexts
+mod Fronts
+mod Reaches
+mod LongestForms
+mod Blanks

@@ -10,9 +10,6 @@ use Rattle.cc_lex.specs.Forms.{word_text, IsWord}
 use Rattle.cc_lex.specs.Cutting.{all_words, word_of}
 use Rattle.cc_lex.proofs.Booleans.{both, both_true, opposite, not_true}
 
-none_is_some : {A : Type 0} (x : A) → None ≡ Some x → ⊥
-none_is_some x h = cc
-
 module _ {W : Type 0} (text_of : W → List ℕ) where
   choice-none : (w : W) (o : Option W) (b : Bool) → cond b (Some w) o ≡ None → (b ≡ false) × (o ≡ None)
   choice-none w o true h = cc
