@@ -8,3 +8,5 @@ mod Fronts
 mod Reaches
 mod LongestForms
 mod Blanks
+mod Spelling
+mod CuttingLaws
