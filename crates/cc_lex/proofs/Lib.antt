@@ -10,3 +10,7 @@ mod LongestForms
 mod Blanks
 mod Spelling
 mod CuttingLaws
+mod TextSlices
+mod FoundTokens
+pub mod CuttingSteps
+mod LexAnswers

@@ -4,5 +4,6 @@
 pub mod error;
 pub mod form;
 pub mod kind;
+pub mod lexer;
 pub mod token;
 pub mod words;
