@@ -1,12 +1,11 @@
 -- What is found between tokens is white space or a comment, and where none is found none stands there.
-use Rattle.std.proofs.Common.{◌≡◌, ℕ, zero, suc, ◌+◌, ◌-◌, ◌<◌, ◌≤◌, Bool, true, false, cond, ◌&&◌, ◌||◌, ◌==◌, not, List, [], ◌∷◌, ◌++◌, length, take, drop, refl, sym, ap, ◌∙◌, arith, Option, Some, None, ◌⊎◌, inl, inr, codes, lit<, one-add, take-append-drop}
+use Rattle.std.proofs.Common.{◌≡◌, ℕ, suc, ◌+◌, ◌≤◌, Bool, true, false, cond, ◌&&◌, ◌||◌, ◌==◌, not, List, [], ◌∷◌, ◌++◌, length, take, drop, refl, sym, ap, ◌∙◌, arith, Option, Some, None, ◌⊎◌, inl, inr, lit<, one-add, take-append-drop}
 use Rattle.std.specs.List.{list_all, prefix_len}
-use Rattle.std.proofs.lemmas.Bool.Decides.{nat_tests, Decides-eqb}
+use Rattle.std.proofs.lemmas.Bool.Decides.{Decides-eqb}
 use Rattle.cc_base.specs.Names.{first_passes}
-use Rattle.cc_lex.specs.declared.form.Form.TheVariants as forms
 use Rattle.cc_lex.specs.Lexical.{is_white, EndsTheLine, IsComment, IsBlank, white_space, a_comment}
-use Rattle.cc_lex.specs.Cutting.{Front, short_symbol, pair_symbol, long_symbol, symbol_front, string_front, front_of, blank_of}
-use Rattle.cc_lex.proofs.Booleans.{both, both_true, opposite, if_true, if_false, not_true, none_is_some}
+use Rattle.cc_lex.specs.Cutting.{Front, short_symbol, pair_symbol, long_symbol, symbol_front, front_of, blank_of}
+use Rattle.cc_lex.proofs.Booleans.{both, if_true, none_is_some}
 use Rattle.cc_lex.proofs.Prefixes.{prefix_within, prefix-passes, prefix-ends, prefix-exact}
 use Rattle.cc_lex.proofs.Reaches.{no_start, at_other}
 

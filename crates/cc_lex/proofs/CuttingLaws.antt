@@ -1,17 +1,17 @@
 -- What is found from the front of a text on is what the text is cut into, and it is cut in no other way.
-use Rattle.std.proofs.Common.{◌≡◌, ℕ, zero, suc, ◌+◌, ◌-◌, ◌<◌, ◌≤◌, List, [], ◌∷◌, ◌++◌, length, take, drop, refl, sym, ap, ◌∙◌, arith, Option, Some, None, option_map, take-append-drop, length-append, add_assoc, add-zero, encode_utf8, encode_utf8_all}
+use Rattle.std.proofs.Common.{◌≡◌, ℕ, zero, suc, ◌+◌, List, [], ◌∷◌, ◌++◌, length, take, drop, refl, sym, ap, ◌∙◌, arith, Option, Some, None, option_map, take-append-drop, length-append, add-zero, encode_utf8, encode_utf8_all}
 use Rattle.std.proofs.lemmas.List.{take_at}
 use Rattle.cc_base.specs.declared.place.Place.{Place}
 use Rattle.cc_lex.specs.declared.form.Form.{Form}
 use Rattle.cc_lex.specs.declared.form.Form.TheVariants as forms
 use Rattle.cc_lex.specs.Lexemes.{Lexeme, NumberLexeme}
-use Rattle.cc_lex.specs.Forms.{IsForm, IsOfForm, IsTooGreat, Spells}
-use Rattle.cc_lex.specs.Lexical.{place_after, place_past, byte_count, SpannedLexeme, spelled_at, Extent, ToTheEnd, UpTo, IsBlank, IsLongestForm, BeginsNothing, BeginsTooGreat, IsCut, at_end, at_nothing, at_too_great, past_blank, past_token}
+use Rattle.cc_lex.specs.Forms.{IsTooGreat, Spells}
+use Rattle.cc_lex.specs.Lexical.{place_after, place_past, byte_count, SpannedLexeme, spelled_at, Extent, UpTo, IsBlank, IsLongestForm, BeginsNothing, BeginsTooGreat, IsCut, at_end, at_nothing, at_too_great, past_blank, past_token}
 use Rattle.cc_lex.specs.Cutting.{Front, front_of, blank_of, spelled_by, spelled_front, token_of, Cutting, stop, behind, found, cut}
 use Rattle.cc_lex.proofs.Booleans.{none_is_some}
 use Rattle.cc_lex.proofs.LongestForms.{front-good, found-longest, longest-found, form-some, none-begins}
 use Rattle.cc_lex.proofs.Blanks.{IsBlankFound, blank_of-found, blank-found, blank-some, front-no_blank}
-use Rattle.cc_lex.proofs.Spelling.{number_of-beyond, spelled-spells, spelled-none, IsSpelled, spells-spelled}
+use Rattle.cc_lex.proofs.Spelling.{number_of-beyond, spelled-spells, spelled-none, spells-spelled}
 
 some_is : {A : Type 0} (x y : A) → Some x ≡ Some y → x ≡ y
 some_is x y h = cc

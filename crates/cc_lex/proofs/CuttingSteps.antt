@@ -1,8 +1,8 @@
 -- The loop over a text: the tokens so far, and what is found in the rest.
-use Rattle.std.proofs.Common.{◌≡◌, ℕ, zero, suc, ◌+◌, ◌-◌, ◌<◌, List, [], ◌∷◌, ◌++◌, drop, length, get_or, map, refl, sym, ap, ◌∙◌, arith, Option, Some, None, encode_utf8, encode_utf8_all, append_assoc, add-one, sub-one}
+use Rattle.std.proofs.Common.{◌≡◌, ℕ, zero, suc, ◌+◌, ◌-◌, ◌<◌, List, [], ◌∷◌, ◌++◌, drop, length, get_or, refl, sym, ap, ◌∙◌, arith, Some, None, encode_utf8, encode_utf8_all, append_assoc, sub-one}
 use Rattle.std.specs.Str.{chars, IsUtf8, all_scalars}
 use Rattle.std.proofs.lemmas.Str.{encodes-chars, scalars-chars}
-use Rattle.std.proofs.lemmas.List.{drop_more, get_or_read, append-nil}
+use Rattle.std.proofs.lemmas.List.{drop_more, append-nil}
 use Rattle.cc_base.specs.declared.place.Place.{Place}
 use Rattle.cc_lex.specs.Lexical.{place_after, place_past, start, byte_count, SpannedLexeme}
 use Rattle.cc_lex.specs.Cutting.{blank_of, token_of, Cutting, cut}

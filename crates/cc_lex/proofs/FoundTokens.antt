@@ -1,9 +1,8 @@
 -- The token at the front of a text, from the kind that its characters are.
-use Rattle.std.proofs.Common.{◌≡◌, ℕ, ◌+◌, ◌≤◌, List, ◌∷◌, length, take, refl, sym, ap, ◌∙◌, Option, Some, None, option_map, Err}
+use Rattle.std.proofs.Common.{◌≡◌, ℕ, ◌+◌, ◌≤◌, List, ◌∷◌, length, take, sym, ap, ◌∙◌, Option, Some, None, option_map, Err}
 use Rattle.cc_base.specs.declared.place.Place.{Place}
 use Rattle.cc_lex.specs.declared.error.LexError.{LexError}
 use Rattle.cc_lex.specs.declared.error.LexError.TheVariants.{Refused, NoMemory}
-use Rattle.cc_lex.specs.declared.token.TokenKind.{TokenKind}
 use Rattle.cc_lex.specs.declared.form.Form.{Form}
 use Rattle.cc_lex.specs.Lexemes.{Lexeme, lexeme_of}
 use Rattle.cc_lex.specs.Forms.{IsOfForm}

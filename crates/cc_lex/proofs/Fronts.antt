@@ -1,19 +1,18 @@
 -- What is found at the front of a text is of its form, and no form at the front is longer.
-use Rattle.std.proofs.Common.{◌≡◌, ℕ, zero, suc, ◌+◌, ◌<◌, ◌≤◌, Bool, true, false, cond, ◌&&◌, ◌||◌, ◌==◌, not, nat_le, nat_lt, List, [], ◌∷◌, ◌++◌, length, take, drop, refl, sym, ap, ◌∙◌, arith, Option, Some, None, ◌⊎◌, inl, inr, length-append, length-take}
+use Rattle.std.proofs.Common.{◌≡◌, ℕ, zero, suc, ◌+◌, ◌≤◌, Bool, true, false, cond, ◌&&◌, ◌==◌, nat_le, List, [], ◌∷◌, ◌++◌, length, take, drop, refl, ap, ◌∙◌, arith, Option, Some, None, length-take}
 use Rattle.std.specs.List.{list_all, prefix_len}
-use Rattle.std.specs.Char.{is_ascii_digit, is_ascii_alphabetic}
+use Rattle.std.specs.Char.{is_ascii_digit}
 use Rattle.std.proofs.lemmas.Bool.Decides.{nat_tests, Decides-eqb}
 use Rattle.unicode_ident.specs.Ident.{is_xid_start, is_xid_continue}
-use Rattle.unicode_ident.proofs.IdentLemmas.{is_xid_start-ascii, is_xid_start-is_xid_continue}
+use Rattle.unicode_ident.proofs.IdentLemmas.{is_xid_start-is_xid_continue}
 use Rattle.cc_base.specs.Names.{first_passes}
 use Rattle.cc_lex.specs.declared.token.Symbol.{Symbol}
 use Rattle.cc_lex.specs.declared.token.Symbol.TheVariants as symbols
-use Rattle.cc_lex.specs.declared.form.Form.{Form}
 use Rattle.cc_lex.specs.declared.form.Form.TheVariants as forms
-use Rattle.cc_lex.specs.Forms.{symbol_text, stands_in_string, IsDigits, IsWord, IsString, IsOfForm, IsForm}
+use Rattle.cc_lex.specs.Forms.{symbol_text, stands_in_string, IsOfForm}
 use Rattle.cc_lex.specs.Cutting.{Front, short_symbol, pair_symbol, long_symbol, symbol_front, string_front, front_of}
-use Rattle.cc_lex.proofs.Booleans.{both, both_true, opposite}
-use Rattle.cc_lex.proofs.Prefixes.{prefix_within, prefix-passes, prefix-at_least, prefix-exact}
+use Rattle.cc_lex.proofs.Booleans.{both, both_true}
+use Rattle.cc_lex.proofs.Prefixes.{prefix_within, prefix-passes}
 
 -- the front lies in the text, and is of its form
 abbrev pub IsGood : ℕ → List ℕ → Option Front → Type 0

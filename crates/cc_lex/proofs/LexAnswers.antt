@@ -1,5 +1,5 @@
 -- What is found in the text of bytes is the answer for the bytes.
-use Rattle.std.proofs.Common.{◌≡◌, ℕ, List, ◌++◌, refl, sym, ap, ◌∙◌, Result, Ok, Err, IfOk}
+use Rattle.std.proofs.Common.{◌≡◌, ℕ, List, refl, ap, Result, Ok, Err, IfOk}
 use Rattle.std.specs.Str.{chars, IsUtf8}
 use Rattle.cc_base.specs.declared.place.Place.{Place}
 use Rattle.cc_base.specs.declared.code.Code.{Code}
@@ -8,7 +8,7 @@ use Rattle.cc_lex.specs.declared.error.LexError.{LexError}
 use Rattle.cc_lex.specs.declared.error.LexError.TheVariants.{Refused, NoMemory}
 use Rattle.cc_lex.specs.declared.token.Tokens.{Tokens}
 use Rattle.cc_lex.specs.Lexical.{place_past, start, SpannedLexeme, spanned_all, Extent, ToTheEnd, UpTo, IsCut, IsRefusedAs, Lexes}
-use Rattle.cc_lex.specs.Cutting.{Cutting, cut, Gives}
+use Rattle.cc_lex.specs.Cutting.{cut, Gives}
 use Rattle.cc_lex.proofs.CuttingLaws.{cut-is}
 
 cut-as : (p : Place) (o : ℕ) (text : List ℕ) (ts : List SpannedLexeme) (extent : Extent) → (cut 0 p o text).tokens ≡ ts → (cut 0 p o text).extent ≡ extent → IsCut p o text ts extent

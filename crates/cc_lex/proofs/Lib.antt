@@ -14,3 +14,6 @@ mod TextSlices
 mod FoundTokens
 pub mod CuttingSteps
 mod LexAnswers
+pub mod AnswerLaws
+pub mod TokenLaws
+pub mod WorkedTexts

@@ -1,14 +1,13 @@
 -- What is found at the front of a text is the longest form there, and where none is found no form begins.
-use Rattle.std.proofs.Common.{◌≡◌, ℕ, zero, suc, ◌+◌, ◌-◌, ◌<◌, ◌≤◌, List, [], ◌∷◌, ◌++◌, length, take, drop, refl, sym, ap, ◌∙◌, arith, Option, Some, None, length-append, length-take, append_assoc, take-append-drop}
+use Rattle.std.proofs.Common.{◌≡◌, ℕ, ◌+◌, ◌-◌, ◌≤◌, List, [], ◌∷◌, ◌++◌, length, take, drop, refl, sym, ap, ◌∙◌, arith, Option, Some, None, length-append, append_assoc, take-append-drop}
 use Rattle.std.proofs.Math.Seq.{take-append-add}
 use Rattle.std.proofs.lemmas.List.{length-take-le, nil_from_length}
 use Rattle.cc_lex.specs.declared.form.Form.{Form}
-use Rattle.cc_lex.specs.declared.form.Form.TheVariants as forms
-use Rattle.cc_lex.specs.Forms.{symbol_text, IsOfForm, IsForm}
+use Rattle.cc_lex.specs.Forms.{IsOfForm, IsForm}
 use Rattle.cc_lex.specs.Lexical.{IsLongestForm}
 use Rattle.cc_lex.specs.Cutting.{Front, front_of}
-use Rattle.cc_lex.proofs.Fronts.{IsGood, front_of-good}
-use Rattle.cc_lex.proofs.Reaches.{Reaches, ReachesFrom, form-reaches}
+use Rattle.cc_lex.proofs.Fronts.{front_of-good}
+use Rattle.cc_lex.proofs.Reaches.{Reaches, form-reaches}
 
 pub front-good : (c : ℕ) (cs : List ℕ) (front : Front) → front_of c cs ≡ Some front → (front.1 ≤ length cs) × IsOfForm front.0 (c ∷ take front.1 cs)
 front-good c cs front e = let good = front_of-good c cs in rw e at good
@@ -26,11 +25,11 @@ found-longest c cs front e =
     record {
       form = (front.0, good.1);
       longest = λ more rest s h.
-        let whole : (take n cs ++ more) ++ rest ≡ cs = append_assoc (take n cs) more rest ∙ (ap (λ xs. take n cs ++ xs) (sym s) ∙ take-append-drop n cs) in
-        let within = front-reaches c cs (take n cs ++ more) rest h.0 front e whole h.1 in
-        let count = length-append (take n cs) more in
-        let taken = length-take-le n cs good.0 in
-        nil_from_length more (omega arith);
+          let whole : (take n cs ++ more) ++ rest ≡ cs = append_assoc (take n cs) more rest ∙ (ap (λ xs. take n cs ++ xs) (sym s) ∙ take-append-drop n cs) in
+          let within = front-reaches c cs (take n cs ++ more) rest h.0 front e whole h.1 in
+          let count = length-append (take n cs) more in
+          let taken = length-take-le n cs good.0 in
+          nil_from_length more (omega arith);
     }
 
 none-left : (m : ℕ) (after : List ℕ) → m ≤ length after → take m after ≡ [] → m ≡ 0

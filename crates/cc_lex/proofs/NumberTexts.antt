@@ -1,5 +1,5 @@
 -- What `parse` reads of digits.
-use Rattle.std.proofs.Common.{◌≡◌, ℕ, zero, suc, ◌^◌, ◌<◌, ◌≤◌, Bool, true, false, cond, ◌&&◌, nat_le, ltb, List, [], ◌∷◌, length, ℤ, pos, refl, sym, ap, ◌∙◌, arith, Result, Ok, Err, Option, Some, None}
+use Rattle.std.proofs.Common.{◌≡◌, ℕ, zero, suc, ◌^◌, ◌<◌, ◌≤◌, true, false, cond, nat_le, List, [], ◌∷◌, length, ℤ, pos, refl, sym, ◌∙◌, arith, Result, Ok, Err, Some, None}
 use Rattle.std.specs.Str.{chars, IsUtf8, IsAscii, all_ascii_digits}
 use Rattle.std.specs.Str.Parse.{ParsesSigned, digits_value}
 use Rattle.std.specs.Char.{is_ascii_digit}

@@ -1,9 +1,9 @@
 -- No form at the front of a text is longer than what is found, and one that is as long is of the form that is found.
-use Rattle.std.proofs.Common.{◌≡◌, ℕ, zero, suc, ◌+◌, ◌<◌, ◌≤◌, Bool, true, false, cond, ◌&&◌, ◌||◌, ◌==◌, not, nat_le, nat_lt, List, [], ◌∷◌, ◌++◌, length, take, drop, refl, sym, ap, ◌∙◌, arith, Option, Some, None, ◌⊎◌, inl, inr, length-append, length-take, append_assoc, lit<}
+use Rattle.std.proofs.Common.{◌≡◌, ℕ, ◌+◌, ◌<◌, ◌≤◌, Bool, true, false, cond, ◌&&◌, ◌==◌, nat_le, List, [], ◌∷◌, ◌++◌, length, drop, refl, ap, ◌∙◌, arith, Option, Some, None, length-append, append_assoc, lit<}
 use Rattle.std.proofs.lemmas.List.{drop_at}
 use Rattle.std.specs.List.{list_all, prefix_len}
 use Rattle.std.specs.Char.{is_ascii_digit, is_ascii_alphabetic}
-use Rattle.std.proofs.lemmas.Bool.Decides.{nat_tests, Decides-eqb}
+use Rattle.std.proofs.lemmas.Bool.Decides.{nat_tests}
 use Rattle.unicode_ident.specs.Ident.{is_xid_start, is_xid_continue}
 use Rattle.unicode_ident.proofs.IdentLemmas.{is_xid_start-ascii}
 use Rattle.cc_base.specs.Names.{first_passes}
@@ -11,7 +11,7 @@ use Rattle.cc_lex.specs.declared.token.Symbol.{Symbol}
 use Rattle.cc_lex.specs.declared.token.Symbol.TheVariants as symbols
 use Rattle.cc_lex.specs.declared.form.Form.{Form}
 use Rattle.cc_lex.specs.declared.form.Form.TheVariants as forms
-use Rattle.cc_lex.specs.Forms.{symbol_text, stands_in_string, IsDigits, IsWord, IsString, IsOfForm, IsForm}
+use Rattle.cc_lex.specs.Forms.{symbol_text, stands_in_string, IsDigits, IsWord, IsOfForm}
 use Rattle.cc_lex.specs.Cutting.{Front, short_symbol, pair_symbol, long_symbol, symbol_front, string_front, front_of}
 use Rattle.cc_lex.proofs.Booleans.{both, both_true, opposite, if_true, if_false}
 use Rattle.cc_lex.proofs.Prefixes.{prefix-at_least, prefix-exact}

@@ -1,7 +1,6 @@
 -- What characters of a form spell, and of which form what is spelled is.
-use Rattle.std.proofs.Common.{◌≡◌, ℕ, zero, suc, ◌+◌, ◌-◌, ◌<◌, ◌≤◌, Bool, true, false, cond, ◌&&◌, ◌||◌, not, nat_le, ltb, List, [], ◌∷◌, ◌++◌, length, take, drop, refl, sym, ap, ◌∙◌, arith, Option, Some, None, option_map, codes, ℤ, pos, length-append}
+use Rattle.std.proofs.Common.{◌≡◌, ℕ, suc, ◌-◌, ◌<◌, ◌≤◌, Bool, true, false, cond, ◌&&◌, not, nat_le, List, [], ◌∷◌, ◌++◌, length, refl, sym, ap, ◌∙◌, arith, Option, Some, None, option_map, ℤ, pos, length-append}
 use Rattle.std.specs.List.{list_all}
-use Rattle.std.specs.Char.{is_ascii_digit}
 use Rattle.std.specs.Str.Parse.{digits_value}
 use Rattle.std.proofs.lemmas.Bool.Decides.{nat_tests}
 use Rattle.std.proofs.lemmas.List.{take_at}
@@ -13,9 +12,9 @@ use Rattle.cc_lex.specs.declared.token.Word.TheVariants as words
 use Rattle.cc_lex.specs.declared.form.Form.{Form}
 use Rattle.cc_lex.specs.declared.form.Form.TheVariants as forms
 use Rattle.cc_lex.specs.Lexemes.{Lexeme, NameLexeme, NumberLexeme, TextLexeme, WordLexeme, SymbolLexeme}
-use Rattle.cc_lex.specs.Forms.{word_text, symbol_text, stands_in_string, IsDigits, IsWord, IsString, IsOfForm, IsForm, greatest_number, IsTooGreat, Spells}
+use Rattle.cc_lex.specs.Forms.{word_text, IsDigits, IsWord, IsString, IsOfForm, greatest_number, IsTooGreat, Spells}
 use Rattle.cc_lex.specs.Cutting.{word_of, number_of, inside, word_or_name, spelled_by}
-use Rattle.cc_lex.proofs.Booleans.{both, both_true, opposite, if_true, if_false, not_true, none_is_some}
+use Rattle.cc_lex.proofs.Booleans.{both, opposite, if_true, if_false, not_true}
 use Rattle.cc_lex.proofs.WordsOrNames.{word_of-some, name_of-none}
 
 some_is : {A : Type 0} (x y : A) → Some x ≡ Some y → x ≡ y

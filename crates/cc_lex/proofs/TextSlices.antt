@@ -1,6 +1,6 @@
 -- Where a text may be cut before some of its characters, and what a slice of it spells.
-use Rattle.std.proofs.Common.{◌≡◌, ℕ, zero, suc, ◌+◌, ◌-◌, ◌<◌, ◌≤◌, Bool, true, false, ◌&&◌, List, [], ◌∷◌, ◌++◌, length, take, drop, refl, sym, ap, ◌∙◌, arith, encode_utf8, encode_utf8_all, length-append, take-append-drop}
-use Rattle.std.specs.Str.{chars, IsUtf8, IsCharBoundary, all_scalars}
+use Rattle.std.proofs.Common.{◌≡◌, ℕ, ◌+◌, ◌-◌, ◌≤◌, true, List, [], ◌∷◌, ◌++◌, length, take, drop, refl, sym, ap, ◌∙◌, arith, encode_utf8, encode_utf8_all, length-append, take-append-drop}
+use Rattle.std.specs.Str.{chars, IsCharBoundary, all_scalars}
 use Rattle.std.proofs.lemmas.List.{take_at, drop_at, drop-drop, length-drop}
 use Rattle.std.proofs.lemmas.Str.{encodes-append, chars-encodes, IsCharBoundary-from_drop, length-encode, len_utf8_bounds}
 use Rattle.cc_lex.specs.Lexical.{byte_count}
@@ -8,7 +8,7 @@ use Rattle.cc_lex.proofs.CuttingLaws.{offset-cons}
 use Rattle.cc_lex.proofs.Booleans.{both, both_true}
 use lib.Utf8.{scalar, scalars, encode, encodes}
 
--- scalars-append
+-- the parts of characters are characters
 pub scalars-parts : (xs ys : List ℕ) → all_scalars (xs ++ ys) ≡ true → (all_scalars xs ≡ true) × (all_scalars ys ≡ true)
 scalars-parts [] ys h = (refl, h)
 scalars-parts (x ∷ xs) ys h =
@@ -31,12 +31,15 @@ goes_on-past bs from cs ds h =
 pub goes_on-boundary : (bs : List ℕ) (from : ℕ) (cs : List ℕ) → from ≤ length bs → GoesOn bs from cs → IsCharBoundary bs from
 goes_on-boundary bs from cs l h = IsCharBoundary-from_drop bs from l (cs, (h.1, sym h.0))
 
--- and the slice up to a later place spells the characters between
-pub goes_on-slice : (bs : List ℕ) (from : ℕ) (cs ds : List ℕ) → GoesOn bs from (cs ++ ds) → chars (take (byte_count cs) (drop from bs)) ≡ cs
-goes_on-slice bs from cs ds h =
+-- the bytes up to a later place are those of the characters between
+pub goes_on-bytes : (bs : List ℕ) (from : ℕ) (cs ds : List ℕ) → GoesOn bs from (cs ++ ds) → take (byte_count cs) (drop from bs) ≡ encode_utf8_all cs
+goes_on-bytes bs from cs ds h =
     let parts : drop from bs ≡ encodes cs ++ encodes ds = h.0 ∙ encodes-append cs ds in
-    let slice = ap (take (byte_count cs)) parts ∙ take_at (encodes cs) (encodes ds) (byte_count cs) refl in
-    ap chars slice ∙ chars-encodes cs (scalars-parts cs ds h.1).0
+    ap (take (byte_count cs)) parts ∙ take_at (encodes cs) (encodes ds) (byte_count cs) refl
+
+-- and spell them
+pub goes_on-slice : (bs : List ℕ) (from : ℕ) (cs ds : List ℕ) → GoesOn bs from (cs ++ ds) → chars (take (byte_count cs) (drop from bs)) ≡ cs
+goes_on-slice bs from cs ds h = ap chars (goes_on-bytes bs from cs ds h) ∙ chars-encodes cs (scalars-parts cs ds h.1).0
 
 -- the bytes between two places are text, and spell these characters
 pub record IsSlice (bs : List ℕ) (from to : ℕ) (cs : List ℕ) : Type 0 where
@@ -47,7 +50,7 @@ pub record IsSlice (bs : List ℕ) (from to : ℕ) (cs : List ℕ) : Type 0 wher
   pub count : to ≡ from + byte_count cs
   pub spelled : chars (take (to - from) (drop from bs)) ≡ cs
 
-some-byte : (c : ℕ) → 1 ≤ length (encode_utf8 c)
+pub some-byte : (c : ℕ) → 1 ≤ length (encode_utf8 c)
 some-byte c =
     let bounds = len_utf8_bounds c in
     let count = length-encode c in

@@ -1,5 +1,5 @@
 -- What a word form spells: a reserved word where its letters are those of one, and otherwise a name.
-use Rattle.std.proofs.Common.{◌≡◌, ℕ, Bool, true, false, cond, ◌&&◌, ◌||◌, not, List, [], ◌∷◌, map, refl, sym, ap, ◌∙◌, Option, Some, None, find, ◌⊎◌, inl, inr}
+use Rattle.std.proofs.Common.{◌≡◌, ℕ, Bool, true, false, cond, ◌&&◌, not, List, [], ◌∷◌, map, refl, sym, ap, ◌∙◌, Option, Some, None, find, ◌⊎◌, inl, inr}
 use Rattle.std.specs.Str.{bytes_eq}
 use Rattle.std.specs.List.{list_all, list_any}
 use Rattle.std.proofs.lemmas.Slice.Eq.{bytes_eq-Decides}
@@ -8,7 +8,7 @@ use Rattle.cc_base.specs.Names.{first_passes, reserved_words, is_reserved, spell
 use Rattle.cc_lex.specs.declared.token.Word.{Word}
 use Rattle.cc_lex.specs.Forms.{word_text, IsWord}
 use Rattle.cc_lex.specs.Cutting.{all_words, word_of}
-use Rattle.cc_lex.proofs.Booleans.{both, both_true, opposite, not_true}
+use Rattle.cc_lex.proofs.Booleans.{both_true, opposite}
 
 module _ {W : Type 0} (text_of : W → List ℕ) where
   choice-none : (w : W) (o : Option W) (b : Bool) → cond b (Some w) o ≡ None → (b ≡ false) × (o ≡ None)

@@ -4,6 +4,7 @@
 pub mod error;
 pub mod form;
 pub mod kind;
+pub mod laws;
 pub mod lexer;
 pub mod token;
 pub mod words;

@@ -1,4 +1,4 @@
-use Rattle.std.proofs.Common.{◌∙◌, ◌≡◌, sym, ap, arith, Some, ◌∷◌, ◌+◌, take}
+use Rattle.std.proofs.Common.{◌∙◌, ◌≡◌, sym, ap, Some, ◌∷◌, ◌+◌, take}
 use Rattle.std.specs.Str.{chars}
 use Rattle.cc_lex.specs.Lexemes.{lexeme_of}
 use Rattle.cc_lex.specs.Lexical.{byte_count}
