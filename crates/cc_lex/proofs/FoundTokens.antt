@@ -21,7 +21,7 @@ pub finds-error : (p : Place) (o c : ℕ) (cs ds : List ℕ) (form : Form) (n : 
 finds-error p o c cs ds form n (Refused diag) e s h = (token_of-found p o c cs form n None e (ap (spelled_by form) (sym s) ∙ h.0), h.1)
 finds-error p o c cs ds form n NoMemory e s h = tt
 
-pub finds-token : (p : Place) (o c : ℕ) (cs ds : List ℕ) (form : Form) (n end : ℕ) (lexeme : Lexeme) → front_of c cs ≡ Some (form, n) → ds ≡ c ∷ take n cs → end ≡ o + byte_count (c ∷ take n cs) → spelled_by form ds ≡ Some lexeme → token_of p o c cs ≡ Some (record { lexeme = lexeme; at = p; from = o; to = end }, n)
+pub finds-token : (p : Place) (o c : ℕ) (cs ds : List ℕ) (form : Form) (n end : ℕ) (lexeme : Lexeme) → front_of c cs ≡ Some (form, n) → ds ≡ c ∷ take n cs → end ≡ o + byte_count (c ∷ take n cs) → spelled_by form ds ≡ Some lexeme → token_of p o c cs ≡ Some (record { placed = record { lexeme = lexeme; at = p }; from = o; to = end }, n)
 finds-token p o c cs ds form n end lexeme e s size h =
     rw size (token_of-found p o c cs form n (Some lexeme) e (ap (spelled_by form) (sym s) ∙ h))
 

@@ -12,8 +12,8 @@ mod Spelling
 mod CuttingLaws
 mod TextSlices
 mod FoundTokens
-pub mod CuttingSteps
+mod CuttingSteps
 mod LexAnswers
 pub mod AnswerLaws
 pub mod TokenLaws
-pub mod WorkedTexts
+mod WorkedTexts

@@ -1,5 +1,5 @@
 -- The tokens of bytes: each is spelled by the bytes that it spans, the spans lie in order, and what a token holds is well formed.
-use Rattle.std.proofs.Common.{◌≡◌, ℕ, ◌+◌, ◌-◌, ◌<◌, ◌≤◌, List, [], ◌∷◌, ◌++◌, length, take, drop, refl, sym, ap, ◌∙◌, arith, pos, ◌≤ℤ◌, encode_utf8, encode_utf8_all, length-append}
+use Rattle.std.proofs.Common.{◌≡◌, ℕ, ◌+◌, ◌-◌, ◌<◌, ◌≤◌, List, [], ◌∷◌, ◌++◌, map, length, take, drop, refl, sym, ap, ◌∙◌, arith, pos, ◌≤ℤ◌, encode_utf8, encode_utf8_all, length-append}
 use Rattle.std.specs.List.{AllByRecursion}
 use Rattle.std.specs.Str.{chars, IsUtf8}
 use Rattle.std.specs.Str.Parse.{digits_value}
@@ -7,9 +7,11 @@ use Rattle.std.proofs.lemmas.Int.{ints}
 use Rattle.std.proofs.lemmas.List.Elements.{All-from_recursion}
 use Rattle.std.proofs.lemmas.Str.{encodes-append, encodes-chars, scalars-chars}
 use Rattle.cc_base.specs.declared.place.Place.{Place}
-use Rattle.cc_lex.specs.Lexemes.{Lexeme, NameLexeme, NumberLexeme, TextLexeme, WordLexeme, SymbolLexeme}
+use Rattle.cc_lex.specs.declared.token.Token.{Token}
+use Rattle.cc_lex.specs.declared.token.Tokens.{Tokens}
+use Rattle.cc_lex.specs.Lexemes.{placed_of, placed_all, Lexeme, NameLexeme, NumberLexeme, TextLexeme, WordLexeme, SymbolLexeme}
 use Rattle.cc_lex.specs.Forms.{IsForm, greatest_number, Spells}
-use Rattle.cc_lex.specs.Lexical.{byte_count, SpannedLexeme, Extent, IsCut, at_end, at_nothing, at_too_great, past_blank, past_token}
+use Rattle.cc_lex.specs.Lexical.{byte_count, SpannedLexeme, spanned_of, spanned_all, without_spans, Extent, IsCut, at_end, at_nothing, at_too_great, past_blank, past_token}
 use Rattle.cc_lex.specs.Laws.{IsSpelledBySpan, SpansSpellTheirTokens, AreInOrder, SpansAreInOrder, IsWellFormed, TokensAreWellFormed}
 use Rattle.cc_lex.proofs.LongestForms.{form-some}
 use Rattle.cc_lex.proofs.TextSlices.{GoesOn, goes_on-past, goes_on-bytes, some-byte}
@@ -87,7 +89,7 @@ spelled-formed (TextLexeme text) cs s = (s.1, s.2)
 spelled-formed (WordLexeme word) cs s = tt
 spelled-formed (SymbolLexeme symbol) cs s = tt
 
-cut-formed : {p : Place} {o : ℕ} {text : List ℕ} {ts : List SpannedLexeme} {extent : Extent} → IsCut p o text ts extent → AllByRecursion (λ t. IsWellFormed t.lexeme) ts
+cut-formed : {p : Place} {o : ℕ} {text : List ℕ} {ts : List SpannedLexeme} {extent : Extent} → IsCut p o text ts extent → AllByRecursion (λ t. IsWellFormed t.placed.lexeme) ts
 cut-formed at_end = tt
 cut-formed (at_nothing b) = tt
 cut-formed (at_too_great b) = tt
@@ -95,4 +97,12 @@ cut-formed (past_blank cs after e b r) = cut-formed r
 cut-formed (past_token {lexeme = lexeme} cs after e longest s r) = (spelled-formed lexeme cs s, cut-formed r)
 
 pub well_formed : TokensAreWellFormed
-well_formed bytes ts h = All-from_recursion (λ t. IsWellFormed t.lexeme) ts (cut-formed h.1)
+well_formed bytes ts h = All-from_recursion (λ t. IsWellFormed t.placed.lexeme) ts (cut-formed h.1)
+
+-- the tokens without their spans are those that the program holds
+same_placed : (tokens : List Token) → without_spans (map spanned_of tokens) ≡ placed_all tokens
+same_placed [] = refl
+same_placed (t ∷ ts) = ap (λ xs. placed_of t ∷ xs) (same_placed ts)
+
+pub without_spans-spanned_all : (tokens : Tokens) → without_spans (spanned_all tokens) ≡ placed_all tokens.tokens.items
+without_spans-spanned_all tokens = same_placed tokens.tokens.items

@@ -148,8 +148,8 @@ stop p = record { tokens = []; extent = UpTo p }
 abbrev pub behind : SpannedLexeme → Cutting → Cutting
 behind t rest = record { tokens = t ∷ rest.tokens; extent = rest.extent }
 
--- What is found at a place where this blank or this token begins, if one does. `rest n` is what is found behind the first
--- character, where n more belong to it.
+-- What is found at a place where this blank or this token begins, if one does. `rest n` is what is found behind the
+-- first character, where n more belong to it.
 abbrev pub found : Place → Option ℕ → Option (SpannedLexeme × ℕ) → (ℕ → Cutting) → Cutting
 found p (Some n) token rest = rest n
 found p None (Some token) rest = behind token.0 (rest token.1)
@@ -166,8 +166,8 @@ cut zero p o (c ∷ cs) =
 abbrev pub no_token : Place → Diag
 no_token p = record { code = E02; place = p }
 
--- The answer is the value that there is, and where there is none a refusal at this place. Of an answer for want of memory
--- nothing is said.
+-- The answer is the value that there is, and where there is none a refusal at this place. Of an answer for want of
+-- memory nothing is said.
 abbrev pub Finds : {X Y : Type 0} → (X → Y) → Place → Result X LexError → Option Y → Type 0
 Finds view p (Ok x) o = o ≡ Some (view x)
 Finds view p (Err (Refused diag)) o = (o ≡ None) × (diag ≡ no_token p)

@@ -12,7 +12,7 @@ place line col = record { line = line; col = col }
 
 -- a token of the first line, with its column and its span
 abbrev pub token : Lexeme → ℕ → ℕ → ℕ → SpannedLexeme
-token lexeme col from to = record { lexeme = lexeme; at = place 1 col; from = from; to = to }
+token lexeme col from to = record { placed = record { lexeme = lexeme; at = place 1 col }; from = from; to = to }
 
 -- a string of so many letters
 abbrev pub string_of : ℕ → List ℕ

@@ -75,7 +75,8 @@ IsDigits cs = IsTrue (first_passes is_ascii_digit cs) × IsTrue (list_all is_asc
 abbrev pub IsWord : List ℕ → Type 0
 IsWord cs = IsTrue (first_passes is_xid_start cs) × IsTrue (list_all is_xid_continue cs)
 
--- What may stand between the quotes of a string: nothing below U+0020, no quote (34), no backslash (92), and not U+007F.
+-- What may stand between the quotes of a string: nothing below U+0020, no quote (34), no backslash (92), and not
+-- U+007F.
 abbrev pub stands_in_string : ℕ → Bool
 stands_in_string c = nat_le 32 c && not (c == 34 || c == 92 || c == 127)
 
@@ -105,7 +106,8 @@ IsTooGreat cs = IsDigits cs × (greatest_number < digits_value 10 cs)
 -- The characters spell the token. Every form spells one, but for digits whose number is too great.
 abbrev pub Spells : Lexeme → List ℕ → Type 0
 Spells (NameLexeme name) cs = IsName cs × (name ≡ cs)
-Spells (NumberLexeme number) cs = IsDigits cs × (digits_value 10 cs ≤ greatest_number) × (number ≡ pos (digits_value 10 cs))
+Spells (NumberLexeme number) cs =
+    IsDigits cs × (digits_value 10 cs ≤ greatest_number) × (number ≡ pos (digits_value 10 cs))
 Spells (TextLexeme text) cs = IsString text cs
 Spells (WordLexeme word) cs = cs ≡ word_text word
 Spells (SymbolLexeme symbol) cs = cs ≡ symbol_text symbol

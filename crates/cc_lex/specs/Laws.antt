@@ -1,4 +1,4 @@
--- The laws of the definition of tokens: bytes have tokens or a refusal, in one way, and the tokens are as they should be.
+-- The laws of tokens: bytes have tokens or a refusal, in one way, and the tokens are as they should be.
 use Rattle.std.specs.Prelude.{◌≡◌, ℕ, ◌-◌, ◌<◌, ◌≤◌, ◌⊎◌, pos, ◌≤ℤ◌, List, [], ◌∷◌, All, length, take, drop, IsTrue, Result, Ok, Err, encode_utf8_all}
 use Rattle.std.specs.List.{list_all}
 use Rattle.cc_base.specs.declared.code.Diag.{Diag}
@@ -56,7 +56,7 @@ RefusalsAreGiven =
 -- the bytes that the token spans are those of characters that spell it
 abbrev pub IsSpelledBySpan : List ℕ → SpannedLexeme → Type 0
 IsSpelledBySpan bytes t =
-    (cs : List ℕ) × Spells t.lexeme cs × (take (t.to - t.from) (drop t.from bytes) ≡ encode_utf8_all cs)
+    (cs : List ℕ) × Spells t.placed.lexeme cs × (take (t.to - t.from) (drop t.from bytes) ≡ encode_utf8_all cs)
 
 -- each token is spelled by the bytes that it spans
 abbrev pub SpansSpellTheirTokens : Type 0
@@ -81,4 +81,4 @@ IsWellFormed (SymbolLexeme symbol) = Unit {0}
 
 abbrev pub TokensAreWellFormed : Type 0
 TokensAreWellFormed =
-    (bytes : List ℕ) (ts : List SpannedLexeme) → HasTokens bytes ts → All (λ t. IsWellFormed t.lexeme) ts
+    (bytes : List ℕ) (ts : List SpannedLexeme) → HasTokens bytes ts → All (λ t. IsWellFormed t.placed.lexeme) ts

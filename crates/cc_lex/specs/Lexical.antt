@@ -11,7 +11,7 @@ use Rattle.cc_lex.specs.declared.token.Token.{Token}
 use Rattle.cc_lex.specs.declared.token.Tokens.{Tokens}
 use Rattle.cc_lex.specs.declared.error.LexError.{LexError}
 use Rattle.cc_lex.specs.declared.error.LexError.TheVariants.{Refused, NoMemory}
-use Rattle.cc_lex.specs.Lexemes.{Lexeme, lexeme_of}
+use Rattle.cc_lex.specs.Lexemes.{Lexeme, PlacedLexeme, placed_of}
 use Rattle.cc_lex.specs.Forms.{IsForm, IsTooGreat, Spells}
 
 -- places and offsets
@@ -58,25 +58,29 @@ pub data IsBlank (cs after : List ℕ) : Type 0 where
 
 -- tokens
 
--- a token with the place of its first character, and the bytes that it spans: from `from` up to and without `to`
+-- a token with its place, and the bytes that it spans: from `from` up to and without `to`
 pub record SpannedLexeme : Type 0 where
-  pub lexeme : Lexeme
-  pub at : Place
+  pub placed : PlacedLexeme
   pub from : ℕ
   pub to : ℕ
 
 -- what the program holds of a token
 abbrev pub spanned_of : Token → SpannedLexeme
-spanned_of token = record { lexeme = lexeme_of token.kind; at = token.at; from = token.start; to = token.end }
+spanned_of token = record { placed = placed_of token; from = token.start; to = token.end }
 
 abbrev pub spanned_all : Tokens → List SpannedLexeme
 spanned_all tokens = map spanned_of tokens.tokens.items
 
+-- the same without the spans
+abbrev pub without_spans : List SpannedLexeme → List PlacedLexeme
+without_spans ts = map (λ t. t.placed) ts
+
 -- the token that the characters spell at a place and an offset
 abbrev pub spelled_at : Place → ℕ → List ℕ → Lexeme → SpannedLexeme
-spelled_at p o cs lexeme = record { lexeme = lexeme; at = p; from = o; to = o + byte_count cs }
+spelled_at p o cs lexeme = record { placed = record { lexeme = lexeme; at = p }; from = o; to = o + byte_count cs }
 
--- the characters are of some form, and none of them with more of what comes after is
+-- The characters are of some form, and with more of what comes after they are of none. Longest is said of forms and not
+-- of tokens, or a number that is too great would be cut in two.
 pub record IsLongestForm (cs after : List ℕ) : Type 0 where
   pub form : IsForm cs
   pub longest : (more rest : List ℕ) → after ≡ more ++ rest → IsForm (cs ++ more) → more ≡ []
@@ -100,8 +104,8 @@ pub data Extent : Type 0 where
   ToTheEnd : Extent
   UpTo : (place : Place) → Extent
 
--- The text at this place and offset has these tokens, which go so far: it is blanks and tokens, and each token is spelled
--- by the longest form at its place.
+-- The text at this place and offset has these tokens, which go so far: it is blanks and tokens, and each token is
+-- spelled by the longest form at its place.
 pub data IsCut : Place → ℕ → List ℕ → List SpannedLexeme → Extent → Type 0 where
   at_end : {p : Place} {o : ℕ} → IsCut p o [] [] ToTheEnd
   at_nothing : {p : Place} {o : ℕ} {text : List ℕ} → BeginsNothing text → IsCut p o text [] (UpTo p)

@@ -151,3 +151,75 @@ pub fn lex(alloc: Global, bytes: &[u8]) -> Result<Tokens, LexError>
         }
     }
 }
+
+#[cfg(test)]
+mod tests {
+    use super::*;
+    use crate::token::TokenKind;
+    use std::test::Fail;
+
+    fn shown_kind(alloc: Global, kind: &TokenKind) -> Result<String, AllocError> {
+        match kind {
+            TokenKind::Name(name) => format!(in alloc; "{name}"),
+            TokenKind::Number(number) => format!(in alloc; "#{number}"),
+            TokenKind::Text(text) => format!(in alloc; "'{text}'"),
+            TokenKind::Word(word) => format!(in alloc; "<{word:?}>"),
+            TokenKind::Symbol(symbol) => format!(in alloc; "<{symbol:?}>"),
+        }
+    }
+
+    fn shown_tokens(alloc: Global, tokens: &Tokens) -> Result<String, AllocError> {
+        let mut shown = String::new(alloc);
+        for token in &tokens.tokens {
+            let kind = shown_kind(alloc, &token.kind)?;
+            let place = format!(in alloc; " {} {}-{} ", token.at, token.start, token.end)?;
+            shown.push_str(&kind)?;
+            shown.push_str(&place)?;
+        }
+        let end = format!(in alloc; "end {}", tokens.end)?;
+        shown.push_str(&end)?;
+        Ok(shown)
+    }
+
+    fn shown(alloc: Global, bytes: &[u8]) -> Result<String, AllocError> {
+        match lex(alloc, bytes) {
+            Ok(tokens) => shown_tokens(alloc, &tokens),
+            Err(LexError::Refused(diag)) => {
+                let code = diag.code;
+                let place = diag.place;
+                format!(in alloc; "{code} {place}")
+            }
+            Err(LexError::NoMemory) => Err(AllocError),
+        }
+    }
+
+    #[test]
+    fn tokens_and_refusals(rt: HostRuntime) -> Result<(), Fail> {
+        let cases: [(&[u8], &str); 11] = [
+            (b"", "end 1:1"),
+            (b" \t\r\n// all\n", "end 3:1"),
+            (
+                b"val s = \"a b\";\r\n s",
+                "<Val> 1:1 0-3 s 1:5 4-5 <Equals> 1:7 6-7 'a b' 1:9 8-13 <Semicolon> 1:14 13-14 s 2:2 17-18 end 2:3",
+            ),
+            (b"12ab 007", "#12 1:1 0-2 ab 1:3 2-4 #7 1:6 5-8 end 1:9"),
+            (b"a<:b/ /", "E02 1:5"),
+            (
+                b"x.print()//y",
+                "x 1:1 0-1 <Dot> 1:2 1-2 print 1:3 2-7 <Open> 1:8 7-8 <Close> 1:9 8-9 end 1:13",
+            ),
+            (
+                b"\xc3\xa9_1 Box",
+                "\u{e9}_1 1:1 0-4 <BoxType> 1:5 5-8 end 1:8",
+            ),
+            (b"def _a", "E02 1:5"),
+            (b"1\n9223372036854775808", "E02 2:1"),
+            (b"def a = \"x", "E02 1:9"),
+            (b"def a = \xff", "E01 1:9"),
+        ];
+        for (bytes, want) in cases {
+            assert_eq!(rt; shown(rt.alloc(), bytes)?.as_str(), want, "of {bytes:?}");
+        }
+        Ok(())
+    }
+}
