@@ -6,6 +6,8 @@ pub mod DevicesFirst
 pub mod Erasure
 pub mod Finality
 pub mod Invariant
+pub mod LinkedPrograms
+pub mod Links
 pub mod PutCaptures
 pub mod ReachLemmas
 pub mod RunSteps

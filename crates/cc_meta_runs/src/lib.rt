@@ -3,5 +3,6 @@
 #![tactic(auto)]
 
 pub mod examples;
+pub mod programs;
 pub mod runs;
 pub mod soundness;

@@ -1,0 +1,1 @@
+use Rattle.cc_meta_runs.proofs.LinkedPrograms.{started_there}
