@@ -12,6 +12,7 @@ pub mod PutCaptures
 pub mod ReachLemmas
 pub mod RunSteps
 pub mod RunTheorems
+pub mod SafeRuns
 pub mod ScopeRows
 pub mod ShownAnswers
 pub mod StepHelpers

@@ -1,26 +1,26 @@
 -- Linked stores are typed.
-use Rattle.std.proofs.Common.{◌≡◌, ◌<◌, ◌≤◌, ◌+◌, ◌-◌, arith, ℕ, zero, suc, Bool, true, false, cond, List, [], ◌∷◌, ◌++◌, map, length, Option, Some, None, inl, inr, ◌⊎◌, refl, sym, ap, ◌∙◌, subst}
-use Rattle.std.specs.Prelude.{reverse, nat_eq, nat_lt, is_some, IsTrue, slice_get}
+use Rattle.std.proofs.Common.{◌≡◌, ◌<◌, ◌≤◌, ◌+◌, ◌-◌, arith, ℕ, suc, true, false, cond, List, [], ◌∷◌, ◌++◌, map, length, Option, Some, None, inl, inr, refl, sym, ap, ◌∙◌, subst}
+use Rattle.std.specs.Prelude.{reverse, nat_eq, nat_lt, is_some, IsTrue}
 use Rattle.std.specs.Option.{option_map, unwrap_or}
-use Rattle.std.specs.List.{AllByRecursion, list_all}
+use Rattle.std.specs.List.{AllByRecursion}
 use Rattle.std.specs.Str.{bytes_eq}
 use Rattle.std.proofs.lemmas.List.{length-reverse}
-use Rattle.std.proofs.lemmas.Bool.{cases_eq, cond-true, cond-false, and_parts, and_from, eq-eqb, ne_eqb, lt-ltb, le-ltb}
+use Rattle.std.proofs.lemmas.Bool.{cond-true, cond-false, and_parts, and_from, eq-eqb, ne_eqb, lt-ltb, le-ltb}
 use Rattle.cc_base.specs.declared.literal.Base.{Base}
 use Rattle.cc_capture.specs.declared.var.Var.{Var}
 use Rattle.cc_capture.specs.declared.var.Var.TheVariants.{Bound, Free}
 use Rattle.cc_capture.specs.declared.var.Elem.{Elem}
 use Rattle.cc_capture.specs.declared.var.Elem.TheVariants.{Cap}
 use Rattle.cc_core.specs.Terms.{Term, VariableTerm, LiteralTerm, FunctionTerm, TypeFunctionTerm, BoxTerm, Application, TypeApplication, Unboxing, Let, Primitive, Conditional, Repetition, Operation, Boundary, Leave}
-use Rattle.cc_core.specs.Shapes.{Shape, TypeVariable, CapturingType, capturing}
+use Rattle.cc_core.specs.Shapes.{TypeVariable, CapturingType, capturing}
 use Rattle.cc_core.specs.Contexts.{Bind, TermEntry, TypeEntry, Context, entry_of, lookup}
-use Rattle.cc_core.specs.Traversal.{Action, act_type, act_term, keeping}
-use Rattle.cc_core.specs.Substitution.{single, moving, renaming, renamed_variable, renamed_term, freely}
+use Rattle.cc_core.specs.Traversal.{Action, act_type, act_term}
+use Rattle.cc_core.specs.Substitution.{renaming, renamed_variable, renamed_term}
 use Rattle.cc_core.specs.Occurrences.{MeetsInType, IsAskedOf, IsPositionBelow, positions_below, on_variables}
 use Rattle.cc_core.specs.WellFormed.{Kind, kind_of, kinds_of, is_well_formed_entry, is_well_formed_context, IsWellFormedType, IsWellFormedContext}
 use Rattle.cc_core.specs.Captured.{is_value}
 use Rattle.cc_core.specs.Typing.{HasType}
-use Rattle.cc_core.specs.Stores.{ValueCell, DeviceCell, Store, is_device_base, is_function, HasStoreTyping, none_stored, value_stored, recursive_stored, device_stored}
+use Rattle.cc_core.specs.Stores.{Store, is_device_base, is_function, HasStoreTyping, none_stored, value_stored, recursive_stored, device_stored}
 use Rattle.cc_core.specs.Programs.{Import, Definition, Module, definition_named, definition_in, imported, device_entry, device_context, with_signature, import_context, definition_context, NamesDevicesOnly, OfEachModule, AreTyped, is_definable, AreDefinable, SignaturesNameDevices, ImportsAreThere, IsTypedModule}
 use Rattle.cc_core.proofs.Actions.{act_type-keeping}
 use Rattle.cc_core.proofs.Conditions.{gives_here, MeetsInType-here}
@@ -117,9 +117,11 @@ among_found g before name [] d len e = cc
 among_found g before name (x ∷ ds) d len e =
     elim (bytes_eq x.name name) as (λ b. cond b (Some x) (definition_named name ds) ≡ Some d → (q : ℕ) × (cond b (Some (before + length ds)) (position_among before name ds) ≡ Some q) × (lookup (definition_context g (x ∷ ds)) q ≡ Some (entry_of d.signature))) [
       | true ↦ λ is.
-          let here : before + length ds ≡ length (definition_context g ds) = (let more = definition_context_length g ds in omega arith) in
-          (before + length ds, refl,
-          ap (lookup (definition_context g (x ∷ ds))) here ∙ lookup-newest (entry_of x.signature) (definition_context g ds) ∙ ap (λ (y : Definition). Some (entry_of y.signature)) (some_is x d is))
+          let here : before + length ds ≡ length (definition_context g ds) = (let more = definition_context_length g ds in omega arith) in (
+            before + length ds,
+            refl,
+            ap (lookup (definition_context g (x ∷ ds))) here ∙ lookup-newest (entry_of x.signature) (definition_context g ds) ∙ ap (λ (y : Definition). Some (entry_of y.signature)) (some_is x d is),
+          )
       | false ↦ λ is.
           let rest = among_found g before name ds d len is in
           (rest.0, rest.1, lookup-older (entry_of x.signature) (definition_context g ds) rest.0 (entry_of d.signature) rest.2)
@@ -182,13 +184,14 @@ module _ (devices : List Base) (earlier : List Module) (signatures : OfEachModul
         | inl new ↦
             let here : p ≡ length devices + length is = (let same = new.0 in omega arith) in
             let goes : import_position (length devices) earlier (i ∷ is) p ≡ at.0 =
-                cond-true (nat_eq p (length devices + length is)) _ _ (eq-eqb p (length devices + length is) here) ∙ ap (λ o. unwrap_or o p) at.1 in
-            (ap (lookup (linked_context devices earlier)) goes ∙ at.2 ∙ ap (λ x. Some x) new.1,
-            subst (OfDevices (length devices)) new.1 (names_devices devices earlier i.module_name i.definition_name found.0 signatures found.1))
+            cond-true (nat_eq p (length devices + length is)) _ _ (eq-eqb p (length devices + length is) here) ∙ ap (λ o. unwrap_or o p) at.1 in (
+              ap (lookup (linked_context devices earlier)) goes ∙ at.2 ∙ ap (λ x. Some x) new.1,
+              subst (OfDevices (length devices)) new.1 (names_devices devices earlier i.module_name i.definition_name found.0 signatures found.1),
+            )
         | inr old ↦
             let below : p < length rest = lookup-below rest p b old in
             let goes : import_position (length devices) earlier (i ∷ is) p ≡ import_position (length devices) earlier is p =
-                cond-false (nat_eq p (length devices + length is)) _ _ (ne_eqb p (length devices + length is) (λ same. omega arith)) in
+            cond-false (nat_eq p (length devices + length is)) _ _ (ne_eqb p (length devices + length is) (λ same. omega arith)) in
             let found_older = imports_found is there.1 p b old in
             (ap (lookup (linked_context devices earlier)) goes ∙ found_older.0, found_older.1)
       ]
@@ -236,9 +239,10 @@ module _ (devices : List Base) (earlier : List Module) (signatures : OfEachModul
               let long_target = definition_context_length (linked_context devices earlier) ds in
               let long_linked = linked_context_length devices earlier in
               let same = new.0 in
-              let here : to p ≡ length target = to_own p (omega arith) ∙ (let q : length devices + count_definitions earlier + (p - (length devices + length is)) ≡ length target = omega arith in q) in
-              (ap (lookup (entry_of d.signature ∷ target)) here ∙ lookup-newest (entry_of d.signature) target ∙ ap (λ x. Some x) new.1,
-              subst (OfDevices (length devices)) new.1 all.0)
+              let here : to p ≡ length target = to_own p (omega arith) ∙ (let q : length devices + count_definitions earlier + (p - (length devices + length is)) ≡ length target = omega arith in q) in (
+                ap (lookup (entry_of d.signature ∷ target)) here ∙ lookup-newest (entry_of d.signature) target ∙ ap (λ x. Some x) new.1,
+                subst (OfDevices (length devices)) new.1 all.0,
+              )
           | inr old ↦
               let rest = found ds all.1 p b old in
               (lookup-older (entry_of d.signature) target (to p) b rest.0, rest.1)
@@ -279,7 +283,7 @@ module _ (devices : List Base) (earlier : List Module) (signatures : OfEachModul
         let rest = stored below ds names.1 values.1 typed.1 in
         let formed = IsKindedContext-test (definition_context (linked_context devices earlier) ds) (store_formed (store_typed_from rest)) in
         elim d.is_recursive as (λ r. IsTrue (cond r (is_function d.value) (is_value d.value)) → HasType (cond r (entry_of d.signature ∷ definition_context own ds) (definition_context own ds)) d.value d.signature
-          → HasStoreTyping (linked_cell to d ∷ (map (linked_cell to) ds ++ st)) (entry_of d.signature ∷ definition_context (linked_context devices earlier) ds)) [
+        → HasStoreTyping (linked_cell to d ∷ (map (linked_cell to) ds ++ st)) (entry_of d.signature ∷ definition_context (linked_context devices earlier) ds)) [
           | true ↦ λ is_f has.
               let parts = and_parts (is_well_formed_entry (kinds_of (definition_context own ds)) (entry_of d.signature)) (is_well_formed_context (definition_context own ds)) has.context_formed in
               let type_formed = signature_formed ds names.1 d.signature names.0 parts.0 in

@@ -230,11 +230,11 @@ typed_programs_start_soundly store context term type stored typed none = record 
 }
 
 -- Authority.
-device_reached : {st : Store} {p : ℕ} {x : Cell} → Reaches st p x → (n m : ℕ) (b b' : Base) → x ≡ DeviceCell n b → lookup st p ≡ Some (DeviceCell m b') → m ≡ n
+pub device_reached : {st : Store} {p : ℕ} {x : Cell} → Reaches st p x → (n m : ℕ) (b b' : Base) → x ≡ DeviceCell n b → lookup st p ≡ Some (DeviceCell m b') → m ≡ n
 device_reached (here there end) n m b b' is at = let both : Some (DeviceCell m b') ≡ Some (DeviceCell n b) = sym at ∙ there ∙ ap (λ z. Some z) is in cc
 device_reached (through {value = v} there m' rest) n m b b' is at = let clash : Some (DeviceCell m b') ≡ Some (ValueCell v) = sym at ∙ there in cc
 
-literal_reaches_nothing : {st : Store} {p : ℕ} {x : Cell} → Reaches st p x → (l : Literal) → lookup st p ≡ Some (ValueCell (LiteralTerm l)) → ⊥
+pub literal_reaches_nothing : {st : Store} {p : ℕ} {x : Cell} → Reaches st p x → (l : Literal) → lookup st p ≡ Some (ValueCell (LiteralTerm l)) → ⊥
 literal_reaches_nothing {st = st} (here {position = p} {cell = x} there end) l at = value_end x (sym at ∙ there) end
   where
     value_end : (y : Cell) → Some (ValueCell (LiteralTerm l)) ≡ Some y → IsEnd y → ⊥
@@ -246,7 +246,7 @@ literal_reaches_nothing {st = st} (through {position = p} {next = q} {value = v}
     let is : LiteralTerm l ≡ v = cc in
     Member-empty (Variable (Free q)) (subst (λ t. Member (Variable (Free q)) (captured_variables t)) (sym is) m)
 
-reached_cell : {st : Store} {p n : ℕ} {b : Base} → Reaches st p (DeviceCell n b) → (q : ℕ) × (lookup st q ≡ Some (DeviceCell n b))
+pub reached_cell : {st : Store} {p n : ℕ} {b : Base} → Reaches st p (DeviceCell n b) → (q : ℕ) × (lookup st q ≡ Some (DeviceCell n b))
 reached_cell (here {position = q} there end) = (q, there)
 reached_cell (through there m rest) = reached_cell rest
 

@@ -1,11 +1,10 @@
 -- Programs that are linked from the modules of an entry are typed, and run soundly.
-use Rattle.std.specs.Prelude.{◌≡◌, ◌≢◌, ℕ, List, [], ◌∷◌, map, reverse, length, Some, None}
+use Rattle.std.specs.Prelude.{◌≡◌, ◌≢◌, ℕ, List, ◌∷◌, map, reverse, length, Some}
 use Rattle.cc_base.specs.declared.literal.Base.{Base}
 use Rattle.cc_base.specs.declared.literal.Base.TheVariants as bases
 use Rattle.cc_base.specs.declared.literal.Op.{Op}
 use Rattle.cc_base.specs.declared.device.Kind.{Kind}
 use Rattle.cc_base.specs.Literals.{Literal}
-use Rattle.cc_capture.specs.declared.var.Var.TheVariants.{Free}
 use Rattle.cc_capture.specs.Sets.{empty}
 use Rattle.cc_core.specs.Shapes.{BaseShape, CapturingType, capturing}
 use Rattle.cc_core.specs.Terms.{Term}
@@ -15,7 +14,7 @@ use Rattle.cc_core.specs.Stores.{ValueCell, DeviceCell, HasStoreTyping}
 use Rattle.cc_core.specs.Programs.{Definition, Entry, definition_in, IsEntry}
 use Rattle.cc_device.specs.Devices.{Devices, base_of_device}
 use Rattle.cc_device.specs.Events.{Event, Operated, Exited, IsWellScoped}
-use Rattle.cc_meta_runs.specs.Links.{position_in, linked_cell, linked_store, linked_context, program_start, declared_state, declared_base}
+use Rattle.cc_meta_runs.specs.Links.{position_in, linked_store, linked_context, program_start, declared_state, declared_base}
 use Rattle.cc_meta_runs.specs.Reach.{SetReaches, captured_set}
 use Rattle.cc_meta_runs.specs.Runs.{State, IsStuck, Moves, move, Leads, IsStopped, run}
 use Rattle.cc_meta_runs.specs.Soundness.{scopes_of, IsListed}

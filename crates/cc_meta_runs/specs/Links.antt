@@ -9,12 +9,12 @@ use Rattle.cc_base.specs.declared.device.Kind.{Kind}
 use Rattle.cc_base.specs.declared.device.Kind.TheVariants as kinds
 use Rattle.cc_capture.specs.declared.var.Var.TheVariants.{Free}
 use Rattle.cc_base.specs.Literals.{UnitLiteral}
-use Rattle.cc_core.specs.Terms.{Term, LiteralTerm, Application}
+use Rattle.cc_core.specs.Terms.{LiteralTerm, Application}
 use Rattle.cc_core.specs.Contexts.{Context}
 use Rattle.cc_core.specs.Substitution.{renamed_term}
 use Rattle.cc_core.specs.Stores.{Cell, ValueCell, DeviceCell, Store}
 use Rattle.cc_core.specs.Programs.{Import, Definition, Module, Entry, device_context, definition_context}
-use Rattle.cc_device.specs.Devices.{DeviceState, Console, File, Counter, Devices}
+use Rattle.cc_device.specs.Devices.{DeviceState, Console, File, Counter}
 use Rattle.cc_meta_runs.specs.Machine.{Configuration, configured}
 
 -- how many definitions the modules have
