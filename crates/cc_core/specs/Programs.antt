@@ -1,6 +1,6 @@
--- Checked modules, and the entry of a program: modules that import from each other, and the definition that is run. Names are
--- lists of code points. Modules, imports and definitions are listed in order, the first one first. Contexts list the newest
--- first, so the functions here take the lists turned round, and what stands behind an item is what came before it.
+-- Checked modules, and the entry of a program: modules that import from each other, and the definition that is run. Names
+-- are lists of code points. Modules, imports and definitions are listed in order, the first one first. Contexts list the
+-- newest first, so the functions here take the lists turned round: what stands behind an item is what came before it.
 use Rattle.std.specs.Prelude.{◌≡◌, ℕ, ◌+◌, nat_eq, Bool, true, List, [], ◌∷◌, ◌++◌, map, reverse, length, Option, Some, None, is_some, IsTrue, if◌then◌else◌}
 use Rattle.std.specs.List.{AllByRecursion, IsDistinct, list_all}
 use Rattle.std.specs.Str.{bytes_eq}
@@ -22,8 +22,8 @@ pub record Import : Type 0 where
   pub module_name : List ℕ
   pub definition_name : List ℕ
 
--- A definition that was checked: its name, its value, the type of its signature, and whether it is recursive, so that its
--- value may name it. The variables of the value are positions of the context that it was checked in.
+-- A definition that was checked: its name, its value, the type of its signature, and whether it is recursive, so that
+-- its value may name it. The variables of the value are positions of the context that it was checked in.
 pub record Definition : Type 0 where
   pub name : List ℕ
   pub value : Term
@@ -36,8 +36,8 @@ pub record Module : Type 0 where
   pub imports : List Import
   pub definitions : List Definition
 
--- An entry: the base shapes of the devices, by their numbers; the modules, each of which comes after those that it imports
--- from; the names of the module and of the definition that is run; and the devices that it may operate.
+-- An entry: the base shapes of the devices, by their numbers; the modules, each of which comes after those that it
+-- imports from; the names of the module and of the definition that is run; and the devices that it may operate.
 pub record Entry : Type 0 where
   pub devices : List Base
   pub modules : List Module
@@ -112,7 +112,8 @@ OfEachModule holds (newest ∷ older) = holds older newest × OfEachModule holds
 
 -- the definitions of the module are values
 abbrev pub AreDefinable : List Module → Module → Type 0
-AreDefinable earlier current = AllByRecursion (λ definition. IsTrue (is_definable definition)) (reverse current.definitions)
+AreDefinable earlier current =
+    AllByRecursion (λ definition. IsTrue (is_definable definition)) (reverse current.definitions)
 
 -- no two definitions of the module have one name
 abbrev pub NamesDiffer : List Module → Module → Type 0
@@ -125,21 +126,23 @@ SignaturesNameDevices devices earlier current =
 
 -- each import of the module names a definition of an earlier one
 abbrev pub ImportsAreThere : List Module → Module → Type 0
-ImportsAreThere earlier current = AllByRecursion (λ names. IsTrue (is_some (imported earlier names))) (reverse current.imports)
+ImportsAreThere earlier current =
+    AllByRecursion (λ names. IsTrue (is_some (imported earlier names))) (reverse current.imports)
 
--- Each definition of the module has the type of its signature, in the context of the devices, the imported signatures and
--- the signatures before it.
+-- Each definition of the module has the type of its signature, in the context of the devices, the imported signatures
+-- and the signatures before it.
 abbrev pub IsTypedModule : List Base → List Module → Module → Type 0
 IsTypedModule devices earlier current =
     AreTyped (import_context (device_context devices) earlier (reverse current.imports)) (reverse current.definitions)
 
--- What an entry of accepted modules has: devices of device shapes; values for definitions; different names; signatures that
--- name devices alone; imports from earlier modules; typed definitions; a definition that is run, which takes unit; and the
--- devices that the signature of that one gives leave to use, as its authority.
+-- What an entry of accepted modules has: devices of device shapes; values for definitions; different names; signatures
+-- that name devices alone; imports from earlier modules; typed definitions; a definition that is run, which takes unit;
+-- and the devices that the signature of that one gives leave to use, as its authority.
 pub record IsEntry (entry : Entry) : Type 0 where
   pub devices : IsTrue (list_all is_device_base entry.devices)
   pub values : OfEachModule AreDefinable (reverse entry.modules)
-  pub names : IsDistinct bytes_eq (map (λ current. current.name) entry.modules) × OfEachModule NamesDiffer (reverse entry.modules)
+  pub module_names : IsDistinct bytes_eq (map (λ current. current.name) entry.modules)
+  pub names : OfEachModule NamesDiffer (reverse entry.modules)
   pub signatures : OfEachModule (SignaturesNameDevices entry.devices) (reverse entry.modules)
   pub imports : OfEachModule ImportsAreThere (reverse entry.modules)
   pub typed : OfEachModule (IsTypedModule entry.devices) (reverse entry.modules)

@@ -30,8 +30,8 @@ use Rattle.cc_core.proofs.Lookups.{lookup-newest, lookup-older, lookup-cases, lo
 use Rattle.cc_core.proofs.Moving.{Member-single}
 use Rattle.cc_meta_typing.proofs.FormedContexts.{IsKindedContext, IsKindedContext-test, entry_kinded, kind_of_entry}
 use Rattle.cc_meta_typing.proofs.InternalConversions.{formed_type_from, internal_from, type_from}
-use Rattle.cc_meta_runs.specs.Links.{count_definitions, position_among, position_in, linked_position, linked_cell, device_cells, linked_store, linked_context, program_store, entry_position, program_start}
-use Rattle.cc_meta_runs.specs.LinkLaws.{program_context, LinkedStoresAreTyped, DefinitionsAreLinked}
+use Rattle.cc_meta_runs.specs.Links.{count_definitions, position_among, position_in, linked_position, linked_cell, device_cells, linked_store, linked_context, program_store, program_context, entry_position, program_start}
+use Rattle.cc_meta_runs.specs.LinkLaws.{LinkedStoresAreTyped, DefinitionsAreLinked}
 use Rattle.cc_device.specs.Devices.{DeviceState, base_of_device, Devices}
 use Rattle.cc_meta_runs.specs.Soundness.{labels_in, IsSound}
 use Rattle.cc_meta_runs.specs.SoundRuns.{IsSoundStart}
