@@ -5,9 +5,11 @@ pub mod DeviceTable
 pub mod DevicesFirst
 pub mod Erasure
 pub mod Finality
+pub mod InterleavedTasks
 pub mod Invariant
 pub mod LinkedPrograms
 pub mod Links
+pub mod LocalSteps
 pub mod PutCaptures
 pub mod ReachLemmas
 pub mod RunSteps
@@ -19,6 +21,7 @@ pub mod StepHelpers
 pub mod StepTheorem
 pub mod StoreTheorems
 pub mod StoreTyping
+pub mod TasksApart
 pub mod TermRows
 pub mod WorkedAuthorities
 pub mod WorkedOperators

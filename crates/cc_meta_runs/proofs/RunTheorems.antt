@@ -149,7 +149,7 @@ reach_kept (runs.more {state = a} {next = m} {event = e} is rest) s n base r =
 pub reach_never_grows : ReachNeverGrows
 reach_never_grows state next events sound leads = reach_kept leads.1 sound
 
-among : (event : Option Event) (events : List Event) (x : Event) → IsAmong x (with_event event events) → (event ≡ Some x) ⊎ IsAmong x events
+pub among : (event : Option Event) (events : List Event) (x : Event) → IsAmong x (with_event event events) → (event ≡ Some x) ⊎ IsAmong x events
 among None events x h = inr h
 among (Some e) events x (inl same) = inl (ap (λ y. Some y) (sym same))
 among (Some e) events x (inr h) = inr h
@@ -167,7 +167,7 @@ operated_reached (runs.more {state = a} {next = m} {event = e} {events = es} is 
 pub operated_devices_are_reached : OperatedDevicesAreReached
 operated_devices_are_reached state next events sound leads = operated_reached leads.1 sound
 
-follow : (before after last : List ℕ) (event : Option Event) (events : List Event) → FitsScopes before event after → FollowsAll after events last → FollowsAll before (with_event event events) last
+pub follow : (before after last : List ℕ) (event : Option Event) (events : List Event) → FitsScopes before event after → FollowsAll after events last → FollowsAll before (with_event event events) last
 follow before after last None events same rest = subst (λ z. FollowsAll z events last) (sym same) rest
 follow before after last (Some e) events fits rest = then_event fits rest
 

@@ -4,6 +4,8 @@ pub mod ExampleAuthorities
 pub mod ExampleOperators
 pub mod ExamplePrograms
 pub mod ExampleRuns
+pub mod InterleavingLaws
+pub mod Interleavings
 pub mod LinkLaws
 pub mod Links
 pub mod Machine

@@ -1,0 +1,24 @@
+//! Tasks that run interleaved on the same devices. The functions do nothing.
+ghost use Rattle.cc_meta_runs.specs.InterleavingLaws as law;
+
+/// A step depends only on the devices that its configuration reaches, and changes no other.
+pub fn steps_are_local()
+    ensures depends { law.StepsDependOnWhatTheyReach }
+    ensures changes { law.StepsChangeWhatTheyReach }
+{}
+
+/// An interleaved run is turns of its tasks, and it goes on while it has fuel and a task of the schedule is not final. Each
+/// task keeps what it keeps alone.
+pub fn tasks_keep_their_promises()
+    ensures turns { law.InterleavingsAreTurns }
+    ensures goes_on { law.SchedulesGoOn }
+    ensures sound { law.TasksStaySound }
+    ensures promises { law.TasksKeepTheirPromises }
+{}
+
+/// The events of each device are a history of that device alone, and a task whose devices no other reaches runs as it does
+/// alone.
+pub fn tasks_share_devices_alone()
+    ensures histories { law.DevicesHaveHistories }
+    ensures alone { law.TasksApartRunAsAlone }
+{}
