@@ -13,7 +13,7 @@ use Rattle.cc_meta_runs.specs.Reach.{SetReaches, captured_set}
 use Rattle.cc_meta_runs.specs.Runs.{State, Move, IsStuck, IsFinal, Moves, move, with_event}
 use Rattle.cc_meta_runs.specs.Soundness.{scopes_of, IsListed}
 use Rattle.cc_meta_runs.specs.SoundRuns.{FitsDevices, IsSoundState, IsSoundMove, IsAmong}
-use Rattle.cc_meta_runs.specs.Interleavings.{World, state_of, move_of, after_turn, Turn, Chosen, offered, chosen_from, Interleaving, take_turn, go_on, interleave, all_events, own_events, own_steps}
+use Rattle.cc_meta_runs.specs.Interleavings.{World, state_of, move_of, after_turn, Turn, Chosen, offered, chosen_from, Interleaving, take_turn, go_on, interleave, trace_of, all_events, own_events, own_steps}
 use Rattle.cc_meta_runs.specs.InterleavingLaws.{Takes, no_turn, then_turn, AreSound, IsAtRest, InterleavingsAreTurns, SchedulesGoOn, TasksStaySound, KeepsItsPromises, TasksKeepTheirPromises, events_on, History, quiet, DevicesHaveHistories}
 use Rattle.cc_meta_runs.proofs.DeviceTable.{moves_keep_the_devices}
 use Rattle.cc_meta_runs.proofs.RunTheorems.{fitting_is_by_shapes, moves_are_sound, among, follow}
@@ -175,7 +175,7 @@ interleavings_are_turns (suc fuel) schedule w = choice_takes (interleave fuel) (
 abbrev GoesOn : ℕ → List ℕ → Interleaving → Type 0
 GoesOn fuel schedule run = (length run.turns ≡ fuel) ⊎ ((i : ℕ) → IsListed i schedule → IsAtRest (move_of run.last i))
 
-not_stuck : (w : World) → AreSound w → (i : ℕ) → move_of w i ≡ Some IsStuck → ⊥
+pub not_stuck : (w : World) → AreSound w → (i : ℕ) → move_of w i ≡ Some IsStuck → ⊥
 not_stuck w sound i is =
     let by = mover w i IsStuck is in
     subst (IsSoundMove (state_of w.devices by.0)) by.2 (moves_are_sound (state_of w.devices by.0) (sound i by.0 by.1))
@@ -203,11 +203,13 @@ schedules_go_on zero schedule w sound = inl refl
 schedules_go_on (suc fuel) schedule w sound = choice_goes_on fuel (interleave fuel) (schedules_go_on fuel) w sound schedule (chosen_from w [] schedule) refl
 
 -- A task's own turns, and those of others.
-pub own_turn_events : (i j : ℕ) (event : Option Event) (ts : List Turn) → j ≡ i → own_events i (record { task = j; event = event } ∷ ts) ≡ with_event event (own_events i ts)
-own_turn_events i j event ts same = cond-true (nat_eq j i) _ _ (eq-eqb j i same)
+pub own_turn_events : (i j : ℕ) (event : Option Event) (ts : List Turn) → j ≡ i → own_events i (trace_of (record { task = j; event = event } ∷ ts)) ≡ with_event event (own_events i (trace_of ts))
+own_turn_events i j None ts same = refl
+own_turn_events i j (Some e) ts same = cond-true (nat_eq j i) (e ∷ own_events i (trace_of ts)) (own_events i (trace_of ts)) (eq-eqb j i same)
 
-pub other_turn_events : (i j : ℕ) (event : Option Event) (ts : List Turn) → (j ≡ i → ⊥) → own_events i (record { task = j; event = event } ∷ ts) ≡ own_events i ts
-other_turn_events i j event ts other = cond-false (nat_eq j i) _ _ (ne_eqb j i other)
+pub other_turn_events : (i j : ℕ) (event : Option Event) (ts : List Turn) → (j ≡ i → ⊥) → own_events i (trace_of (record { task = j; event = event } ∷ ts)) ≡ own_events i (trace_of ts)
+other_turn_events i j None ts other = refl
+other_turn_events i j (Some e) ts other = cond-false (nat_eq j i) (e ∷ own_events i (trace_of ts)) (own_events i (trace_of ts)) (ne_eqb j i other)
 
 pub own_turn_steps : (i j : ℕ) (event : Option Event) (ts : List Turn) → j ≡ i → own_steps i (record { task = j; event = event } ∷ ts) ≡ suc (own_steps i ts)
 own_turn_steps i j event ts same = cond-true (nat_eq j i) _ _ (eq-eqb j i same)
@@ -242,14 +244,14 @@ module _ (i : ℕ) where
               after = later.after;
               there = later.there;
               operated = λ n op l h.
-                  elim (among event (own_events i ts) (Operated n op l) (subst (IsAmong (Operated n op l)) events h)) as (λ _. SetReaches c.store (captured_set c) (DeviceCell n (base_operated op))) [
+                  elim (among event (own_events i (trace_of ts)) (Operated n op l) (subst (IsAmong (Operated n op l)) events h)) as (λ _. SetReaches c.store (captured_set c) (DeviceCell n (base_operated op))) [
                     | inl now ↦ kept.operated n op l now
                     | inr then ↦ kept.reach n (base_operated op) (later.operated n op l then)
                   ];
               reach = λ n b r. kept.reach n b (later.reach n b r);
               scopes =
                   subst (λ (es : List Event). FollowsAll (scopes_of c.stack) es (scopes_of later.after.stack)) (sym events)
-                  (follow (scopes_of c.stack) (scopes_of next.configuration.stack) (scopes_of later.after.stack) event (own_events i ts) kept.scopes later.scopes);
+                  (follow (scopes_of c.stack) (scopes_of next.configuration.stack) (scopes_of later.after.stack) event (own_events i (trace_of ts)) kept.scopes later.scopes);
             }
         | inr other ↦
             let later = keeps rest (sound_turn w sound j event next moved) c (other_next w i j c next.configuration other there) in
@@ -270,17 +272,17 @@ tasks_keep_their_promises w last ts sound takes i c there = keeps i takes sound 
 abbrev HasHistory : ℕ → DeviceState → List Event → Devices → Type 0
 HasHistory number device events devices = (device' : DeviceState) × (slice_get devices number ≡ Some device') × History number device events device'
 
-first_event : (number : ℕ) (event : Option Event) (events : List Event) → with_on number event (events_on number events) ≡ events_on number (with_event event events)
-first_event number None events = refl
-first_event number (Some e) events = refl
+first_event : (number j : ℕ) (event : Option Event) (ts : List Turn) → with_on number event (events_on number (all_events (trace_of ts))) ≡ events_on number (all_events (trace_of (record { task = j; event = event } ∷ ts)))
+first_event number j None ts = refl
+first_event number j (Some e) ts = refl
 
-histories : {w last : World} {ts : List Turn} → Takes w ts last → AreSound w → (number : ℕ) (device : DeviceState) → slice_get w.devices number ≡ Some device → HasHistory number device (events_on number (all_events ts)) last.devices
+histories : {w last : World} {ts : List Turn} → Takes w ts last → AreSound w → (number : ℕ) (device : DeviceState) → slice_get w.devices number ≡ Some device → HasHistory number device (events_on number (all_events (trace_of ts))) last.devices
 histories no_turn sound number device there = (device, there, quiet)
 histories (then_turn {world = w} {last = last} {task = j} {event = event} {next = next} {turns = ts} moved rest) sound number device there =
     let by = mover w j (Moves event next) moved in
     let goes = move_continues number device (state_of w.devices by.0) (sound j by.0 by.1) there event next by.2 in
     let later = histories rest (sound_turn w sound j event next moved) number goes.0 goes.1 in
-    (later.0, later.1, subst (λ (es : List Event). History number device es later.0) (first_event number event (all_events ts)) (goes.2 (events_on number (all_events ts)) later.0 later.2))
+    (later.0, later.1, subst (λ (es : List Event). History number device es later.0) (first_event number j event ts) (goes.2 (events_on number (all_events (trace_of ts))) later.0 later.2))
 
 pub devices_have_histories : DevicesHaveHistories
 devices_have_histories w last ts sound takes number device there = histories takes sound number device there

@@ -3,6 +3,7 @@ pub mod Authority
 pub mod CanonicalForms
 pub mod DeviceTable
 pub mod DevicesFirst
+pub mod EntryTasks
 pub mod Erasure
 pub mod Finality
 pub mod InterleavedTasks

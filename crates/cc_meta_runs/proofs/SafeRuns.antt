@@ -59,7 +59,7 @@ scope_there before label inner scopes is = subst (IsListed label) (sym is) (insi
     inside [] = inl refl
     inside (x ∷ front) = inr (inside front)
 
-exit_scope : {before after : List ℕ} {event : Event} → Follows before event after → (label : ℕ) → event ≡ Exited label → IsListed label before
+pub exit_scope : {before after : List ℕ} {event : Event} → Follows before event after → (label : ℕ) → event ≡ Exited label → IsListed label before
 exit_scope operated label is = cc
 exit_scope entered label is = cc
 exit_scope ended label is = cc

@@ -8,7 +8,7 @@ use Rattle.cc_device.specs.Events.{Event}
 use Rattle.cc_device.proofs.Operations.{set_at, set_elsewhere}
 use Rattle.cc_meta_runs.specs.Machine.{Configuration}
 use Rattle.cc_meta_runs.specs.Runs.{State, Move, IsStuck, IsFinal, Moves, move, ending_of, after_move, run_on, run}
-use Rattle.cc_meta_runs.specs.Interleavings.{World, state_of, move_of, after_turn, Turn, own_events, own_steps, ending_in}
+use Rattle.cc_meta_runs.specs.Interleavings.{World, state_of, move_of, after_turn, Turn, trace_of, own_events, own_steps, ending_in}
 use Rattle.cc_meta_runs.specs.InterleavingLaws.{Takes, no_turn, then_turn, AreSound, ReachesDevice, TasksApartRunAsAlone}
 use Rattle.cc_meta_runs.proofs.LocalSteps.{kept_from, steps_change_what_they_reach, Agree, SameMove, same_move}
 use Rattle.cc_meta_runs.proofs.InterleavedTasks.{mover, sound_turn, tasks_stay_sound, own_turn_events, other_turn_events, own_turn_steps, other_turn_steps, own_move, own_next, other_next}
@@ -41,7 +41,7 @@ module _ (p : ℕ → Type 0) (i : ℕ) where
     after : Configuration
     left : Devices
     there : slice_get last.tasks i ≡ Some after
-    ran : run (own_steps i ts) (state_of devices c) ≡ record { events = own_events i ts; ending = ending_in left after; steps = own_steps i ts; last = state_of left after }
+    ran : run (own_steps i ts) (state_of devices c) ≡ record { events = own_events i (trace_of ts); ending = ending_in left after; steps = own_steps i ts; last = state_of left after }
     agree : Agree p last.devices left
     within : (n : ℕ) → ReachesDevice after n → p n
 

@@ -12,7 +12,7 @@ use Rattle.cc_meta_runs.specs.Reach.{SetReaches, captured_set}
 use Rattle.cc_meta_runs.specs.Runs.{State, Move, IsStuck, IsFinal, Moves, move, run}
 use Rattle.cc_meta_runs.specs.Soundness.{scopes_of, IsListed, IsSound, ReachesNoNewDevice}
 use Rattle.cc_meta_runs.specs.SoundRuns.{IsSoundState, IsAmong}
-use Rattle.cc_meta_runs.specs.Interleavings.{World, state_of, move_of, after_turn, Turn, interleave, own_events, own_steps, all_events, ending_at}
+use Rattle.cc_meta_runs.specs.Interleavings.{World, state_of, move_of, after_turn, Turn, interleave, trace_of, all_events, own_events, own_steps, ending_at}
 
 -- turns that are taken, in whatever order, lead from a world to another
 pub data Takes : World → List Turn → World → Type 0 where
@@ -90,10 +90,10 @@ pub record KeepsItsPromises (task : ℕ) (before : Configuration) (turns : List 
   pub after : Configuration
   pub there : slice_get last.tasks task ≡ Some after
   pub operated : (device : ℕ) (operation : Op) (literal : Literal)
-      → IsAmong (Operated device operation literal) (own_events task turns)
+      → IsAmong (Operated device operation literal) (own_events task (trace_of turns))
       → SetReaches before.store (captured_set before) (DeviceCell device (base_operated operation))
   pub reach : ReachesNoNewDevice before after
-  pub scopes : FollowsAll (scopes_of before.stack) (own_events task turns) (scopes_of after.stack)
+  pub scopes : FollowsAll (scopes_of before.stack) (own_events task (trace_of turns)) (scopes_of after.stack)
 
 -- Each task keeps what a run alone keeps, for its own configurations, events and labels.
 abbrev pub TasksKeepTheirPromises : Type 0
@@ -102,7 +102,7 @@ TasksKeepTheirPromises =
     → (task : ℕ) (configuration : Configuration) → slice_get world.tasks task ≡ Some configuration
     → KeepsItsPromises task configuration turns last
 
--- the event operates the device
+-- the event in front of the events, if it operates the device
 abbrev pub on_device : ℕ → Event → List Event → List Event
 on_device number (Operated device operation literal) events =
     if nat_eq device number then Operated device operation literal ∷ events else events
@@ -130,7 +130,7 @@ DevicesHaveHistories =
     (world last : World) (turns : List Turn) → AreSound world → Takes world turns last
     → (number : ℕ) (device : DeviceState) → slice_get world.devices number ≡ Some device
     → (device' : DeviceState) × (slice_get last.devices number ≡ Some device')
-    × History number device (events_on number (all_events turns)) device'
+    × History number device (events_on number (all_events (trace_of turns))) device'
 
 -- no other task reaches a device that this one reaches
 abbrev pub IsApart : World → ℕ → Configuration → Type 0
@@ -142,7 +142,7 @@ IsApart world task configuration =
 -- its own number of steps for fuel, the run alone has its events, its end, its number of steps and its last configuration,
 -- and leaves each device that was reached as it is.
 pub record RunsAsAlone (task : ℕ) (before : Configuration) (devices : Devices) (turns : List Turn) (last : World) : Type 0 where
-  pub events : (run (own_steps task turns) (state_of devices before)).events ≡ own_events task turns
+  pub events : (run (own_steps task turns) (state_of devices before)).events ≡ own_events task (trace_of turns)
   pub ending : Some (run (own_steps task turns) (state_of devices before)).ending ≡ ending_at last task
   pub steps : (run (own_steps task turns) (state_of devices before)).steps ≡ own_steps task turns
   pub configuration : Some (run (own_steps task turns) (state_of devices before)).last.configuration ≡ slice_get last.tasks task

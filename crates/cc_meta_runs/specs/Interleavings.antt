@@ -92,16 +92,15 @@ abbrev pub trace_of : List Turn → List (ℕ × Event)
 trace_of [] = []
 trace_of (turn ∷ turns) = numbered turn.task turn.event (trace_of turns)
 
--- the events of all tasks
-abbrev pub all_events : List Turn → List Event
-all_events [] = []
-all_events (turn ∷ turns) = with_event turn.event (all_events turns)
+-- the events of all tasks in a trace, in the one order
+abbrev pub all_events : List (ℕ × Event) → List Event
+all_events trace = map (λ entry. entry.1) trace
 
--- the events of one task
-abbrev pub own_events : ℕ → List Turn → List Event
+-- the events of one task in a trace
+abbrev pub own_events : ℕ → List (ℕ × Event) → List Event
 own_events task [] = []
-own_events task (turn ∷ turns) =
-    if nat_eq turn.task task then with_event turn.event (own_events task turns) else own_events task turns
+own_events task (first ∷ trace) =
+    if nat_eq first.0 task then first.1 ∷ own_events task trace else own_events task trace
 
 -- how many steps a task took
 abbrev pub own_steps : ℕ → List Turn → ℕ

@@ -15,3 +15,4 @@ pub mod Runs
 pub mod SoundRuns
 pub mod Soundness
 pub mod StoreLaws
+pub mod TaskLaws

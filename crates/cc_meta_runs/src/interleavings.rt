@@ -1,5 +1,6 @@
 //! Tasks that run interleaved on the same devices. The functions do nothing.
 ghost use Rattle.cc_meta_runs.specs.InterleavingLaws as law;
+ghost use Rattle.cc_meta_runs.specs.TaskLaws as tasks;
 
 /// A step depends only on the devices that its configuration reaches, and changes no other.
 pub fn steps_are_local()
@@ -21,4 +22,11 @@ pub fn tasks_keep_their_promises()
 pub fn tasks_share_devices_alone()
     ensures histories { law.DevicesHaveHistories }
     ensures alone { law.TasksApartRunAsAlone }
+{}
+
+/// The programs of entries run interleaved as they should, on all devices of their shapes, by every schedule and with any
+/// fuel: each task runs safely, each device has its history, and a task that has its devices alone runs as it does alone.
+pub fn entries_run_interleaved()
+    ensures ends { tasks.EndsAreOfTheirTasks }
+    ensures interleaved { tasks.EntriesRunInterleaved }
 {}
