@@ -1,28 +1,28 @@
 -- The programs of entries as tasks.
-use Rattle.std.proofs.Common.{◌≡◌, ℕ, zero, suc, ◌+◌, arith, List, [], ◌∷◌, map, Option, Some, None, refl, sym, ap, ◌∙◌, subst}
+use Rattle.std.proofs.Common.{◌≡◌, ℕ, zero, suc, ◌+◌, arith, List, [], ◌∷◌, map, Some, refl, sym, ap, ◌∙◌, subst}
 use Rattle.std.specs.Prelude.{slice_get}
 use Rattle.std.specs.Option.{option_map}
 use Rattle.cc_base.specs.declared.literal.Base.{Base}
 use Rattle.cc_core.specs.Typing.{base_operated}
-use Rattle.cc_core.specs.Stores.{DeviceCell, authority}
+use Rattle.cc_core.specs.Stores.{DeviceCell}
 use Rattle.cc_core.specs.Programs.{Entry, IsEntry}
 use Rattle.cc_device.specs.Devices.{Devices}
 use Rattle.cc_device.specs.Events.{Exited}
 use Rattle.cc_meta_runs.specs.Machine.{Configuration}
 use Rattle.cc_meta_runs.specs.Reach.{SetReaches, captured_set}
-use Rattle.cc_meta_runs.specs.Runs.{State, Moves, Ending, run}
+use Rattle.cc_meta_runs.specs.Runs.{Moves, run}
 use Rattle.cc_meta_runs.specs.Soundness.{scopes_of, IsListed}
 use Rattle.cc_meta_runs.specs.SoundRuns.{IsSoundState}
 use Rattle.cc_meta_runs.specs.Links.{program_start}
 use Rattle.cc_meta_runs.specs.LinkLaws.{HaveShapes}
-use Rattle.cc_meta_runs.specs.Interleavings.{World, world_of, state_of, move_of, Turn, Interleaving, interleave, trace_of, own_steps, own_events, ending_in, ends_from, interleaved_run}
+use Rattle.cc_meta_runs.specs.Interleavings.{World, world_of, state_of, Turn, Interleaving, interleave, own_steps, ending_in, ends_from, interleaved_run}
 use Rattle.cc_meta_runs.specs.InterleavingLaws.{Takes, AreSound, ReachesDevice}
 use Rattle.cc_meta_runs.specs.TaskLaws.{AreEntries, EndsAreOfTheirTasks, IsSafeTask, TaskRunsSafely, HasItsDevicesAlone, TaskRunsAsAlone, EntriesRunInterleaved}
 use Rattle.cc_meta_runs.proofs.RunTheorems.{runs_never_stop}
 use Rattle.cc_meta_runs.proofs.LinkedPrograms.{program_starts}
 use Rattle.cc_meta_runs.proofs.SafeRuns.{start_reaches, exit_scope}
 use Rattle.cc_meta_runs.proofs.LocalSteps.{kept_from}
-use Rattle.cc_meta_runs.proofs.InterleavedTasks.{mover, not_stuck, own_move, interleavings_are_turns, schedules_go_on, tasks_stay_sound, tasks_keep_their_promises, devices_have_histories}
+use Rattle.cc_meta_runs.proofs.InterleavedTasks.{not_stuck, own_move, interleavings_are_turns, schedules_go_on, tasks_stay_sound, tasks_keep_their_promises, devices_have_histories}
 use Rattle.cc_meta_runs.proofs.TasksApart.{tasks_apart_run_as_alone}
 
 -- Reports.

@@ -25,5 +25,10 @@ pub mod StoreTyping
 pub mod TasksApart
 pub mod TermRows
 pub mod WorkedAuthorities
+<<<<<<< HEAD
 pub mod WorkedOperators
+=======
+pub mod WorkedEntry
+>>>>>>> 846af94 (Worked entries and interleavings)
 pub mod WorkedRuns
+pub mod WorkedTasks

@@ -5,7 +5,7 @@ use Rattle.cc_core.specs.Programs.{Entry}
 use Rattle.cc_device.specs.Devices.{Devices}
 use Rattle.cc_device.specs.Events.{Event}
 use Rattle.cc_meta_runs.specs.Machine.{Configuration}
-use Rattle.cc_meta_runs.specs.Runs.{State, Move, IsFinal, Moves, move, with_event, Ending, ending_of}
+use Rattle.cc_meta_runs.specs.Runs.{State, Move, IsFinal, Moves, move, Ending, ending_of}
 use Rattle.cc_meta_runs.specs.Links.{program_start}
 
 -- The tasks by their numbers, each with its own store, frames, term and labels, and the devices, which all of them share.

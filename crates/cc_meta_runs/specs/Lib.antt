@@ -1,9 +1,11 @@
 pub mod Alike
 pub mod Answers
 pub mod ExampleAuthorities
+pub mod ExampleEntries
 pub mod ExampleOperators
 pub mod ExamplePrograms
 pub mod ExampleRuns
+pub mod ExampleTasks
 pub mod InterleavingLaws
 pub mod Interleavings
 pub mod LinkLaws

@@ -1,5 +1,5 @@
 -- Programs of entries that run interleaved.
-use Rattle.std.specs.Prelude.{◌≡◌, ◌≢◌, ◌⊎◌, ℕ, List, length, Option, Some, None, slice_get}
+use Rattle.std.specs.Prelude.{◌≡◌, ◌≢◌, ◌⊎◌, ℕ, List, length, Some, slice_get}
 use Rattle.std.specs.List.{AllByRecursion}
 use Rattle.std.specs.Option.{option_map}
 use Rattle.cc_base.specs.declared.literal.Op.{Op}
@@ -17,7 +17,7 @@ use Rattle.cc_meta_runs.specs.SoundRuns.{IsAmong}
 use Rattle.cc_meta_runs.specs.Links.{program_start}
 use Rattle.cc_meta_runs.specs.LinkLaws.{HaveShapes}
 use Rattle.cc_meta_runs.specs.Interleavings.{World, world_of, state_of, move_of, Turn, interleave, trace_of, all_events, own_events, own_steps, ending_in, ends_from, Report, interleaved_run}
-use Rattle.cc_meta_runs.specs.InterleavingLaws.{Takes, IsAtRest, AreSound, events_on, History}
+use Rattle.cc_meta_runs.specs.InterleavingLaws.{Takes, IsAtRest, events_on, History}
 
 -- what an entry has, of each, and devices of the shapes of each
 abbrev pub AreEntries : List Entry → Devices → Type 0

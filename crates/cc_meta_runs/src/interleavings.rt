@@ -1,6 +1,7 @@
 //! Tasks that run interleaved on the same devices. The functions do nothing.
 ghost use Rattle.cc_meta_runs.specs.InterleavingLaws as law;
 ghost use Rattle.cc_meta_runs.specs.TaskLaws as tasks;
+ghost use Rattle.cc_meta_runs.specs.ExampleTasks as example;
 
 /// A step depends only on the devices that its configuration reaches, and changes no other.
 pub fn steps_are_local()
@@ -29,4 +30,13 @@ pub fn tasks_share_devices_alone()
 pub fn entries_run_interleaved()
     ensures ends { tasks.EndsAreOfTheirTasks }
     ensures interleaved { tasks.EntriesRunInterleaved }
+{}
+
+/// Interleaved runs, by computation: of tasks that share a device, of tasks that share none, with all their fuel and with less,
+/// and with a boundary that each of two tasks leaves.
+pub fn worked_interleavings()
+    ensures shared { example.SharedCounterRuns }
+    ensures apart { example.TasksApartRun }
+    ensures fuel { example.FuelIsShared }
+    ensures boundaries { example.BoundariesAreTheirOwn }
 {}

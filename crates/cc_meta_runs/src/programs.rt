@@ -1,5 +1,6 @@
 //! Programs that are linked from modules. The functions do nothing.
 ghost use Rattle.cc_meta_runs.specs.LinkLaws as law;
+ghost use Rattle.cc_meta_runs.specs.ExampleEntries as example;
 
 /// Modules that were checked apart link: the linked store is typed, and each definition stands where its names say, with its
 /// signature.
@@ -13,4 +14,12 @@ pub fn entries_run_safely()
     ensures typed { law.EntriesAreTyped }
     ensures declared { law.DeclaredDevicesHaveTheirShapes }
     ensures safe { law.EntriesRunSafely }
+{}
+
+/// An entry of two modules, with imports and a recursive definition: it has all that an entry has, and what it is linked to and
+/// how it runs, by computation.
+pub fn worked_entries()
+    ensures entry { example.MainIsAnEntry }
+    ensures linked { example.MainIsLinked }
+    ensures runs { example.MainRuns }
 {}
