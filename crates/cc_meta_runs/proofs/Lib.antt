@@ -24,6 +24,7 @@ pub mod StoreTheorems
 pub mod StoreTyping
 pub mod TasksApart
 pub mod TermRows
+pub mod WorkedApart
 pub mod WorkedAuthorities
 <<<<<<< HEAD
 pub mod WorkedOperators

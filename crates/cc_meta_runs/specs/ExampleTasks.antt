@@ -12,6 +12,7 @@ use Rattle.cc_meta_runs.specs.Runs.{Ending}
 use Rattle.cc_meta_runs.specs.ExamplePrograms.{number, whole_numbers, nothing, entry_with, val, two_devices, out, hits, print, tick, printed, ticked, done_with_unit, done_with_number, out_of_fuel}
 use Rattle.cc_meta_runs.specs.ExampleEntries.{defined, functions}
 use Rattle.cc_meta_runs.specs.Interleavings.{interleaved_run}
+use Rattle.cc_meta_runs.specs.TaskLaws.{AreEntries, TaskRunsAsAlone}
 
 -- Module m, over the console out and the counter hits:
 --   def one: ((u: Unit) -> Int)^{hits} = fun (u: Unit) => hits.tick()
@@ -110,3 +111,14 @@ BoundariesAreTheirOwn =
     RunTo 100 (0 ∷ 1 ∷ []) (boundary_entry ∷ boundary_entry ∷ []) (Console [] ∷ [])
     ((0, Entered 0) ∷ (1, Entered 0) ∷ (0, Exited 0) ∷ (1, Exited 0) ∷ (0, printed 4) ∷ (1, printed 4) ∷ [])
     ((done_with_unit, 7) ∷ (done_with_unit, 7) ∷ [])
+
+-- Both are entries over these devices, and no device is of both authorities: so each runs by every schedule, and with any
+-- fuel, as it does alone.
+abbrev pub OneAndNineAreEntries : Type 0
+OneAndNineAreEntries = AreEntries (one ∷ nine ∷ []) two_devices
+
+abbrev pub OneAndNineRunAsAlone : Type 0
+OneAndNineRunAsAlone =
+    (schedule : List ℕ) (fuel : ℕ)
+    → TaskRunsAsAlone (interleaved_run fuel schedule (one ∷ nine ∷ []) two_devices) two_devices 0 one
+    × TaskRunsAsAlone (interleaved_run fuel schedule (one ∷ nine ∷ []) two_devices) two_devices 1 nine

@@ -40,3 +40,9 @@ pub fn worked_interleavings()
     ensures fuel { example.FuelIsShared }
     ensures boundaries { example.BoundariesAreTheirOwn }
 {}
+
+/// Two entries whose authorities have no device in common, which so run as they do alone.
+pub fn worked_entries_run_as_alone()
+    ensures entries { example.OneAndNineAreEntries }
+    ensures alone { example.OneAndNineRunAsAlone }
+{}
