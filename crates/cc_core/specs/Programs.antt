@@ -1,8 +1,10 @@
 -- Checked modules, and the entry of a program: modules that import from each other, and the definition that is run. Names
 -- are lists of code points. Modules, imports and definitions are listed in order, the first one first. Contexts list the
 -- newest first, so the functions here take the lists turned round: what stands behind an item is what came before it.
-use Rattle.std.specs.Prelude.{◌≡◌, ℕ, ◌+◌, nat_eq, Bool, true, List, [], ◌∷◌, ◌++◌, map, reverse, length, Option, Some, None, is_some, IsTrue, if◌then◌else◌}
-use Rattle.std.specs.List.{AllByRecursion, IsDistinct, list_all}
+use Rattle.std.specs.Prelude.{◌≡◌, ℕ, Bool, true, ◌&&◌, List, [], ◌∷◌, ◌++◌, map, reverse, length, Option, Some, None, is_some, IsTrue, encode_utf8_all, if◌then◌else◌}
+use Rattle.std.specs.Cmp.Lexicographic.{slice_cmp}
+use Rattle.std.specs.List.{AllByRecursion, IsDistinct, list_all, list_any}
+use Rattle.std.specs.Ordering.{is_lt, nat_cmp, on}
 use Rattle.std.specs.Str.{bytes_eq}
 use Rattle.cc_base.specs.declared.literal.Base.{Base}
 use Rattle.cc_base.specs.declared.literal.Base.TheVariants as bases
@@ -134,6 +136,30 @@ ImportsAreThere earlier current =
 abbrev pub IsTypedModule : List Base → List Module → Module → Type 0
 IsTypedModule devices earlier current =
     AreTyped (import_context (device_context devices) earlier (reverse current.imports)) (reverse current.definitions)
+
+-- whether the name is that of one of the modules
+abbrev pub is_listed : List Module → List ℕ → Bool
+is_listed listed name = list_any (λ current. bytes_eq current.name name) listed
+
+-- whether all that the module imports is from modules that are listed
+abbrev pub is_ready : List Module → Module → Bool
+is_ready listed current = list_all (λ names. is_listed listed names.module_name) current.imports
+
+-- whether a name comes before another in the order of texts
+abbrev pub is_name_before : List ℕ → List ℕ → Bool
+is_name_before left right = is_lt (on encode_utf8_all (slice_cmp nat_cmp) left right)
+
+-- The modules, turned round, stand in the order in which they are linked, before others that wait: the next one is always
+-- the first by name of those that are not yet listed and import from listed modules alone.
+abbrev pub are_in_order : List Module → List Module → Bool
+are_in_order waiting [] = true
+are_in_order waiting (newest ∷ older) =
+    is_ready older newest
+    && list_all (λ other. if is_ready older other then is_name_before newest.name other.name else true) waiting
+    && are_in_order (newest ∷ waiting) older
+
+abbrev pub AreInOrder : List Module → Type 0
+AreInOrder modules = IsTrue (are_in_order [] (reverse modules))
 
 -- What an entry of accepted modules has: devices of device shapes; values for definitions; different names; signatures
 -- that name devices alone; imports from earlier modules; typed definitions; a definition that is run, which takes unit;

@@ -150,8 +150,11 @@ pub one_and_nine_are_entries : OneAndNineAreEntries
 one_and_nine_are_entries = ((one_is_an_entry, refl), ((nine_is_an_entry, refl), tt))
 
 -- no device of the one is a device of the other
+one_is_not_zero : ◌≡◌ {A = ℕ} 1 0 → ⊥
+one_is_not_zero e = omega arith
+
 differ : (n : ℕ) → IsListed n (1 ∷ []) → IsListed n (0 ∷ []) → ⊥
-differ n (inl is) (inl is') = let clash : 1 ≡ 0 = sym is ∙ is' in absurd (omega arith)
+differ n (inl is) (inl is') = one_is_not_zero (sym is ∙ is')
 differ n (inl is) (inr h) = h
 differ n (inr h) other = h
 

@@ -3,7 +3,7 @@ use Rattle.std.proofs.Common.{refl}
 use Rattle.std.specs.Int.{int_wrap}
 use Rattle.cc_capture.specs.Rising.{placed}
 use Rattle.cc_capture.specs.Sets.{empty, insert, from_list, flat_image}
-use Rattle.cc_meta_runs.specs.ExampleEntries.{MainIsLinked, MainRuns}
+use Rattle.cc_meta_runs.specs.ExampleEntries.{MainIsLinked, MainRuns, ModulesStandInOrder}
 use Rattle.cc_meta_runs.specs.ExampleTasks.{SharedCounterRuns, TasksApartRun, FuelIsShared, BoundariesAreTheirOwn}
 
 pub main_is_linked : MainIsLinked
@@ -13,6 +13,10 @@ main_is_linked = (refl, refl)
 pub main_runs : MainRuns
 unfolding int_wrap
 main_runs = (refl, refl, refl)
+
+pub modules_stand_in_order : ModulesStandInOrder
+unfolding lib.Utf8.encode
+modules_stand_in_order = (refl, refl, refl, refl, refl)
 
 pub shared_counter_runs : SharedCounterRuns
 unfolding int_wrap

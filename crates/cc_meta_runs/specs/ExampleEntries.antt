@@ -1,5 +1,5 @@
 -- Entries with their modules, by example: what they are linked to, and that they are entries.
-use Rattle.std.specs.Prelude.{◌≡◌, ℕ, true, false, List, [], ◌∷◌, codes}
+use Rattle.std.specs.Prelude.{◌≡◌, ℕ, Bool, true, false, List, [], ◌∷◌, reverse, codes}
 use Rattle.cc_base.specs.declared.literal.Base.TheVariants as bases
 use Rattle.cc_base.specs.declared.literal.Operator.TheVariants as operators
 use Rattle.cc_capture.specs.declared.var.Var.TheVariants.{Bound, Free}
@@ -7,7 +7,7 @@ use Rattle.cc_capture.specs.Sets.{Set, empty}
 use Rattle.cc_core.specs.Shapes.{Shape, FunctionShape, capturing}
 use Rattle.cc_core.specs.Terms.{Written, Term, FunctionTerm, Application, Primitive, Conditional}
 use Rattle.cc_core.specs.Captured.{variable_set}
-use Rattle.cc_core.specs.Programs.{Definition, Module, Entry, IsEntry}
+use Rattle.cc_core.specs.Programs.{Import, Definition, Module, Entry, are_in_order, AreInOrder, IsEntry}
 use Rattle.cc_meta_runs.specs.ExamplePrograms.{number, whole_numbers, nothing, of_number, val, two_devices, two_cells, out, prints_number, defining, printed, done_with_unit, RunsTo}
 use Rattle.cc_meta_runs.specs.Interleavings.{state_of}
 use Rattle.cc_meta_runs.specs.Links.{entry_store, entry_position, program_start}
@@ -97,3 +97,32 @@ MainIsLinked =
 -- Its run counts down to 0, and prints that.
 abbrev pub MainRuns : Type 0
 MainRuns = RunsTo 100 (state_of two_devices (program_start main_entry)) (printed 0 ∷ []) done_with_unit 38
+
+-- modules without definitions, and an import from one
+abbrev pub module_with : List ℕ → List Import → Module
+module_with name imports = record { name = name; imports = imports; definitions = [] }
+
+abbrev pub import_from : List ℕ → Import
+import_from name = record { module_name = name; definition_name = codes "f" }
+
+abbrev pub importing : Module
+importing = module_with (codes "a") (import_from (codes "z") ∷ [])
+
+abbrev pub earlier_by_name : Module
+earlier_by_name = module_with (codes "b") []
+
+abbrev pub imported_from : Module
+imported_from = module_with (codes "z") []
+
+-- whether the modules stand in order
+abbrev pub stand_in_order : List Module → Bool
+stand_in_order modules = are_in_order [] (reverse modules)
+
+-- Of three modules, where a imports from z: b is first, since it comes before z by name; a waits until z is listed.
+abbrev pub ModulesStandInOrder : Type 0
+ModulesStandInOrder =
+    (stand_in_order (earlier_by_name ∷ imported_from ∷ importing ∷ []) ≡ true)
+    × (stand_in_order (imported_from ∷ earlier_by_name ∷ importing ∷ []) ≡ false)
+    × (stand_in_order (imported_from ∷ importing ∷ earlier_by_name ∷ []) ≡ false)
+    × (stand_in_order (importing ∷ earlier_by_name ∷ imported_from ∷ []) ≡ false)
+    × AreInOrder main_entry.modules

@@ -16,10 +16,11 @@ pub fn entries_run_safely()
     ensures safe { law.EntriesRunSafely }
 {}
 
-/// An entry of two modules, with imports and a recursive definition: it has all that an entry has, and what it is linked to and
-/// how it runs, by computation.
+/// An entry of two modules, with imports and a recursive definition: it has all that an entry has; what it is linked to, how
+/// it runs, and in which order modules stand, by computation.
 pub fn worked_entries()
     ensures entry { example.MainIsAnEntry }
     ensures linked { example.MainIsLinked }
     ensures runs { example.MainRuns }
+    ensures order { example.ModulesStandInOrder }
 {}
