@@ -12,6 +12,7 @@ pub mod Examples
 pub mod Laws
 pub mod Occurrences
 pub mod Places
+pub mod Programs
 pub mod Questions
 pub mod Reading
 pub mod ReadingLaws

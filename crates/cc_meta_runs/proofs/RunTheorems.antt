@@ -149,7 +149,7 @@ reach_kept (runs.more {state = a} {next = m} {event = e} is rest) s n base r =
 pub reach_never_grows : ReachNeverGrows
 reach_never_grows state next events sound leads = reach_kept leads.1 sound
 
-among : (event : Option Event) (events : List Event) (x : Event) → IsAmong x (with_event event events) → (event ≡ Some x) ⊎ IsAmong x events
+pub among : (event : Option Event) (events : List Event) (x : Event) → IsAmong x (with_event event events) → (event ≡ Some x) ⊎ IsAmong x events
 among None events x h = inr h
 among (Some e) events x (inl same) = inl (ap (λ y. Some y) (sym same))
 among (Some e) events x (inr h) = inr h
@@ -167,7 +167,7 @@ operated_reached (runs.more {state = a} {next = m} {event = e} {events = es} is 
 pub operated_devices_are_reached : OperatedDevicesAreReached
 operated_devices_are_reached state next events sound leads = operated_reached leads.1 sound
 
-follow : (before after last : List ℕ) (event : Option Event) (events : List Event) → FitsScopes before event after → FollowsAll after events last → FollowsAll before (with_event event events) last
+pub follow : (before after last : List ℕ) (event : Option Event) (events : List Event) → FitsScopes before event after → FollowsAll after events last → FollowsAll before (with_event event events) last
 follow before after last None events same rest = subst (λ z. FollowsAll z events last) (sym same) rest
 follow before after last (Some e) events fits rest = then_event fits rest
 
@@ -230,11 +230,11 @@ typed_programs_start_soundly store context term type stored typed none = record 
 }
 
 -- Authority.
-device_reached : {st : Store} {p : ℕ} {x : Cell} → Reaches st p x → (n m : ℕ) (b b' : Base) → x ≡ DeviceCell n b → lookup st p ≡ Some (DeviceCell m b') → m ≡ n
+pub device_reached : {st : Store} {p : ℕ} {x : Cell} → Reaches st p x → (n m : ℕ) (b b' : Base) → x ≡ DeviceCell n b → lookup st p ≡ Some (DeviceCell m b') → m ≡ n
 device_reached (here there end) n m b b' is at = let both : Some (DeviceCell m b') ≡ Some (DeviceCell n b) = sym at ∙ there ∙ ap (λ z. Some z) is in cc
 device_reached (through {value = v} there m' rest) n m b b' is at = let clash : Some (DeviceCell m b') ≡ Some (ValueCell v) = sym at ∙ there in cc
 
-literal_reaches_nothing : {st : Store} {p : ℕ} {x : Cell} → Reaches st p x → (l : Literal) → lookup st p ≡ Some (ValueCell (LiteralTerm l)) → ⊥
+pub literal_reaches_nothing : {st : Store} {p : ℕ} {x : Cell} → Reaches st p x → (l : Literal) → lookup st p ≡ Some (ValueCell (LiteralTerm l)) → ⊥
 literal_reaches_nothing {st = st} (here {position = p} {cell = x} there end) l at = value_end x (sym at ∙ there) end
   where
     value_end : (y : Cell) → Some (ValueCell (LiteralTerm l)) ≡ Some y → IsEnd y → ⊥
@@ -246,7 +246,7 @@ literal_reaches_nothing {st = st} (through {position = p} {next = q} {value = v}
     let is : LiteralTerm l ≡ v = cc in
     Member-empty (Variable (Free q)) (subst (λ t. Member (Variable (Free q)) (captured_variables t)) (sym is) m)
 
-reached_cell : {st : Store} {p n : ℕ} {b : Base} → Reaches st p (DeviceCell n b) → (q : ℕ) × (lookup st q ≡ Some (DeviceCell n b))
+pub reached_cell : {st : Store} {p n : ℕ} {b : Base} → Reaches st p (DeviceCell n b) → (q : ℕ) × (lookup st q ≡ Some (DeviceCell n b))
 reached_cell (here {position = q} there end) = (q, there)
 reached_cell (through there m rest) = reached_cell rest
 

@@ -55,7 +55,7 @@ unfolding with_idle
 with_main = TermEntry main_shape (variable_set out) ∷ with_idle
 
 -- a variable that is declared with a set is below it, and one of the empty set below each
-below_declared : (g : Context) (p : ℕ) (s : Shape) (d : Set) → lookup g p ≡ Some (TermEntry s d) → SubcapturesSet g (variable_set (Free p)) d
+pub below_declared : (g : Context) (p : ℕ) (s : Shape) (d : Set) → lookup g p ≡ Some (TermEntry s d) → SubcapturesSet g (variable_set (Free p)) d
 below_declared g p s d there e m =
     subst (λ x. Subcaptures g x d) (sym (Member-single e (Variable (Free p)) m)) (variable {shape = s} {declared = d} there (subcaptures_reflexive g d))
 

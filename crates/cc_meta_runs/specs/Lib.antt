@@ -1,9 +1,15 @@
 pub mod Alike
 pub mod Answers
 pub mod ExampleAuthorities
+pub mod ExampleEntries
 pub mod ExampleOperators
 pub mod ExamplePrograms
 pub mod ExampleRuns
+pub mod ExampleTasks
+pub mod InterleavingLaws
+pub mod Interleavings
+pub mod LinkLaws
+pub mod Links
 pub mod Machine
 pub mod Reach
 pub mod RunLaws
@@ -11,3 +17,4 @@ pub mod Runs
 pub mod SoundRuns
 pub mod Soundness
 pub mod StoreLaws
+pub mod TaskLaws

@@ -3,5 +3,7 @@
 #![tactic(auto)]
 
 pub mod examples;
+pub mod interleavings;
+pub mod programs;
 pub mod runs;
 pub mod soundness;
