@@ -1,0 +1,5 @@
+pub mod Syntax
+pub mod Grammar
+pub mod Reads
+pub mod Tests
+pub mod Reading
