@@ -3,3 +3,4 @@ pub mod Grammar
 pub mod Reads
 pub mod Tests
 pub mod Reading
+pub mod Examples

@@ -51,11 +51,13 @@ Value (ExprPart least) = ExprSyntax
 abbrev pub Readers : Type 0
 Readers = (kind : Kind) → Reader (Value kind)
 
--- what a production is made of: words, symbols, names, perhaps the set of an unboxing, perhaps `: T`, and parts
+-- What a production is made of: words, symbols, names, names whose place the tree keeps, perhaps the set of an unboxing,
+-- perhaps `: T`, and parts.
 pub data Piece : Type 0 where
   AWord : (word : Word) → Piece
   ASymbol : (symbol : Symbol) → Piece
   AName : Piece
+  APlacedName : Piece
   Captures : Piece
   Written : Piece
   Part : (kind : Kind) → Piece
@@ -67,7 +69,8 @@ PlacedName = Place × List ℕ
 abbrev pub PieceValue : Piece → Type 0
 PieceValue (AWord word) = Unit {0}
 PieceValue (ASymbol symbol) = Unit {0}
-PieceValue AName = PlacedName
+PieceValue AName = List ℕ
+PieceValue APlacedName = PlacedName
 PieceValue Captures = Option (List ElementSyntax)
 PieceValue Written = Option TypeSyntax
 PieceValue (Part kind) = Value kind
@@ -89,9 +92,15 @@ symbol_at symbol spare (token ∷ tokens) =
     if is_symbol symbol token.lexeme then Got tt spare tokens else Wrong (token ∷ tokens)
 
 -- a name
-unfoldable pub name_at : ℕ → Reader PlacedName
+unfoldable pub name_at : ℕ → Reader (List ℕ)
 name_at spare [] = Wrong []
 name_at spare (token ∷ tokens) =
+    elim (name_of token.lexeme) [ None ↦ Wrong (token ∷ tokens) | Some name ↦ Got name spare tokens ]
+
+-- a name with its place
+unfoldable pub placed_name_at : ℕ → Reader PlacedName
+placed_name_at spare [] = Wrong []
+placed_name_at spare (token ∷ tokens) =
     elim (name_of token.lexeme) [ None ↦ Wrong (token ∷ tokens) | Some name ↦ Got (token.at, name) spare tokens ]
 
 -- where reading the elements of a set stands: behind `{`, behind a comma, or behind an element
@@ -194,6 +203,7 @@ abbrev pub piece_at : Readers → (piece : Piece) → ℕ → Reader (PieceValue
 piece_at parts (AWord word) spare tokens = word_at word spare tokens
 piece_at parts (ASymbol symbol) spare tokens = symbol_at symbol spare tokens
 piece_at parts AName spare tokens = name_at spare tokens
+piece_at parts APlacedName spare tokens = placed_name_at spare tokens
 piece_at parts Captures spare tokens = captures_at spare tokens
 piece_at parts Written spare tokens = written_at parts spare tokens
 piece_at parts (Part kind) spare tokens = one_part_at parts kind spare tokens
@@ -236,7 +246,7 @@ shape_tree InnerRule at (inner, (close, end)) = ParenthesizedShape at inner
 shape_tree (NamedInnerRule place name) at (close, end) = ParenthesizedShape at (NamedShape place name)
 shape_tree (FunctionShapeRule parameter) at (colon, (takes, (close, (arrow, (gives, end))))) = FunctionShape at parameter takes gives
 shape_tree TypeFunctionShapeRule at (parameter, (below, (bound, (close, (arrow, (gives, end)))))) =
-    TypeFunctionShape at parameter.1 bound gives
+    TypeFunctionShape at parameter bound gives
 
 -- the shape of this rule, from the tokens behind its front on
 unfoldable pub shape_rule_at : Readers → ℕ → Place → ShapeRule → Reader ShapeSyntax
@@ -365,14 +375,14 @@ expr_pieces RepeatRule =
 abbrev pub expr_tree : (rule : ExprRule) → Place → Parts (expr_pieces rule) → ExprSyntax
 expr_tree ParenRule at (inner, (close, end)) = ParenthesizedExpr at inner
 expr_tree ValRule at (name, (written, (equals, (right, (semicolon, (body, end)))))) =
-    ValExpr at name.1 written right body
+    ValExpr at name written right body
 expr_tree FunRule at (opening, (parameter, (colon, (takes, (close, (arrow, (body, end))))))) =
-    FunExpr at parameter.1 takes body
+    FunExpr at parameter takes body
 expr_tree TypeFunRule at (opening, (parameter, (below, (bound, (close, (arrow, (body, end))))))) =
-    TypeFunExpr at parameter.1 bound body
+    TypeFunExpr at parameter bound body
 expr_tree IfRule at (opening, (gives, (close, (test, (then', (positive, (else', (negative, end)))))))) =
     IfExpr at gives test positive negative
-expr_tree BoundaryRule at (opening, (gives, (close, (exit, (arrow, (body, end)))))) = BoundaryExpr at gives exit.1 body
+expr_tree BoundaryRule at (opening, (gives, (close, (exit, (arrow, (body, end)))))) = BoundaryExpr at gives exit body
 expr_tree BoxRule at (content, end) = BoxExpr at content
 expr_tree UnboxRule at (captures, (content, end)) = UnboxExpr at captures content
 expr_tree ExitRule at (opening, (gives, (close, (paren, (exit, (comma, (value, (end, all)))))))) = ExitExpr at gives exit value
@@ -614,11 +624,18 @@ part_at (suc room) = part_over (suc room) (part_at room)
 abbrev pub top_room : ℕ
 top_room = 99
 
+abbrev pub import_pieces : List Piece
+import_pieces = APlacedName ∷ ASymbol symbols.Dot ∷ APlacedName ∷ []
+
+abbrev pub import_tree : Parts import_pieces → ImportSyntax
+import_tree (source, (dot, (name, end))) =
+    record { source = source.1; at = source.0; name = name.1; name_at = name.0 }
+
 -- `m.d`, behind `import`
 unfoldable pub import_at : Reader ImportSyntax
 import_at tokens =
-    pieces_at (part_at top_room) (AName ∷ ASymbol symbols.Dot ∷ AName ∷ []) top_room tokens >>= λ values spare rest.
-    Got (record { source = values.0.1; at = values.0.0; name = values.1.1.0.1; name_at = values.1.1.0.0 }) spare rest
+    pieces_at (part_at top_room) import_pieces top_room tokens >>= λ values spare rest.
+    Got (import_tree values) spare rest
 
 -- the imports at the front, so many at most
 unfoldable pub imports_at : ℕ → Reader (List ImportSyntax)
@@ -635,9 +652,9 @@ pub data DefRule : Type 0 where
   OwnRule : DefRule
 
 abbrev pub def_pieces : DefRule → List Piece
-def_pieces PlainRule = AName ∷ Written ∷ ASymbol symbols.Equals ∷ Part (ExprPart 0) ∷ []
+def_pieces PlainRule = APlacedName ∷ Written ∷ ASymbol symbols.Equals ∷ Part (ExprPart 0) ∷ []
 def_pieces OwnRule =
-    AWord words.Rec ∷ AName ∷ ASymbol symbols.Colon ∷ Part TypePart ∷ ASymbol symbols.Equals ∷ Part (ExprPart 0) ∷ []
+    AWord words.Rec ∷ APlacedName ∷ ASymbol symbols.Colon ∷ Part TypePart ∷ ASymbol symbols.Equals ∷ Part (ExprPart 0) ∷ []
 
 abbrev pub def_tree : (rule : DefRule) → Parts (def_pieces rule) → DefSyntax
 def_tree PlainRule (name, (written, (equals, (right, end)))) =
