@@ -1,1 +1,3 @@
 pub mod WorkedTexts
+pub mod Uniform
+pub mod UniformReaders
