@@ -1,3 +1,5 @@
 pub mod WorkedTexts
 pub mod Uniform
 pub mod UniformReaders
+pub mod Sure
+pub mod Spelling
