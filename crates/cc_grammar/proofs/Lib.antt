@@ -3,3 +3,5 @@ pub mod Uniform
 pub mod UniformReaders
 pub mod Sure
 pub mod Spelling
+pub mod PieceLanguages
+pub mod SurePieces
