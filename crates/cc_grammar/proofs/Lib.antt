@@ -5,3 +5,5 @@ pub mod Sure
 pub mod Spelling
 pub mod PieceLanguages
 pub mod SurePieces
+pub mod ShapeRules
+pub mod SureShapes
