@@ -235,6 +235,11 @@ caret_language = record { spells = λ v ts. IsCaret v × Spell ts (caret_termina
 pub set_language : Language SetSyntax
 set_language = record { spells = λ v ts. Spell ts (set_terminals v); height = λ v. 0 }
 
+-- what a set's tokens are
+pub set-spells : (v : SetSyntax) (ts : List PlacedLexeme) → set_language.spells v ts → Spell ts (set_terminals v)
+unfolding set_language
+set-spells v ts h = h
+
 caret-filler : Filler caret_language
 unfolding caret_language
 caret-filler = record { value = OmittedSet anywhere; tokens = some_token (SymbolLexeme symbols.Question); spelled = (tt, (refl, (refl, tt), tt)); low = omega arith }

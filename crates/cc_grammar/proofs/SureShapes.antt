@@ -8,12 +8,12 @@ use Rattle.cc_lex.specs.Lexemes.{Lexeme, NameLexeme, SymbolLexeme, PlacedLexeme}
 use Rattle.cc_grammar.specs.Syntax.{SetSyntax, AbsentSet, OmittedSet, WrittenSet, TypeSyntax, CapturingType, ShapeSyntax, BaseShape, AnyShape, NamedShape, ExitShape, BoxShape, ParenthesizedShape, FunctionShape, TypeFunctionShape, shape_height, type_height}
 use Rattle.cc_grammar.specs.Grammar.{Terminal, standing_at, Spell, shape_terminals, type_terminals, set_terminals, IsShape, IsType, CanTake}
 use Rattle.cc_grammar.specs.Tests.{is_symbol, begins_symbol, name_of}
-use Rattle.cc_grammar.specs.Reading.{Found, Got, Wrong, High, Reader, Readers, ◌>>=◌, ShapePart, TypePart, PlacedName, Parts, pieces_at, CaretStep, Omits, Opens, Fails, caret_step, AtFirst, elements_at, caret_at, set_at, one_part_at, symbol_at, name_at, ShapeRule, ExitShapeRule, BoxShapeRule, InnerRule, NamedInnerRule, FunctionShapeRule, TypeFunctionShapeRule, shape_pieces, shape_tree, shape_rule_at, named_at, paren_at, ShapeStart, ExitStart, BoxStart, ParenStart, TypeFunctionStart, ShapeHead, WholeShape, StartsShape, NoShape, shape_head, shape_start_at, shape_over, shape_place, type_over}
+use Rattle.cc_grammar.specs.Reading.{Found, Got, Wrong, High, Reader, Readers, ◌>>=◌, ShapePart, TypePart, Piece, AWord, ASymbol, AName, Part, piece_at, PlacedName, Parts, pieces_at, CaretStep, Omits, Opens, Fails, caret_step, AtFirst, elements_at, caret_at, set_at, one_part_at, symbol_at, name_at, ShapeRule, ExitShapeRule, BoxShapeRule, InnerRule, NamedInnerRule, FunctionShapeRule, TypeFunctionShapeRule, shape_pieces, shape_tree, shape_rule_at, named_at, paren_at, ShapeStart, ExitStart, BoxStart, ParenStart, TypeFunctionStart, ShapeHead, WholeShape, StartsShape, NoShape, shape_head, shape_start_at, shape_over, shape_place, type_over}
 use Rattle.cc_grammar.proofs.Spelling.{name-is, spell-append, spell-standing, First}
 use Rattle.cc_grammar.proofs.Sure.{Language, SureAt, Filler, BeginsIn, BeginsSome, made-sure, shift-sure, resplit}
 use Rattle.cc_grammar.proofs.PieceLanguages.{kind_language, parts_language, parts_height, parts_terminals, kind-filler, parts-filler}
-use Rattle.cc_grammar.proofs.SurePieces.{via, refused, AreSure, pieces_at-sure, set_language, set_at-sure}
-use Rattle.cc_grammar.proofs.ShapeRules.{shape_front, shape-terminals, shape-height, shape-made, shape-fair, shape-first, WholeAt, shape-whole, shape_start, shape-starts}
+use Rattle.cc_grammar.proofs.SurePieces.{via, refused, AreSure, pieces_at-sure, set_language, set-spells, set_at-sure}
+use Rattle.cc_grammar.proofs.ShapeRules.{shape-positive, type-positive, shape_front, shape-terminals, shape-height, shape-made, shape-fair, shape-first, WholeAt, shape-whole, shape_start, shape-starts}
 
 -- what a rule makes of its pieces, behind its front
 lift : (rule : ShapeRule) (at : Place) (pre : List PlacedLexeme) → Spell pre (standing_at at (shape_front rule)) → (p : Parts (shape_pieces rule)) (xs : List PlacedLexeme) → (parts_language (shape_pieces rule)).spells p xs → (kind_language ShapePart).spells (shape_tree rule at p) (pre ++ xs)
@@ -201,3 +201,113 @@ type_over-ends room rd ts = behind-then TypeEnds (shape_over room rd ts) _ (λ s
 -- the readers one level below, where there is one, end types so
 abbrev pub TypesEnd : Readers → Type 0
 TypesEnd rd = (ts : List PlacedLexeme) → Behind TypeEnds (rd TypePart ts)
+
+-- a production that ends in a type
+abbrev EndsBy : (pieces : List Piece) → Parts (pieces ++ Part TypePart ∷ []) → List PlacedLexeme → Type 0
+EndsBy [] v rest = TypeEnds v.0 rest
+EndsBy (piece ∷ pieces) v rest = EndsBy pieces v.1 rest
+
+ends-by : (rd : Readers) → TypesEnd rd → (pieces : List Piece) (s : ℕ) (ts : List PlacedLexeme) → Behind (EndsBy pieces) (pieces_at rd (pieces ++ Part TypePart ∷ []) s ts)
+unfolding one_part_at
+ends-by rd ends [] s ts =
+    behind-made TypeEnds (EndsBy []) (λ v less. less) (λ v. (v, tt)) (λ v r h. h) (one_part_at rd TypePart s ts)
+    (behind-made TypeEnds TypeEnds (λ v less. min s less) (λ v. v) (λ v r h. h) (rd TypePart ts) (ends ts))
+ends-by rd ends (piece ∷ pieces) s ts = behind-then (EndsBy (piece ∷ pieces)) (piece_at rd piece s ts) _ (λ v l r. behind-made (EndsBy pieces) (EndsBy (piece ∷ pieces)) (λ w less. less) (λ vs. (v, vs)) (λ w q h. h) (pieces_at rd (pieces ++ Part TypePart ∷ []) l r) (ends-by rd ends pieces l r))
+
+shape_rule_at-ends : (rd : Readers) → TypesEnd rd → (n : ℕ) (at : Place) (rule : ShapeRule) (ts : List PlacedLexeme) → Behind ShapeEnds (shape_rule_at rd n at rule ts)
+unfolding shape_rule_at
+shape_rule_at-ends rd ends n at ExitShapeRule ts = behind-then ShapeEnds (pieces_at rd (shape_pieces ExitShapeRule) n ts) _ (λ v s rest e. tt)
+shape_rule_at-ends rd ends n at BoxShapeRule ts = behind-then ShapeEnds (pieces_at rd (shape_pieces BoxShapeRule) n ts) _ (λ v s rest e. tt)
+shape_rule_at-ends rd ends n at InnerRule ts = behind-then ShapeEnds (pieces_at rd (shape_pieces InnerRule) n ts) _ (λ v s rest e. tt)
+shape_rule_at-ends rd ends n at (NamedInnerRule p x) ts = behind-then ShapeEnds (pieces_at rd (shape_pieces (NamedInnerRule p x)) n ts) _ (λ v s rest e. tt)
+shape_rule_at-ends rd ends n at (FunctionShapeRule x) ts =
+    behind-made (EndsBy (ASymbol symbols.Colon ∷ Part TypePart ∷ ASymbol symbols.Close ∷ ASymbol symbols.Arrow ∷ [])) ShapeEnds (λ v less. less) (shape_tree (FunctionShapeRule x) at) (λ v r h. h) (pieces_at rd (shape_pieces (FunctionShapeRule x)) n ts)
+    (ends-by rd ends (ASymbol symbols.Colon ∷ Part TypePart ∷ ASymbol symbols.Close ∷ ASymbol symbols.Arrow ∷ []) n ts)
+shape_rule_at-ends rd ends n at TypeFunctionShapeRule ts =
+    behind-made (EndsBy (AName ∷ ASymbol symbols.Below ∷ Part ShapePart ∷ ASymbol symbols.CloseBracket ∷ ASymbol symbols.Arrow ∷ [])) ShapeEnds (λ v less. less) (shape_tree TypeFunctionShapeRule at) (λ v r h. h) (pieces_at rd (shape_pieces TypeFunctionShapeRule) n ts)
+    (ends-by rd ends (AName ∷ ASymbol symbols.Below ∷ Part ShapePart ∷ ASymbol symbols.CloseBracket ∷ ASymbol symbols.Arrow ∷ []) n ts)
+
+named_at-ends : (rd : Readers) → TypesEnd rd → (n : ℕ) (at : Place) (name : PlacedName) (ts : List PlacedLexeme) → Behind ShapeEnds (named_at rd n at name ts)
+unfolding named_at
+named_at-ends rd ends n at name ts = go (begins_symbol symbols.Colon ts)
+  where
+    go : (b : Bool) → Behind ShapeEnds (if b then shape_rule_at rd n at (FunctionShapeRule name.1) ts else shape_rule_at rd n at (NamedInnerRule name.0 name.1) ts)
+    go true = shape_rule_at-ends rd ends n at (FunctionShapeRule name.1) ts
+    go false = shape_rule_at-ends rd ends n at (NamedInnerRule name.0 name.1) ts
+
+paren_at-ends : (rd : Readers) → TypesEnd rd → (n : ℕ) (at : Place) (ts : List PlacedLexeme) → Behind ShapeEnds (paren_at rd n at ts)
+unfolding paren_at
+paren_at-ends rd ends n at [] = tt
+paren_at-ends rd ends n at (t ∷ ts) = go (name_of t.lexeme)
+  where
+    go : (o : Option (List ℕ)) → Behind ShapeEnds (elim o [ None ↦ shape_rule_at rd n at InnerRule (t ∷ ts) | Some name ↦ named_at rd n at (t.at, name) ts ])
+    go None = shape_rule_at-ends rd ends n at InnerRule (t ∷ ts)
+    go (Some x) = named_at-ends rd ends n at (t.at, x) ts
+
+shape_start_at-ends : (rd : Readers) → TypesEnd rd → (n : ℕ) (at : Place) (start : ShapeStart) (ts : List PlacedLexeme) → Behind ShapeEnds (shape_start_at rd n at start ts)
+unfolding shape_start_at
+shape_start_at-ends rd ends n at ExitStart ts = shape_rule_at-ends rd ends n at ExitShapeRule ts
+shape_start_at-ends rd ends n at BoxStart ts = shape_rule_at-ends rd ends n at BoxShapeRule ts
+shape_start_at-ends rd ends n at ParenStart ts = paren_at-ends rd ends n at ts
+shape_start_at-ends rd ends n at TypeFunctionStart ts = shape_rule_at-ends rd ends n at TypeFunctionShapeRule ts
+
+leaf-closed : (at : Place) (l : Lexeme) (s : ShapeSyntax) → WholeAt at l s → IsClosed s
+leaf-closed at l (BaseShape p base) w = tt
+leaf-closed at l (AnyShape p) w = tt
+leaf-closed at l (NamedShape p name) w = tt
+leaf-closed at l (ExitShape p gives) w = tt
+leaf-closed at l (BoxShape p content) w = tt
+leaf-closed at l (ParenthesizedShape p inner) w = tt
+leaf-closed at l (FunctionShape p x takes gives) w = absurd (omega (arith, w.height, type-positive takes))
+leaf-closed at l (TypeFunctionShape p x bound gives) w = absurd (omega (arith, w.height, shape-positive bound))
+
+shape_over-ends : (room : ℕ) (rd : Readers) → TypesEnd rd → (ts : List PlacedLexeme) → Behind ShapeEnds (shape_over room rd ts)
+unfolding shape_over
+shape_over-ends room rd ends [] = tt
+shape_over-ends room rd ends (t ∷ ts) = go room (shape_head t.at t.lexeme) refl
+  where
+    start : (n : ℕ) (s : ShapeStart) → Behind ShapeEnds (elim n [ zero ↦ High (t ∷ ts) | suc below ↦ shape_start_at rd below t.at s ts ])
+    start zero s = tt
+    start (suc n) s = shape_start_at-ends rd ends n t.at s ts
+    go : (n : ℕ) (head : ShapeHead) → shape_head t.at t.lexeme ≡ head → Behind ShapeEnds (elim head [ WholeShape shape ↦ Got shape n ts | StartsShape s ↦ (elim n [ zero ↦ High (t ∷ ts) | suc below ↦ shape_start_at rd below t.at s ts ]) | NoShape ↦ Wrong (t ∷ ts) ])
+    go n (WholeShape shape) e = λ f. leaf-closed t.at t.lexeme shape (shape-whole t.at t.lexeme shape e)
+    go n (StartsShape s) e = start n s
+    go n NoShape e = tt
+
+-- TYPES
+
+type-spelled : (shape : ShapeSyntax) (set : SetSyntax) (xs ys : List PlacedLexeme) → Spell xs (shape_terminals shape) → Spell ys (set_terminals set) → Spell (xs ++ ys) (type_terminals (CapturingType (shape_place shape) shape set))
+type-spelled shape set xs ys h k = spell-standing (shape_place shape) xs ys (shape_terminals shape ++ set_terminals set) (shape-first shape xs h) (spell-append xs ys (shape_terminals shape) (set_terminals set) h k)
+
+without_set : ShapeSyntax → TypeSyntax
+without_set shape = CapturingType (shape_place shape) shape AbsentSet
+
+without-set : (shape : ShapeSyntax) (xs : List PlacedLexeme) → (kind_language ShapePart).spells shape xs → (kind_language TypePart).spells (without_set shape) xs
+unfolding without_set
+without-set shape xs (is, h) = ((is, tt), subst (λ y. Spell y (type_terminals (CapturingType (shape_place shape) shape AbsentSet))) (append-nil xs) (type-spelled shape AbsentSet xs [] h tt))
+
+set_at-absent : (s : ℕ) (ts : List PlacedLexeme) → begins_symbol symbols.Caret ts ≡ false → set_at s ts ≡ Got AbsentSet s ts
+unfolding set_at
+set_at-absent s [] e = refl
+set_at-absent s (t ∷ ts) e = rw e refl
+
+type_over-sure : (room : ℕ) (rd : Readers) → AreSureBelow room rd → TypesEnd rd → (ts : List PlacedLexeme) → SureAt (kind_language TypePart) (suc room) room [] ts (type_over room rd ts)
+unfolding type_over without_set
+type_over-sure room rd sure ends ts = go (shape_over room rd ts) (shape_over-sure room rd sure ts) (shape_over-ends room rd ends ts)
+  where
+    typed : ShapeSyntax → ℕ → Reader TypeSyntax
+    typed shape s rest = set_at s rest >>= λ set left behind. Got (CapturingType (shape_place shape) shape set) left behind
+    set : (shape : ShapeSyntax) (s : ℕ) (rest front : List PlacedLexeme) → ts ≡ front ++ rest → IsShape shape → Spell front (shape_terminals shape) → s ≤ room → s + shape_height shape ≤ suc room → ShapeEnds shape rest → (b : Bool) → begins_symbol symbols.Caret rest ≡ b → SureAt (kind_language TypePart) (suc room) room [] ts (typed shape s rest)
+    set shape s rest front e is sp le le' closes true caret =
+        resplit (kind_language TypePart) (suc room) room [] (front ++ rest) ts (typed shape s rest) e
+        (shift-sure (kind_language TypePart) (suc room) room [] front rest (typed shape s rest)
+        (made-sure set_language (kind_language TypePart) (CapturingType (shape_place shape) shape) front
+        (λ a xs h. ((is, closed-takes shape a (closes caret)), type-spelled shape a front xs sp (set-spells a xs h)))
+        (suc room) s (suc room) room (λ a h. omega arith) (λ a r h h'. (omega arith, omega arith)) rest (set_at s rest) (set_at-sure room s le rest)))
+    set shape s rest front e is sp le le' closes false caret =
+        via (kind_language TypePart) (suc room) room [] ts (typed shape s rest) (Got (CapturingType (shape_place shape) shape AbsentSet) s rest) (rw (set_at-absent s rest caret) refl)
+        (front, e, without-set shape front (is, sp), le, le')
+    go : (found : Found ShapeSyntax) → SureAt (kind_language ShapePart) (suc room) room [] ts found → Behind ShapeEnds found → SureAt (kind_language TypePart) (suc room) room [] ts (found >>= typed)
+    go (Got shape s rest) (front, e, (is, sp), le, le') closes = set shape s rest front e is sp le le' closes (begins_symbol symbols.Caret rest) refl
+    go (Wrong rest) h closes = made-sure (kind_language ShapePart) (kind_language TypePart) without_set [] without-set (suc room) room (suc room) room (λ a k. k) (λ a s k k'. (k, k')) ts (Wrong rest) h
+    go (High rest) h closes = made-sure (kind_language ShapePart) (kind_language TypePart) without_set [] without-set (suc room) room (suc room) room (λ a k. k) (λ a s k k'. (k, k')) ts (High rest) h
