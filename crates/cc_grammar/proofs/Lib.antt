@@ -7,3 +7,4 @@ pub mod PieceLanguages
 pub mod SurePieces
 pub mod ShapeRules
 pub mod SureShapes
+pub mod ExprRules
