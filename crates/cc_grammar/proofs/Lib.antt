@@ -8,3 +8,4 @@ pub mod SurePieces
 pub mod ShapeRules
 pub mod SureShapes
 pub mod ExprRules
+pub mod SureExprs

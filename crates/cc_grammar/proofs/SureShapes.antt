@@ -194,7 +194,7 @@ set_at-ends s (t ∷ ts) = go (is_symbol symbols.Caret t.lexeme) refl
     go true e = caret_at-ends s ts
     go false e = λ f. cc
 
-type_over-ends : (room : ℕ) (rd : Readers) (ts : List PlacedLexeme) → Behind TypeEnds (type_over room rd ts)
+pub type_over-ends : (room : ℕ) (rd : Readers) (ts : List PlacedLexeme) → Behind TypeEnds (type_over room rd ts)
 unfolding type_over
 type_over-ends room rd ts = behind-then TypeEnds (shape_over room rd ts) _ (λ shape s rest. behind-made SetEnds TypeEnds (λ v less. less) (CapturingType (shape_place shape) shape) (λ v more h. h) (set_at s rest) (set_at-ends s rest))
 
@@ -291,7 +291,7 @@ unfolding set_at
 set_at-absent s [] e = refl
 set_at-absent s (t ∷ ts) e = rw e refl
 
-type_over-sure : (room : ℕ) (rd : Readers) → AreSureBelow room rd → TypesEnd rd → (ts : List PlacedLexeme) → SureAt (kind_language TypePart) (suc room) room [] ts (type_over room rd ts)
+pub type_over-sure : (room : ℕ) (rd : Readers) → AreSureBelow room rd → TypesEnd rd → (ts : List PlacedLexeme) → SureAt (kind_language TypePart) (suc room) room [] ts (type_over room rd ts)
 unfolding type_over without_set
 type_over-sure room rd sure ends ts = go (shape_over room rd ts) (shape_over-sure room rd sure ts) (shape_over-ends room rd ends ts)
   where
