@@ -9,3 +9,4 @@ pub mod ShapeRules
 pub mod SureShapes
 pub mod ExprRules
 pub mod SureExprs
+pub mod Complete
