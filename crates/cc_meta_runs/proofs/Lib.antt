@@ -26,10 +26,7 @@ pub mod TasksApart
 pub mod TermRows
 pub mod WorkedApart
 pub mod WorkedAuthorities
-<<<<<<< HEAD
-pub mod WorkedOperators
-=======
 pub mod WorkedEntry
->>>>>>> 846af94 (Worked entries and interleavings)
+pub mod WorkedOperators
 pub mod WorkedRuns
 pub mod WorkedTasks

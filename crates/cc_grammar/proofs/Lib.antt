@@ -1,0 +1,12 @@
+pub mod WorkedTexts
+pub mod Uniform
+pub mod UniformReaders
+pub mod Sure
+pub mod Spelling
+pub mod PieceLanguages
+pub mod SurePieces
+pub mod ShapeRules
+pub mod SureShapes
+pub mod ExprRules
+pub mod SureExprs
+pub mod Complete

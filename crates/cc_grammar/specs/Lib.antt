@@ -1,0 +1,6 @@
+pub mod Syntax
+pub mod Grammar
+pub mod Reads
+pub mod Tests
+pub mod Reading
+pub mod Examples
