@@ -62,10 +62,10 @@ followed_known entry older (TypeFunctionShape b g e) h = followed_other entry (l
 followed_known entry older (BoxShape t c) h = followed_other entry (length older) (BoxShape t c) (λ v x. cc)
 followed_known entry older (ExitShape g) h = followed_other entry (length older) (ExitShape g) (λ v x. cc)
 
-pub follows : (context : Context) (position : ℕ) (bound : Shape) → IsKindedContext context → lookup context position ≡ Some (TypeEntry bound)
+pub exposed-bound : (context : Context) (position : ℕ) (bound : Shape) → IsKindedContext context → lookup context position ≡ Some (TypeEntry bound)
     → exposed context (TypeVariable (Free position)) ≡ exposed context bound
-follows [] position bound g there = cc
-follows (entry ∷ older) position bound g there =
+exposed-bound [] position bound g there = cc
+exposed-bound (entry ∷ older) position bound g there =
     elim (lookup-cases entry older position (TypeEntry bound) there) as (λ _. exposed older (followed entry (length older) (TypeVariable (Free position))) ≡ exposed older (followed entry (length older) bound)) [
       | inl same ↦
           let own : IsKinded (kinds_of older) [] bound = subst (IsKindedEntry (kinds_of older)) same.1 g.0 in
@@ -75,12 +75,12 @@ follows (entry ∷ older) position bound g there =
           let own : IsKinded (kinds_of older) [] bound = entry_kinded older position (TypeEntry bound) g.1 old in
           let below = lookup-below older position (TypeEntry bound) old in
           ap (exposed older) (followed_older entry (length older) position (λ same. absurd (omega arith)))
-          ∙ follows older position bound g.1 old ∙ ap (exposed older) (sym (followed_known entry older bound own))
+          ∙ exposed-bound older position bound g.1 old ∙ ap (exposed older) (sym (followed_known entry older bound own))
     ]
 
 pub exposing_follows : (context : Context) (position : ℕ) (bound : Shape) → is_well_formed_context context ≡ true
     → lookup context position ≡ Some (TypeEntry bound) → exposed context (TypeVariable (Free position)) ≡ exposed context bound
-exposing_follows context position bound formed there = follows context position bound (IsKindedContext-from context formed) there
+exposing_follows context position bound formed there = exposed-bound context position bound (IsKindedContext-from context formed) there
 
 -- one step leads to what names older entries alone
 pub followed_kinded : (entry : Bind) (older : Context) (position : ℕ) → IsKindedEntry (kinds_of older) entry → lookup (kinds_of (entry ∷ older)) position ≡ Some TypeKind

@@ -4,7 +4,9 @@ use Rattle.cc_base.specs.declared.literal.Base.TheVariants as bases
 use Rattle.cc_capture.specs.declared.var.Var.TheVariants.{Free}
 use Rattle.cc_capture.specs.declared.var.Elem.{Elem}
 use Rattle.cc_capture.specs.declared.var.Elem.TheVariants.{Var as Variable, Cap}
-use Rattle.cc_capture.specs.Sets.{Set, Member, empty, union}
+use Rattle.cc_capture.specs.Elements.{element_order}
+use Rattle.cc_capture.specs.Rising.{placed}
+use Rattle.cc_capture.specs.Sets.{Set, Member, empty, union, insert}
 use Rattle.cc_capture.proofs.Membership.{Member-empty, Member-union, Member-flat_image}
 use Rattle.cc_core.specs.Shapes.{Shape, BaseShape, AnyShape, BoxShape, ExitShape, capturing}
 use Rattle.cc_core.specs.Contexts.{Bind, TermEntry, Context, lookup}
@@ -18,7 +20,7 @@ use Rattle.cc_core.proofs.Moving.{Member-single_itself}
 use Rattle.cc_core.proofs.SubcapturingLemmas.{subcaptures_above, subcaptures_longer, subcaptures_reflexive, subcaptures_transitive, subcaptures_variable, cap_below}
 use Rattle.cc_sets.specs.Examples.{first, with_console}
 use Rattle.cc_sets.specs.Comparison.{comparison, by_form}
-use Rattle.cc_meta_typing.specs.Examples.{PrinterIsNotPure, BoxOfCapIsNotOpened, FunctionsDoNotTakeExitsOut, BoxesDoNotTakeExitsOut, NotesAreHeeded, acting}
+use Rattle.cc_meta_typing.specs.Examples.{PrinterIsNotPure, BoxOfCapIsNotOpened, FunctionsDoNotTakeExitsOut, BoxesDoNotTakeExitsOut, NotesAreHeeded, RefusedTermsAreWellFormed, acting}
 use Rattle.cc_meta_typing.proofs.ComparisonLemmas.{mismatch_not_below}
 use Rattle.cc_meta_typing.proofs.DirectSubtyping.{SubtypesDirectly, alike, under_any, through_bound, functions, type_functions, boxes, direct_from}
 use Rattle.cc_meta_typing.proofs.Inversions.{variables_invert, literals_invert, function_bodies_invert, box_contents_invert, unboxings_invert, lets_invert, boundaries_invert}
@@ -189,3 +191,7 @@ notes_are_heeded context set body type typed =
     let (bound, gives, right, note, rest, fresh, fresh_set, formed_gives, below) = lets_invert context _ _ _ type typed in
     let below_bound = literals_invert context _ bound right in
     number_is_no_truth context (subst (Subtypes context (BaseShape bases.Int)) (sym note.0) below_bound.1)
+
+pub refused_terms_are_well_formed : RefusedTermsAreWellFormed
+unfolding insert placed element_order empty
+refused_terms_are_well_formed = (refl, refl, refl, refl, refl)

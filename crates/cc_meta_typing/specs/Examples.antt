@@ -13,6 +13,7 @@ use Rattle.cc_core.specs.Terms.{Absent, Written, Term, VariableTerm, LiteralTerm
 use Rattle.cc_core.specs.Terms.{Unboxing, Let, Operation, Boundary, Leave}
 use Rattle.cc_core.specs.Contexts.{TermEntry, Context}
 use Rattle.cc_core.specs.Substitution.{single, replaced_by_shape}
+use Rattle.cc_core.specs.WellFormed.{IsWellFormedTerm}
 use Rattle.cc_core.specs.Subtyping.{Subtypes, SubtypesType}
 use Rattle.cc_core.specs.Typing.{HasType}
 use Rattle.cc_sets.specs.Examples.{number, nothing, printing, first, parameter, with_console, identity_below, boxed}
@@ -128,3 +129,13 @@ abbrev pub NotesAreHeeded : Type 0
 NotesAreHeeded =
     (context : Context) (set : Set) (body : Term) (type : CapturingType)
     → HasType context (Let (Written (BaseShape bases.Bool) set) (LiteralTerm (NumberLiteral (pos 5))) body) type → ⊥
+
+-- What is refused above is well formed, so that it is the rules of typing which refuse it.
+abbrev pub RefusedTermsAreWellFormed : Type 0
+RefusedTermsAreWellFormed =
+    IsWellFormedTerm with_console printer
+    × IsWellFormedTerm with_console (box_and_call (single Cap) (Some (single first)))
+    × IsWellFormedTerm [] exit_in_a_function
+    × IsWellFormedTerm [] exit_in_a_box
+    × IsWellFormedTerm []
+    (Let (Written (BaseShape bases.Bool) empty) (LiteralTerm (NumberLiteral (pos 5))) (VariableTerm (Bound 0)))

@@ -47,3 +47,8 @@ pub fn boundaries_keep_their_exits()
 pub fn notes_are_heeded()
     ensures { example.NotesAreHeeded }
 {}
+
+/// The terms that have no type are well formed.
+pub fn refused_terms_are_well_formed()
+    ensures { example.RefusedTermsAreWellFormed }
+{}
