@@ -1,19 +1,18 @@
 -- What the calls need of actions, and of walks over sets by index.
-use Rattle.std.proofs.Common.{◌≡◌, ℕ, zero, suc, ◌+◌, ◌-◌, ◌<◌, ◌≤◌, nat_eq, nat_lt, Bool, true, false, ◌&&◌, ◌||◌, take, get_or, cond, Option, Some, option_map, map, Result, Ok, Err, IfOk, OnOk, List, [], ◌∷◌, ◌++◌, length, refl, ap, sym, ◌∙◌, arith}
-use Rattle.std.specs.List.{slice_get, list_all, list_any}
-use Rattle.std.proofs.lemmas.List.Folds.{list_all_at, list_all_more, list_all-append, list_any_at, list_any-append}
+use Rattle.std.proofs.Common.{◌≡◌, ℕ, zero, suc, ◌-◌, ◌<◌, nat_eq, nat_lt, Bool, true, false, ◌&&◌, ◌||◌, get_or, cond, Option, Some, option_map, map, Result, Ok, Err, IfOk, OnOk, List, [], ◌∷◌, ◌++◌, length, refl, ap, sym, ◌∙◌, arith}
+use Rattle.std.specs.List.{list_all, list_any}
+use Rattle.std.proofs.lemmas.List.Folds.{list_all_at, list_all-append, list_any_at, list_any-append}
 use Rattle.std.proofs.lemmas.Bool.{ltb-false}
 use Rattle.std.proofs.lemmas.List.{length-map, map-id, get_or_past}
 use denote.Bor.{Bor}
-use Rattle.std.proofs.lemmas.Option.{slice_get-get_or, slice_get_within, get_or_from_slice_get}
 use Rattle.cc_capture.specs.declared.var.Var.{Var}
 use Rattle.cc_capture.specs.declared.var.Var.TheVariants.{Bound}
 use Rattle.cc_capture.specs.declared.var.Elem.{Elem}
 use Rattle.cc_capture.specs.declared.var.Elem.TheVariants.{Var as Variable, Cap, Hole}
-use Rattle.cc_capture.specs.Sets.{Set, empty, insert, union, from_list, first_members, flat_image}
+use Rattle.cc_capture.specs.Sets.{Set, empty, insert, union, from_list, flat_image}
 use Rattle.cc_capture.proofs.Unions.{union-insert, empty-union, union-empty}
 use Rattle.cc_capture.proofs.Images.{flat_image-empty}
-use Rattle.cc_capture.proofs.Walks.{first_members-none, first_members-all, flat_image-first_members-more, flat_image-push}
+use Rattle.cc_capture.proofs.Walks.{flat_image-push}
 use Rattle.cc_capture.proofs.SetLists.{from_list-is}
 use Rattle.cc_core.specs.declared.acting.Action.{Action as DeclaredAction}
 use Rattle.cc_core.specs.declared.acting.Action.TheVariants as actions
@@ -68,37 +67,21 @@ pub joined : {T E : Type 0} (r : Result T E) (e : Elem) (new old set : Set) → 
 joined (Ok x) e new old set is h = h ∙ insert-union e old ∙ ap (λ s. union s old) is
 joined (Err x) e new old set is h = h
 
--- a walk begins with no member
-pub walk-begin : (f : Elem → Set) (s : Set) → empty ≡ flat_image f (first_members 0 s)
-walk-begin f s = sym (flat_image-empty f) ∙ ap (flat_image f) (sym (first_members-none s))
-
--- a walk goes on to one member more
-pub walk-more : (f : Elem → Set) (s : Set) (i : ℕ) (x : Elem) (old new : Set) → slice_get s.list i ≡ Some x → old ≡ flat_image f (first_members i s) → new ≡ union (f x) old → new ≡ flat_image f (first_members (i + 1) s)
-walk-more f s i x old new found was is = is ∙ ap (union (f x)) was ∙ sym (flat_image-first_members-more f s i x found)
-
-pub walk-end : (f : Elem → Set) (s : Set) (i : ℕ) (all : Set) → length s.list ≤ i → all ≡ flat_image f (first_members i s) → all ≡ flat_image f s
-walk-end f s i all past is = is ∙ ap (flat_image f) (first_members-all s i past)
-
 from_list-none : from_list [] ≡ empty
 unfolding from_list
 from_list-none = refl
 
 -- a walk over the elements begins with none
-pub going-begin : (f : Elem → Set) → empty ≡ flat_image f (from_list [])
-going-begin f = sym (flat_image-empty f) ∙ ap (flat_image f) (sym from_list-none)
+pub walk-begin : (f : Elem → Set) → empty ≡ flat_image f (from_list [])
+walk-begin f = sym (flat_image-empty f) ∙ ap (flat_image f) (sym from_list-none)
 
 -- the walk goes on to one element more
-pub going-more : (f : Elem → Set) (xs : List Elem) (x : Elem) (old new : Set) → old ≡ flat_image f (from_list xs) → new ≡ union (f x) old → new ≡ flat_image f (from_list (xs ++ x ∷ []))
-going-more f xs x old new was is = is ∙ ap (union (f x)) was ∙ sym (flat_image-push f xs x)
+pub walk-more : (f : Elem → Set) (xs : List Elem) (x : Elem) (old new : Set) → old ≡ flat_image f (from_list xs) → new ≡ union (f x) old → new ≡ flat_image f (from_list (xs ++ x ∷ []))
+walk-more f xs x old new was is = is ∙ ap (union (f x)) was ∙ sym (flat_image-push f xs x)
 
 -- at the end it went over the set
-pub going-end : (f : Elem → Set) (s : Set) (xs : List Elem) (all : Set) → map (λ x. x) xs ≡ s.list → all ≡ flat_image f (from_list xs) → all ≡ flat_image f s
-going-end f s xs all e is = is ∙ ap (flat_image f) (from_list-is xs s (sym (map-id xs) ∙ e))
-
--- within a list there is an element
-pub present : {T : Type 0} (xs : List T) (i : ℕ) → i < length xs → ((x : T) → slice_get xs i ≡ Some x → ⊥) → ⊥
-present [] i within none = absurd (omega arith)
-present (y ∷ ys) i within none = none _ (slice_get-get_or (y ∷ ys) i y within)
+pub walk-end : (f : Elem → Set) (s : Set) (xs : List Elem) (all : Set) → map (λ x. x) xs ≡ s.list → all ≡ flat_image f (from_list xs) → all ≡ flat_image f s
+walk-end f s xs all e is = is ∙ ap (flat_image f) (from_list-is xs s (sym (map-id xs) ∙ e))
 
 lookup-chosen : {A B : Type 0} (f : A → B) (test : Bool) (x : A) (o : Option A) (p : Option B) → p ≡ option_map f o → cond test (Some (f x)) p ≡ option_map f (cond test (Some x) o)
 lookup-chosen f true x o p e = refl
@@ -127,14 +110,9 @@ pub union-nothing : {E : Type 0} (r : Result Set E) (s : Set) → IfOk r (λ fou
 union-nothing (Ok found) s e = e ∙ sym (union-empty s)
 union-nothing (Err x) s e = e
 
--- one element that fails a test
-pub all-fails : {T : Type 0} (test : T → Bool) (xs : List T) (i : ℕ) (x : T) → slice_get xs i ≡ Some x → test x ≡ false → false ≡ list_all test xs
-all-fails test xs i x found fails =
-    sym (list_all_at test xs i x (slice_get_within xs i x found) (ap test (get_or_from_slice_get xs i x x found) ∙ fails))
-
 -- an element of a list that fails a test
-pub all-fails-at : {T : Type 0} (test : T → Bool) (xs : List T) (i : ℕ) (x : T) → (i < length xs) × (x ≡ get_or xs i x) → test x ≡ false → false ≡ list_all test xs
-all-fails-at test xs i x at fails = sym (list_all_at test xs i x at.0 (ap test (sym at.1) ∙ fails))
+pub all-fails : {T : Type 0} (test : T → Bool) (xs : List T) (i : ℕ) (x : T) → (i < length xs) × (x ≡ get_or xs i x) → test x ≡ false → false ≡ list_all test xs
+all-fails test xs i x at fails = sym (list_all_at test xs i x at.0 (ap test (sym at.1) ∙ fails))
 
 -- one element more that passes a test, at the end
 pub all-push : {T : Type 0} (test : T → Bool) (xs : List T) (x : T) → list_all test xs ≡ true → test x ≡ true → list_all test (xs ++ x ∷ []) ≡ true
@@ -143,14 +121,6 @@ all-push test xs x before passes = list_all-append test xs (x ∷ []) ∙ ap (λ
 -- at the end the test holds of all
 pub all-gone : {T : Type 0} (test : T → Bool) (xs all : List T) → map (λ x. x) xs ≡ all → list_all test xs ≡ true → true ≡ list_all test all
 all-gone test xs all e holds = sym (ap (list_all test) (sym (sym (map-id xs) ∙ e)) ∙ holds)
-
--- one element more that passes a test
-pub all-more : {T : Type 0} (test : T → Bool) (xs : List T) (i : ℕ) (x : T) → slice_get xs i ≡ Some x → list_all test (take i xs) ≡ true → test x ≡ true → list_all test (take (i + 1) xs) ≡ true
-all-more test xs i x found before passes =
-    list_all_more test xs i x (slice_get_within xs i x found)
-    ∙ ap (λ b. b && test (get_or xs i x)) before
-    ∙ ap test (get_or_from_slice_get xs i x x found)
-    ∙ passes
 
 -- an element of a list that passes a test
 pub any-at : {T : Type 0} (test : T → Bool) (xs : List T) (i : ℕ) (x : T) → (i < length xs) × (x ≡ get_or xs i x) → test x ≡ true → true ≡ list_any test xs

@@ -15,6 +15,7 @@ use Rattle.cc_core.specs.Captured.{variable_set}
 use Rattle.cc_core.specs.Typing.{HasNoCap}
 use Rattle.cc_core.specs.Derivations.{ByElement, ByVariable, BySet, t-var, t-box, Claim, SetBelow, OfType, Derivation, Node, NoPremise, one, IsValidComparison, IsValidTyping}
 
+-- the shape of consoles, and a context with one
 abbrev console : Shape
 console = BaseShape bases.Console
 

@@ -11,6 +11,7 @@ use Rattle.cc_capture.specs.Sets.{contains, empty, insert, from_list, union, fla
 use Rattle.cc_core.specs.Shapes.{BaseShape, AnyShape, TypeVariable, FunctionShape, BoxShape, capturing}
 use Rattle.cc_core.specs.Terms.{Absent, Term, VariableTerm, FunctionTerm, BoxTerm, Application, Unboxing, Let}
 use Rattle.cc_core.specs.Substitution.{single, opened, opened_set}
+use Rattle.cc_core.specs.Reading.{read_variable, written_variable}
 use Rattle.cc_core.specs.Captured.{captured_variables}
 use Rattle.cc_core.specs.WellFormed.{TermKind, TypeKind, is_well_formed_set, is_well_formed_shape}
 use Rattle.cc_core.specs.Sizes.{type_size}
@@ -108,3 +109,24 @@ size_of_a_type :
     ≡ 6
 unfolding empty insert placed
 size_of_a_type = refl
+
+-- Under one binder, among three entries: the index 1 is the newest entry, the index 2 the one before it.
+index_of_the_newest_entry : read_variable 3 1 (Bound 1) ≡ Free 2
+index_of_the_newest_entry = refl
+
+index_of_the_entry_before : read_variable 3 1 (Bound 2) ≡ Free 1
+index_of_the_entry_before = refl
+
+-- the index of a binder inside stays, and so does one that has no entry
+index_inside_stays : read_variable 3 1 (Bound 0) ≡ Bound 0
+index_inside_stays = refl
+
+index_without_an_entry_stays : read_variable 3 1 (Bound 4) ≡ Bound 4
+index_without_an_entry_stays = refl
+
+-- written again, from the root 1 on; a position below the root stays
+position_of_the_newest_entry : written_variable 1 3 1 (Free 2) ≡ Bound 1
+position_of_the_newest_entry = refl
+
+position_below_the_root_stays : written_variable 1 3 1 (Free 0) ≡ Free 0
+position_below_the_root_stays = refl

@@ -167,8 +167,8 @@ FreeActionsCommuteWithOpeningBodiesInTerms =
     → act_term (freely to shapes) zero (opened_term position term)
     ≡ opened_term (to position) (act_term (freely to shapes) zero term)
 
--- A body that is opened at a fresh position, and acted on by an action that sends this position to another, is opened at
--- that other one, and acted on as before.
+-- A body that is opened at a fresh position, and acted on by an action that sends this position to another, is opened
+-- at that other one, and acted on as before.
 abbrev pub FreshPositionSentToAnotherOpensBodiesInTypes : Type 0
 FreshPositionSentToAnotherOpensBodiesInTypes =
     (to other : ℕ → ℕ) (shapes others : ℕ → Shape) (fresh : ℕ) (type : CapturingType) → AreClosed shapes
@@ -188,8 +188,8 @@ FreshPositionSentToAnotherOpensBodiesInTerms =
     → act_term (freely other others) zero (opened_term fresh term)
     ≡ opened_term (other fresh) (act_term (freely to shapes) zero term)
 
--- What is opened at a fresh position, and acted on by an action that sends this position to another, is opened at that other
--- one, and acted on as before.
+-- What is opened at a fresh position, and acted on by an action that sends this position to another, is opened at
+-- that other one, and acted on as before.
 abbrev pub FreshPositionSentToAnotherOpensTypes : Type 0
 FreshPositionSentToAnotherOpensTypes =
     (to : ℕ → ℕ) (shapes : ℕ → Shape) (fresh : ℕ) (position : ℕ) (type : CapturingType) → AreClosed shapes
@@ -554,7 +554,8 @@ CapturedVariablesAreWellFormed =
     (context : Context) (term : Term) → IsWellFormedTerm context term
     → IsWellFormedSet context (captured_variables term)
 
--- an element of a set that was opened is the position, or stands outside of the binder; and all that stands outside is there
+-- an element of a set that was opened is the position, or stands outside of the binder; and all that stands outside
+-- is there
 abbrev pub MembersOfOpenedSets : Type 0
 MembersOfOpenedSets =
     (position : ℕ) (set : Set) (e : Elem) → MeetsInSet (bound_within 1) zero set

@@ -9,7 +9,8 @@ use Rattle.cc_core.specs.Shapes.{Shape, BaseShape, AnyShape, TypeVariable, Funct
 use Rattle.cc_core.specs.Traversal.{Action}
 use Rattle.cc_core.specs.Terms.{Note, Absent, Written, Own, Term, VariableTerm, LiteralTerm, FunctionTerm, TypeFunctionTerm, BoxTerm, Application, TypeApplication, Unboxing, Let, Primitive, Conditional, Repetition, Operation, Boundary, Leave}
 
--- What is asked of an element of a set, of a type variable, and of a variable of a term that stand under so many binders.
+-- What is asked of an element of a set, of a type variable, and of a variable of a term that stand under so many
+-- binders.
 pub record Condition : Type 1 where
   pub element : ℕ → Elem → Type 0
   pub shape : ℕ → Var → Type 0

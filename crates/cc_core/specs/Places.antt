@@ -1,5 +1,5 @@
--- The places of terms, which their plain trees leave out: a tree of them beside the plain term. What opens, renames or fills a
--- term leaves its places, so one tree serves the term and all that it becomes.
+-- The places of terms, which their plain trees leave out: a tree of them beside the plain term. What opens, renames
+-- or fills a term leaves its places, so one tree serves the term and all that it becomes.
 use Rattle.cc_base.specs.declared.place.Place.{Place}
 use Rattle.cc_core.specs.declared.terms.Form.{Form}
 use Rattle.cc_core.specs.declared.terms.Form.TheVariants as forms

@@ -1,6 +1,6 @@
--- Terms that are gone into without being opened, and what is found for them. Each binder that is passed puts one entry into the
--- context, so an index that counts a binder outside of the part stands for an entry, counted from the newest. Reading makes
--- such an index the position of its entry, and writing makes a position an index again.
+-- Terms that are gone into without being opened, and what is found for them. Each binder that is passed puts one
+-- entry into the context, so an index that counts a binder outside of the part stands for an entry, counted from the
+-- newest. Reading makes such an index the position of its entry, and writing makes a position an index again.
 use Rattle.std.specs.Prelude.{ℕ, zero, suc, ◌+◌, ◌-◌, nat_lt, nat_le, ◌&&◌, if◌then◌else◌}
 use Rattle.cc_capture.specs.declared.var.Var.{Var}
 use Rattle.cc_capture.specs.declared.var.Var.TheVariants.{Bound, Free}
@@ -10,8 +10,8 @@ use Rattle.cc_core.specs.Terms.{Term}
 use Rattle.cc_core.specs.Traversal.{Action, act, act_set, act_type, act_term}
 use Rattle.cc_core.specs.Substitution.{moving}
 
--- The variable, in a part under so many binders, among so many entries: an index that counts a binder outside of the part
--- becomes the position of the entry that many from the newest. One for which there is no entry stays.
+-- The variable, in a part under so many binders, among so many entries: an index that counts a binder outside of the
+-- part becomes the position of the entry that many from the newest. One for which there is no entry stays.
 abbrev pub read_variable : ℕ → ℕ → Var → Var
 read_variable entries depth (Bound index) =
     if nat_le depth index && nat_lt (index - depth) entries

@@ -16,9 +16,11 @@ ShiftedActionsActDeeperOnTypes =
 -- the same of terms
 abbrev pub ShiftedActionsActDeeperOnTerms : Type 0
 ShiftedActionsActDeeperOnTerms =
-    (action : Action) (depth : ℕ) (term : Term) → act_term action (suc depth) term ≡ act_term (shifted action) depth term
+    (action : Action) (depth : ℕ) (term : Term)
+    → act_term action (suc depth) term ≡ act_term (shifted action) depth term
 
--- What is read under its binder and then opened at the position that comes next is what is read with the binder's entry.
+-- What is read under its binder and then opened at the position that comes next is what is read with the binder's
+-- entry.
 abbrev pub OpeningAReadBodyReadsItsEntryInTypes : Type 0
 OpeningAReadBodyReadsItsEntryInTypes =
     (entries : ℕ) (type : CapturingType)
@@ -27,7 +29,8 @@ OpeningAReadBodyReadsItsEntryInTypes =
 -- the same of terms
 abbrev pub OpeningAReadBodyReadsItsEntryInTerms : Type 0
 OpeningAReadBodyReadsItsEntryInTerms =
-    (entries : ℕ) (term : Term) → opened_term entries (act_term (reading entries) 1 term) ≡ read_term (suc entries) term
+    (entries : ℕ) (term : Term)
+    → opened_term entries (act_term (reading entries) 1 term) ≡ read_term (suc entries) term
 
 -- what has no open index is read as it is
 abbrev pub ReadingLeavesTypesWithoutOpenIndex : Type 0
@@ -51,8 +54,8 @@ ReadingUndoesWritingOfTerms =
     (root entries : ℕ) (term : Term) → MeetsInTerm (bound_within 0) zero term
     → read_term entries (written_term root entries term) ≡ term
 
--- Each index counts a binder inside, or one of those outside that put the entries from the root on; and each free position is
--- below the root.
+-- Each index counts a binder inside, or one of those outside that put the entries from the root on; and each free
+-- position is below the root.
 abbrev pub of_the_term : ℕ → ℕ → Condition
 of_the_term root entries =
     on_variables (λ depth variable. HasBinder (depth + (entries - root)) variable × IsPositionBelow root variable)

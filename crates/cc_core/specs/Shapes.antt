@@ -3,8 +3,9 @@ use Rattle.cc_base.specs.declared.literal.Base.{Base}
 use Rattle.cc_capture.specs.declared.var.Var.{Var}
 use Rattle.cc_capture.specs.Sets.{Set}
 
--- Shapes of types, as CC<:□ has them, with base shapes and with exits of boundaries besides. A type in a shape is taken
--- apart into its shape and its set. What a function or a type function gives stands under a binder, which is its index 0.
+-- Shapes of types, as CC<:□ has them, with base shapes and with exits of boundaries besides. A type in a shape is
+-- taken apart into its shape and its set. What a function or a type function gives stands under a binder, which is
+-- its index 0.
 pub data Shape : Type 0 where
   BaseShape : (base : Base) → Shape
   AnyShape : Shape

@@ -1,6 +1,6 @@
 -- Opening, closing, substitution, renaming and filling. At a place under d binders the index d is the one that is
--- replaced. Every other index stays, and nothing is shifted, since what is put in has no index of its own where the rules
--- use these.
+-- replaced. Every other index stays, and nothing is shifted, since what is put in has no index of its own where the
+-- rules use these.
 use Rattle.std.specs.Prelude.{ℕ, zero, nat_eq, if◌then◌else◌}
 use Rattle.cc_capture.specs.declared.var.Var.{Var}
 use Rattle.cc_capture.specs.declared.var.Var.TheVariants.{Bound, Free}

@@ -7,7 +7,8 @@ use Rattle.cc_capture.specs.Sets.{Set, empty, insert, flat_image}
 use Rattle.cc_core.specs.Shapes.{Shape, BaseShape, AnyShape, TypeVariable, FunctionShape, TypeFunctionShape, BoxShape, ExitShape, CapturingType, capturing}
 use Rattle.cc_core.specs.Terms.{Note, Absent, Written, Own, Term, VariableTerm, LiteralTerm, FunctionTerm, TypeFunctionTerm, BoxTerm, Application, TypeApplication, Unboxing, Let, Primitive, Conditional, Repetition, Operation, Boundary, Leave}
 
--- What becomes of an element of a set, of a type variable, and of a variable of a term that stand under so many binders.
+-- What becomes of an element of a set, of a type variable, and of a variable of a term that stand under so many
+-- binders.
 pub record Action : Type 0 where
   pub element : ℕ → Elem → Set
   pub shape : ℕ → Var → Shape

@@ -141,37 +141,46 @@ abbrev pub is_well_formed_context : Context → Bool
 is_well_formed_context [] = true
 is_well_formed_context (newest ∷ older) = is_well_formed_entry (kinds_of older) newest && is_well_formed_context older
 
--- the same as facts, in a context and under no binder
+-- as facts, in a context and under no binder: the set is well formed
 abbrev pub IsWellFormedSet : Context → Set → Type 0
 IsWellFormedSet context set = IsTrue (is_well_formed_set (kinds_of context) [] set)
 
+-- the same of a shape
 abbrev pub IsWellFormedShape : Context → Shape → Type 0
 IsWellFormedShape context shape = IsTrue (is_well_formed_shape (kinds_of context) [] shape)
 
+-- the same of a type
 abbrev pub IsWellFormedType : Context → CapturingType → Type 0
 IsWellFormedType context type = IsTrue (is_well_formed_type (kinds_of context) [] type)
 
+-- the same of a term
 abbrev pub IsWellFormedTerm : Context → Term → Type 0
 IsWellFormedTerm context term = IsTrue (is_well_formed_term (kinds_of context) [] term)
 
+-- the same of what is written for a type
 abbrev pub IsWellFormedNote : Context → Note → Type 0
 IsWellFormedNote context note = IsTrue (is_well_formed_note (kinds_of context) [] note)
 
+-- the context is well formed: each entry is, in those before it
 abbrev pub IsWellFormedContext : Context → Type 0
 IsWellFormedContext context = IsTrue (is_well_formed_context context)
 
--- the same of what stands under one binder, of a variable of the kind
+-- the same of a set under one binder, of a variable of the kind
 abbrev pub IsWellFormedSetUnder : Context → Kind → Set → Type 0
 IsWellFormedSetUnder context kind set = IsTrue (is_well_formed_set (kinds_of context) (kind ∷ []) set)
 
+-- the same of a shape
 abbrev pub IsWellFormedShapeUnder : Context → Kind → Shape → Type 0
 IsWellFormedShapeUnder context kind shape = IsTrue (is_well_formed_shape (kinds_of context) (kind ∷ []) shape)
 
+-- the same of a type
 abbrev pub IsWellFormedTypeUnder : Context → Kind → CapturingType → Type 0
 IsWellFormedTypeUnder context kind type = IsTrue (is_well_formed_type (kinds_of context) (kind ∷ []) type)
 
+-- the same of what is written for a type
 abbrev pub IsWellFormedNoteUnder : Context → Kind → Note → Type 0
 IsWellFormedNoteUnder context kind note = IsTrue (is_well_formed_note (kinds_of context) (kind ∷ []) note)
 
+-- the same of a term
 abbrev pub IsWellFormedTermUnder : Context → Kind → Term → Type 0
 IsWellFormedTermUnder context kind term = IsTrue (is_well_formed_term (kinds_of context) (kind ∷ []) term)

@@ -1,5 +1,6 @@
-//! One way through shapes and terms: opening, closing, substitution, renaming, filling, reading and writing are its instances.
-//! Each call fails only for want of memory, as which an index or binders above one place beyond 2^32 - 1 count.
+//! One way through shapes and terms: opening, closing, substitution, renaming, filling, reading and writing are its
+//! instances. Each call fails only for want of memory, as which an index or binders above one place beyond 2^32 - 1
+//! count.
 
 ghost use Rattle.std.specs.Prelude.{◌≡◌, ◌+◌, IfOk, OnOk, option_map};
 ghost use Rattle.cc_capture.specs.declared.var.Elem.TheVariants.{Hole};
@@ -31,11 +32,11 @@ pub enum Action<'a> {
     Close(u32),
     /// A hole becomes the set that the list has for it. A hole past the list stays.
     Fill(&'a [CapSet]),
-    /// An index that counts more than the binders above becomes the position of the entry that many from the newest, where
-    /// there are so many entries.
+    /// An index that counts more than the binders above becomes the position of the entry that many from the newest,
+    /// where there are so many entries.
     Read(u32),
-    /// A position from the first number on becomes the index of its binder, where there are as many entries as the second
-    /// says.
+    /// A position from the first number on becomes the index of its binder, where there are as many entries as the
+    /// second says.
     Write(u32, u32),
 }
 
@@ -75,8 +76,8 @@ fn close_variable(at: u32, depth: u32, variable: Var) -> Var
     }
 }
 
-/// The variable of a part that stands under so many binders, where the context has so many entries: an index that counts a
-/// binder outside of the part becomes the position of its entry.
+/// The variable of a part that stands under so many binders, where the context has so many entries: an index that
+/// counts a binder outside of the part becomes the position of its entry.
 pub fn read_variable(entries: u32, depth: u32, variable: Var) -> Var
     ensures { result ≡ read_variable entries depth variable }
 {
@@ -92,7 +93,8 @@ pub fn read_variable(entries: u32, depth: u32, variable: Var) -> Var
     }
 }
 
-/// The other way: a position from the root on becomes the index of its binder. Fails where that index is beyond 2^32 - 1.
+/// The other way: a position from the root on becomes the index of its binder. Fails where that index is beyond 2^32
+/// - 1.
 pub fn write_variable(root: u32, entries: u32, depth: u32, variable: Var) -> Result<Var, AllocError>
     ensures { IfOk result (λ v. v ≡ written_variable root entries depth variable) }
 {
@@ -311,8 +313,8 @@ fn at_places_of(alloc: Global, node: &Node, form: Form) -> Result<Rc<Node>, Allo
     Ok(Rc::new(alloc, node)?)
 }
 
-/// The term in which the action was taken everywhere, also in the types that are written in it, where it stands under so
-/// many binders. The places stay.
+/// The term in which the action was taken everywhere, also in the types that are written in it, where it stands under
+/// so many binders. The places stay.
 #[cycle(act_terms)]
 pub fn act_node(
     alloc: Global,

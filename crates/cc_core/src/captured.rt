@@ -11,8 +11,9 @@ use crate::terms::{Form, Node};
 use cc_capture::{CapSet, Elem, Var};
 use std::alloc::{AllocError, Global};
 
-/// The variables that running the term may use. A box captures nothing, and opening one captures the set that is written
-/// there, an omitted one nothing. The right side of a `Let` counts unless it is a value that the body does not capture.
+/// The variables that running the term may use. A box captures nothing, and opening one captures the set that is
+/// written there, an omitted one nothing. The right side of a `Let` counts unless it is a value that the body does
+/// not capture.
 ///
 /// The set of each part is found once. Fails only for want of memory.
 #[cycle(captured)]

@@ -15,8 +15,8 @@ pub enum Bind {
     TVar(Rc<Shape>),
 }
 
-// A tree of entries: the newest, and two halves with equally many of the others, the newer ones in the first. So it holds
-// 1, 3, 7, 15 entries, and so on.
+// A tree of entries: the newest, and two halves with equally many of the others, the newer ones in the first. So it
+// holds 1, 3, 7, 15 entries, and so on.
 #[derive(Drop)]
 enum Tree {
     Leaf(Bind),
@@ -39,11 +39,12 @@ enum Link {
     More(Rc<Part>),
 }
 
-/// A context. Contracts see the list of its entries, the newest first. A position is the number of entries before it, so
-/// it stays the same when entries are added.
+/// A context. Contracts see the list of its entries, the newest first. A position is the number of entries before it,
+/// so it stays the same when entries are added.
 ///
-/// The entries stand in trees whose sizes grow, where the first two alone may be of one size. So there are few trees and they
-/// are low: adding an entry takes a fixed time, and finding one a time that grows with the number of digits of the length.
+/// The entries stand in trees whose sizes grow, where the first two alone may be of one size. So there are few trees
+/// and they are low: adding an entry takes a fixed time, and finding one a time that grows with the number of digits
+/// of the length.
 #[derive(Drop)]
 pub struct Ctx {
     head: Link,

@@ -1,6 +1,6 @@
-//! Reading the parts of a term that was not opened on the way to them, in the context that its binders made; and writing what was
-//! found there back into the term. Each call fails only for want of memory, as which an index or binders above one place beyond
-//! 2^32 - 1 count.
+//! Reading the parts of a term that was not opened on the way to them, in the context that its binders made; and
+//! writing what was found there back into the term. Each call fails only for want of memory, as which an index or
+//! binders above one place beyond 2^32 - 1 count.
 
 ghost use Rattle.std.specs.Prelude.{◌≡◌, IfOk};
 ghost use Rattle.cc_core.specs.Reading as plain;
@@ -14,8 +14,8 @@ use cc_capture::CapSet;
 use std::alloc::{AllocError, Global};
 use std::rc::Rc;
 
-/// The set as it stands in a context of so many entries: an index that counts a binder outside becomes the position of its
-/// entry. One for which there is no entry stays.
+/// The set as it stands in a context of so many entries: an index that counts a binder outside becomes the position
+/// of its entry. One for which there is no entry stays.
 pub fn read_set(alloc: Global, set: &CapSet, entries: u32) -> Result<CapSet, AllocError>
     ensures { IfOk result (λ s. s ≡ plain.read_set entries set.now) }
 {
@@ -44,8 +44,8 @@ pub fn read_term(alloc: Global, node: &Rc<Node>, entries: u32) -> Result<Rc<Node
     acting::act_node(alloc, &Action::Read(entries), 0, node)
 }
 
-/// The set as it stands in a term whose binders put the entries from the root on, of so many: a position from the root on
-/// becomes the index of its binder. A position that has no entry stays.
+/// The set as it stands in a term whose binders put the entries from the root on, of so many: a position from the
+/// root on becomes the index of its binder. A position that has no entry stays.
 pub fn write_set(alloc: Global, set: &CapSet, root: u32, entries: u32) -> Result<CapSet, AllocError>
     ensures { IfOk result (λ s. s ≡ plain.written_set root entries set.now) }
 {
@@ -71,7 +71,8 @@ pub fn write_type(alloc: Global, ty: &Ty, root: u32, entries: u32) -> Result<Ty,
     acting::act_type(alloc, &Action::Write(root, entries), 0, ty)
 }
 
-/// The term as it stands in a term whose binders put the entries from the root on, as `write_set` says of sets. The places stay.
+/// The term as it stands in a term whose binders put the entries from the root on, as `write_set` says of sets. The
+/// places stay.
 pub fn write_term(
     alloc: Global,
     node: &Rc<Node>,

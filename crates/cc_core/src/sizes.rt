@@ -40,8 +40,8 @@ pub fn size(ty: &Ty) -> u64
     shape_size(&ty.shape).saturating_add(set_size(&ty.set))
 }
 
-/// The size that the type has with the shape put for the outermost index, or the greatest number where that is less. Nothing
-/// is built for it.
+/// The size that the type has with the shape put for the outermost index, or the greatest number where that is less.
+/// Nothing is built for it.
 pub fn subst_size(ty: &Ty, by: &Shape) -> u64
     ensures { result ≡ min (plain.size_with (shape_of by.now) (type_of ty.now)) (2 ^ 64 - 1) }
 {

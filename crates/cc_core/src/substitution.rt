@@ -1,5 +1,5 @@
-//! Opening, closing, substitution, renaming and filling. What is put in is shared. Each call fails only for want of memory, as
-//! which more than 2^32 - 1 binders above one place count.
+//! Opening, closing, substitution, renaming and filling. What is put in is shared. Each call fails only for want of
+//! memory, as which more than 2^32 - 1 binders above one place count.
 
 ghost use Rattle.std.specs.Prelude.{◌≡◌, IfOk};
 ghost use Rattle.cc_core.specs.Substitution.{filling_in, opened_type, opened_term, closed_type, replaced_type, replaced_type_by_shape, replaced_term_by_shape, renamed_term, filled_set, filled, filled_type, filled_term};
@@ -55,8 +55,8 @@ pub fn instantiate_term(
     acting::act_node(alloc, &Action::Put(Var::Free(position)), 0, node)
 }
 
-/// The term that stood under the binder of a type variable, with the shape in the place of that variable, also in the types
-/// that are written in the term. The places stay.
+/// The term that stood under the binder of a type variable, with the shape in the place of that variable, also in the
+/// types that are written in the term. The places stay.
 pub fn subst_term(alloc: Global, node: &Rc<Node>, by: &Rc<Shape>) -> Result<Rc<Node>, AllocError>
     ensures term { IfOk result (λ n. term_of n.value ≡ replaced_term_by_shape (shape_of by.now.value) (term_of node.now.value)) }
     ensures places { IfOk result (λ n. places_of n.value ≡ places_of node.now.value) }
@@ -64,8 +64,8 @@ pub fn subst_term(alloc: Global, node: &Rc<Node>, by: &Rc<Shape>) -> Result<Rc<N
     acting::act_node(alloc, &Action::PutShape(by), 0, node)
 }
 
-/// The term with each free position replaced by the one that the list has for it, also in the types that are written in the
-/// term. A position past the list stays, and so do the places.
+/// The term with each free position replaced by the one that the list has for it, also in the types that are written
+/// in the term. A position past the list stays, and so do the places.
 pub fn rename(alloc: Global, node: &Rc<Node>, to: &[u32]) -> Result<Rc<Node>, AllocError>
     ensures term { IfOk result (λ n. term_of n.value ≡ renamed_term (renamed_by to.now) (term_of node.now.value)) }
     ensures places { IfOk result (λ n. places_of n.value ≡ places_of node.now.value) }
@@ -98,15 +98,16 @@ pub fn fill_type(alloc: Global, ty: &Ty, filling: &[CapSet]) -> Result<Ty, Alloc
     acting::act_type(alloc, &Action::Fill(filling), 0, ty)
 }
 
-/// What is written for a type, with each hole filled by the set that the list has for its number. A hole past the list stays.
+/// What is written for a type, with each hole filled by the set that the list has for its number. A hole past the
+/// list stays.
 pub fn fill_note(alloc: Global, note: &Note, filling: &[CapSet]) -> Result<Note, AllocError>
     ensures { IfOk result (λ n. note_of n ≡ act_note (filling_in (filled_by filling.now)) 0 (note_of note.now)) }
 {
     acting::act_note(alloc, &Action::Fill(filling), 0, note)
 }
 
-/// The term with each hole filled by the set that the list has for its number, also in the types that are written in the term.
-/// A hole past the list stays, and so do the places.
+/// The term with each hole filled by the set that the list has for its number, also in the types that are written in
+/// the term. A hole past the list stays, and so do the places.
 pub fn fill_term(alloc: Global, node: &Rc<Node>, filling: &[CapSet]) -> Result<Rc<Node>, AllocError>
     ensures term { IfOk result (λ n. term_of n.value ≡ filled_term (filled_by filling.now) (term_of node.now.value)) }
     ensures places { IfOk result (λ n. places_of n.value ≡ places_of node.now.value) }

@@ -16,8 +16,8 @@ pub enum Note {
     Own(Rc<Shape>),
 }
 
-/// What a term does. Heads and operands are variables. The last part of `Fun`, `TFun`, `Let` and `Boundary` stands under
-/// a binder, which is its index 0.
+/// What a term does. Heads and operands are variables. The last part of `Fun`, `TFun`, `Let` and `Boundary` stands
+/// under a binder, which is its index 0.
 #[cycle(terms)]
 #[derive(Drop)]
 pub enum Form {

@@ -1,4 +1,4 @@
-use cc_base::place::Place;
+use crate::making::{self, place, type_of};
 use cc_core::captured::cv;
 use cc_core::same::{same_shape, same_type};
 use cc_core::sizes::{size, subst_size};
@@ -17,12 +17,6 @@ const OUTER: Elem = Elem::Var(Var::Bound(1));
 const FREE_ONE: Elem = Elem::Var(Var::Free(1));
 
 const FREE_THREE: Elem = Elem::Var(Var::Free(3));
-
-fn type_of(alloc: Global, shape: Shape, elems: &[Elem]) -> Result<Ty, AllocError> {
-    let shape = Rc::new(alloc, shape)?;
-    let set = CapSet::from_elems(alloc, elems)?;
-    Ok(Ty { shape, set })
-}
 
 // Functions of the two types, with a set.
 fn function_type(alloc: Global, takes: Ty, gives: Ty, elems: &[Elem]) -> Result<Ty, AllocError> {
@@ -46,14 +40,7 @@ fn shape_function(alloc: Global, takes: Shape, gives: Shape) -> Result<Ty, Alloc
 }
 
 fn node_of(alloc: Global, form: Form) -> Result<Rc<Node>, AllocError> {
-    let at = Place { line: 1, col: 1 };
-    let node = Node {
-        form,
-        at,
-        first: at,
-        second: at,
-    };
-    Ok(Rc::new(alloc, node)?)
+    making::node_of(alloc, place(1), form)
 }
 
 fn holds_exactly(set: &CapSet, alloc: Global, elems: &[Elem]) -> Result<bool, AllocError> {

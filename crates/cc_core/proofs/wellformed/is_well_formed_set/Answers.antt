@@ -3,14 +3,14 @@ use Rattle.std.proofs.lemmas.Iterator.Consumers.{YieldsList-from_first, YieldsLi
 use Rattle.cc_core.specs.WellFormed.{kinds_of, is_well_formed_element}
 use Rattle.cc_core.specs.Binders.{passed_kinds}
 use Rattle.cc_core.specs.Views.{context_of}
-use Rattle.cc_core.proofs.CallLemmas.{all-fails-at, all-push, all-gone}
+use Rattle.cc_core.proofs.CallLemmas.{all-fails, all-push, all-gone}
 use Rattle.cc_core.proofs.wellformed.is_well_formed_set.Goals as goal
 
 pub returns-then-not-is_well_formed_elem : goal.returns-then-not-is_well_formed_elem
 returns-then-not-is_well_formed_elem c =
     let test = is_well_formed_element (kinds_of (context_of c.args.ctx.now)) (passed_kinds c.args.passed.now) in
     let at = YieldsList-turn (YieldsList-from_first (λ x. x) (λ s. s) c.args.set.now.list (c.into_iter-elem-iterator.ensures.into_iter_gives ∙ c.iter-elem-items.ensures)) c.loop-elem.yielded _ c.loop-elem.yielded_by _ _ c.in-Some.elem c.in-Some.is c.next.ensures.steps in
-    all-fails-at test c.args.set.now.list _ c.in-Some.elem at (sym c.is_well_formed_elem.ensures ∙ c.if-not-is_well_formed_elem.true)
+    all-fails test c.args.set.now.list _ c.in-Some.elem at (sym c.is_well_formed_elem.ensures ∙ c.if-not-is_well_formed_elem.true)
 
 pub loop-elem-preserved : goal.loop-elem-preserved
 loop-elem-preserved c =
