@@ -1,6 +1,7 @@
--- Checked modules, and the entry of a program: modules that import from each other, and the definition that is run. Names
--- are lists of code points. Modules, imports and definitions are listed in order, the first one first. Contexts list the
--- newest first, so the functions here take the lists turned round: what stands behind an item is what came before it.
+-- Checked modules, and the entry of a program: modules that import from each other, and the definition that is run.
+-- Names are lists of code points. Modules, imports and definitions are listed in order, the first one first. Contexts
+-- list the newest first, so the functions here take the lists turned round: what stands behind an item is what came
+-- before it.
 use Rattle.std.specs.Prelude.{◌≡◌, ℕ, Bool, true, ◌&&◌, List, [], ◌∷◌, ◌++◌, map, reverse, length, Option, Some, None, is_some, IsTrue, encode_utf8_all, if◌then◌else◌}
 use Rattle.std.specs.Cmp.Lexicographic.{slice_cmp}
 use Rattle.std.specs.List.{AllByRecursion, IsDistinct, list_all, list_any}
@@ -149,8 +150,8 @@ is_ready listed current = list_all (λ names. is_listed listed names.module_name
 abbrev pub is_name_before : List ℕ → List ℕ → Bool
 is_name_before left right = is_lt (on encode_utf8_all (slice_cmp nat_cmp) left right)
 
--- The modules, turned round, stand in the order in which they are linked, before others that wait: the next one is always
--- the first by name of those that are not yet listed and import from listed modules alone.
+-- The modules, turned round, stand in the order in which they are linked, before others that wait: the next one is
+-- always the first by name of those that are not yet listed and import from listed modules alone.
 abbrev pub are_in_order : List Module → List Module → Bool
 are_in_order waiting [] = true
 are_in_order waiting (newest ∷ older) =

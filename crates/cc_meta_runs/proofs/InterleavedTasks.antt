@@ -61,10 +61,10 @@ tasks_stay_sound w last ts sound takes = sound_after takes sound
 
 -- What is chosen is a task's move, and not that of a final one.
 module _ (w : World) where
-  abbrev IsTurn : Chosen → Type 0
+  abbrev pub IsTurn : Chosen → Type 0
   IsTurn c = (move_of w c.task ≡ Some c.comes) × (c.comes ≡ IsFinal → ⊥)
 
-  is_turn : (passed others : List ℕ) (c : Chosen) → chosen_from w passed others ≡ Some c → IsTurn c
+  pub is_turn : (passed others : List ℕ) (c : Chosen) → chosen_from w passed others ≡ Some c → IsTurn c
   is_turn passed [] c e = cc
   is_turn passed (i ∷ others) c e = by_move (is_turn (passed ++ i ∷ []) others c) (move_of w i) refl e
     where

@@ -16,6 +16,7 @@ pub mod ReachLemmas
 pub mod RunSteps
 pub mod RunTheorems
 pub mod SafeRuns
+pub mod Schedules
 pub mod ScopeRows
 pub mod ShownAnswers
 pub mod StepHelpers

@@ -69,7 +69,8 @@ application = record {
       ∷ [];
   definitions =
       defined (codes "from") (number 3) whole_numbers empty
-      ∷ defined (codes "main") (prints_what_is_left 2 4 3) (functions nothing (variable_set out) nothing) (variable_set out)
+      ∷ defined (codes "main") (prints_what_is_left 2 4 3)
+      (functions nothing (variable_set out) nothing) (variable_set out)
       ∷ [];
 }
 
@@ -87,7 +88,8 @@ main_entry = record {
 abbrev pub MainIsAnEntry : Type 0
 MainIsAnEntry = IsEntry main_entry
 
--- In the linked store line and down stand before from and main, whatever the order of the imports, and down names itself.
+-- In the linked store line and down stand before from and main, whatever the order of the imports, and down names
+-- itself.
 abbrev pub MainIsLinked : Type 0
 MainIsLinked =
     (entry_store main_entry

@@ -25,7 +25,8 @@ ticking = record {
   definitions =
       defined (codes "one") (entry_with tick) (functions nothing empty whole_numbers) (variable_set hits)
       ∷ defined (codes "two") (entry_with (val tick tick)) (functions nothing empty whole_numbers) (variable_set hits)
-      ∷ defined (codes "nine") (entry_with (val (number 9) (print (Bound 0)))) (functions nothing empty nothing) (variable_set out)
+      ∷ defined (codes "nine") (entry_with (val (number 9) (print (Bound 0))))
+      (functions nothing empty nothing) (variable_set out)
       ∷ [];
 }
 
@@ -72,8 +73,8 @@ TasksApartRun =
     ((1, printed 9) ∷ (0, ticked 1) ∷ [])
     ((done_with_number 1, 2) ∷ (done_with_unit, 3) ∷ [])
 
--- Fuel counts the turns of all tasks together: with one turn neither is done; with the five that they take both are, since
--- the turn of a task that has come to its end is passed over at no cost; and with four the second is not.
+-- Fuel counts the turns of all tasks together: with one turn neither is done; with the five that they take both are,
+-- since the turn of a task that has come to its end is passed over at no cost; and with four the second is not.
 abbrev pub FuelIsShared : Type 0
 FuelIsShared =
     RunTo 1 (0 ∷ 1 ∷ []) (one ∷ nine ∷ []) two_devices [] ((out_of_fuel, 1) ∷ (out_of_fuel, 0) ∷ [])
@@ -112,8 +113,8 @@ BoundariesAreTheirOwn =
     ((0, Entered 0) ∷ (1, Entered 0) ∷ (0, Exited 0) ∷ (1, Exited 0) ∷ (0, printed 4) ∷ (1, printed 4) ∷ [])
     ((done_with_unit, 7) ∷ (done_with_unit, 7) ∷ [])
 
--- Both are entries over these devices, and no device is of both authorities: so each runs by every schedule, and with any
--- fuel, as it does alone.
+-- Both are entries over these devices, and no device is of both authorities: so each runs by every schedule, and with
+-- any fuel, as it does alone.
 abbrev pub OneAndNineAreEntries : Type 0
 OneAndNineAreEntries = AreEntries (one ∷ nine ∷ []) two_devices
 

@@ -1,5 +1,5 @@
 -- What holds of tasks that run interleaved.
-use Rattle.std.specs.Prelude.{◌≡◌, ◌≢◌, ◌⊎◌, ℕ, List, [], ◌∷◌, length, Option, Some, None, slice_get, nat_eq, if◌then◌else◌}
+use Rattle.std.specs.Prelude.{◌≡◌, ◌≢◌, ◌⊎◌, ℕ, zero, suc, List, [], ◌∷◌, ◌++◌, length, Option, Some, None, slice_get, nat_eq, if◌then◌else◌}
 use Rattle.cc_base.specs.declared.literal.Base.{Base}
 use Rattle.cc_base.specs.declared.literal.Op.{Op}
 use Rattle.cc_base.specs.Literals.{Literal}
@@ -47,6 +47,28 @@ SchedulesGoOn =
     → (length (interleave fuel schedule world).turns ≡ fuel)
     ⊎ ((task : ℕ) → IsListed task schedule → IsAtRest (move_of (interleave fuel schedule world).last task))
 
+-- The tasks of a list come up one after the other: each is at rest and is passed over, or takes a turn.
+pub data ComeUp : World → List ℕ → List Turn → World → Type 0 where
+  all_came : {world : World} → ComeUp world [] [] world
+  passed_over : {world last : World} {task : ℕ} {tasks : List ℕ} {turns : List Turn}
+      → IsAtRest (move_of world task) → ComeUp world tasks turns last → ComeUp world (task ∷ tasks) turns last
+  takes_turn : {world last : World} {task : ℕ} {event : Option Event} {next : State} {tasks : List ℕ} {turns : List Turn}
+      → move_of world task ≡ Some (Moves event next) → ComeUp (after_turn world task next) tasks turns last
+      → ComeUp world (task ∷ tasks) (record { task = task; event = event } ∷ turns) last
+
+-- a schedule so many times over
+abbrev pub repeated : ℕ → List ℕ → List ℕ
+repeated zero schedule = []
+repeated (suc times) schedule = schedule ++ repeated times schedule
+
+-- In an interleaved run the tasks come up as the schedule has them when it is repeated.
+abbrev pub SchedulesAreRepeated : Type 0
+SchedulesAreRepeated =
+    (fuel : ℕ) (schedule : List ℕ) (world : World)
+    → (tasks : List ℕ) × (others : List ℕ) × (times : ℕ)
+    × ComeUp world tasks (interleave fuel schedule world).turns (interleave fuel schedule world).last
+    × (tasks ++ others ≡ repeated times schedule)
+
 -- Tasks stay sound.
 abbrev pub TasksStaySound : Type 0
 TasksStaySound = (world last : World) (turns : List Turn) → AreSound world → Takes world turns last → AreSound last
@@ -61,8 +83,8 @@ abbrev pub AgreeWhereReached : Configuration → Devices → Devices → Type 0
 AgreeWhereReached configuration left right =
     (number : ℕ) → ReachesDevice configuration number → slice_get left number ≡ slice_get right number
 
--- A step comes to the same on both sides: where it goes on, with the same event to the same configuration, and each device
--- that was reached is the same on both sides again.
+-- A step comes to the same on both sides: where it goes on, with the same event to the same configuration, and each
+-- device that was reached is the same on both sides again.
 abbrev pub ComesToTheSame : Configuration → Move → Move → Type 0
 ComesToTheSame before IsStuck IsStuck = Unit {0}
 ComesToTheSame before IsFinal IsFinal = Unit {0}
@@ -84,8 +106,8 @@ StepsChangeWhatTheyReach =
     → (number : ℕ) → (ReachesDevice state.configuration number → ⊥)
     → slice_get next.devices number ≡ slice_get state.devices number
 
--- What a task keeps while turns are taken, its own and those of others: it is still there; the devices that it operates were
--- reached; it reaches no new one; and its own events fit its own scopes.
+-- What a task keeps while turns are taken, its own and those of others: it is still there; the devices that it
+-- operates were reached; it reaches no new one; and its own events fit its own scopes.
 pub record KeepsItsPromises (task : ℕ) (before : Configuration) (turns : List Turn) (last : World) : Type 0 where
   pub after : Configuration
   pub there : slice_get last.tasks task ≡ Some after
@@ -115,8 +137,8 @@ abbrev pub events_on : ℕ → List Event → List Event
 events_on number [] = []
 events_on number (event ∷ events) = on_device number event (events_on number events)
 
--- A history of the device of a number: what it was before, its events in order, and what it is after them. Each of them is
--- answered by the device as the events before it left it.
+-- A history of the device of a number: what it was before, its events in order, and what it is after them. Each of
+-- them is answered by the device as the events before it left it.
 pub data History (number : ℕ) : DeviceState → List Event → DeviceState → Type 0 where
   quiet : {device : DeviceState} → History number device [] device
   then_operated : {device last : DeviceState} {operation : Op} {events : List Event}
@@ -138,15 +160,18 @@ IsApart world task configuration =
     (other : ℕ) (configuration' : Configuration) → other ≢ task → slice_get world.tasks other ≡ Some configuration'
     → (number : ℕ) → ReachesDevice configuration number → ReachesDevice configuration' number → ⊥
 
--- What a task is after turns of its own and of others, it is after its own steps alone from the devices at the start: with
--- its own number of steps for fuel, the run alone has its events, its end, its number of steps and its last configuration,
--- and leaves each device that was reached as it is.
-pub record RunsAsAlone (task : ℕ) (before : Configuration) (devices : Devices) (turns : List Turn) (last : World) : Type 0 where
+-- What a task is after turns of its own and of others, it is after its own steps alone from the devices at the start:
+-- with its own number of steps for fuel, the run alone has its events, its end, its number of steps and its last
+-- configuration, and leaves each device that was reached as it is.
+pub record RunsAsAlone (task : ℕ) (before : Configuration) (devices : Devices) (turns : List Turn) (last : World)
+    : Type 0 where
   pub events : (run (own_steps task turns) (state_of devices before)).events ≡ own_events task (trace_of turns)
   pub ending : Some (run (own_steps task turns) (state_of devices before)).ending ≡ ending_at last task
   pub steps : (run (own_steps task turns) (state_of devices before)).steps ≡ own_steps task turns
-  pub configuration : Some (run (own_steps task turns) (state_of devices before)).last.configuration ≡ slice_get last.tasks task
-  pub reached : AgreeWhereReached before last.devices (run (own_steps task turns) (state_of devices before)).last.devices
+  pub configuration : Some (run (own_steps task turns) (state_of devices before)).last.configuration
+      ≡ slice_get last.tasks task
+  pub reached : AgreeWhereReached before last.devices
+      (run (own_steps task turns) (state_of devices before)).last.devices
 
 -- A task whose devices no other task reaches runs as it does alone.
 abbrev pub TasksApartRunAsAlone : Type 0

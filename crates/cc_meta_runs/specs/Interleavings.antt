@@ -8,7 +8,8 @@ use Rattle.cc_meta_runs.specs.Machine.{Configuration}
 use Rattle.cc_meta_runs.specs.Runs.{State, Move, IsFinal, Moves, move, Ending, ending_of}
 use Rattle.cc_meta_runs.specs.Links.{program_start}
 
--- The tasks by their numbers, each with its own store, frames, term and labels, and the devices, which all of them share.
+-- The tasks by their numbers, each with its own store, frames, term and labels, and the devices, which all of them
+-- share.
 pub record World : Type 0 where
   pub tasks : List Configuration
   pub devices : Devices
@@ -22,7 +23,8 @@ state_of devices configuration = record { configuration = configuration; devices
 
 -- what comes of the task of the number, if there is one
 abbrev pub move_of : World → ℕ → Option Move
-move_of world task = option_map (λ configuration. move (state_of world.devices configuration)) (slice_get world.tasks task)
+move_of world task =
+    option_map (λ configuration. move (state_of world.devices configuration)) (slice_get world.tasks task)
 
 -- the world after a step of the task to the state
 abbrev pub after_turn : World → ℕ → State → World
@@ -40,8 +42,8 @@ offered task later others None = others
 offered task later others (Some IsFinal) = others
 offered task later others (Some comes) = Some (record { task = task; comes = comes; later = later })
 
--- The next task of a schedule that is not final. A schedule is repeated for ever: what stands before the task was passed
--- over, and goes to the end, and so does the task.
+-- The next task of a schedule that is not final. A schedule is repeated for ever: what stands before the task was
+-- passed over, and goes to the end, and so does the task.
 abbrev pub chosen_from : World → List ℕ → List ℕ → Option Chosen
 chosen_from world passed [] = None
 chosen_from world passed (task ∷ others) =
@@ -76,8 +78,8 @@ abbrev pub go_on : (List ℕ → World → Interleaving) → World → Option Ch
 go_on rest world None = resting world
 go_on rest world (Some next) = take_turn rest world next.task next.later next.comes
 
--- The interleaved run of the tasks by the schedule: each turn is one step of a task, final tasks are passed over at no cost,
--- and it ends where all tasks of the schedule are final, or one is stuck, or so many turns were taken.
+-- The interleaved run of the tasks by the schedule: each turn is one step of a task, final tasks are passed over at no
+-- cost, and it ends where all tasks of the schedule are final, or one is stuck, or so many turns were taken.
 abbrev pub interleave : ℕ → List ℕ → World → Interleaving
 interleave zero schedule world = resting world
 interleave (suc fuel) schedule world = go_on (interleave fuel) world (chosen world schedule)
@@ -120,7 +122,8 @@ ends_from first turns devices [] = []
 ends_from first turns devices (task ∷ tasks) =
     (ending_in devices task, own_steps first turns) ∷ ends_from (suc first) turns devices tasks
 
--- What is told of an interleaved run: its events, each with its task, and of each task its end and how many steps it took.
+-- What is told of an interleaved run: its events, each with its task, and of each task its end and how many steps it
+-- took.
 pub record Report : Type 0 where
   pub trace : List (ℕ × Event)
   pub ends : List (Ending × ℕ)

@@ -50,8 +50,9 @@ abbrev pub DeclaredDevicesHaveTheirShapes : Type 0
 DeclaredDevicesHaveTheirShapes =
     (declared : List Kind) → HaveShapes (map declared_state declared) (map declared_base declared)
 
--- What holds of a moment of a run that has leave to use some devices. It is not stuck. Each device that is operated then
--- or later is reached by what the moment captures, and is one of those. An exit finds its scope among those that stand.
+-- What holds of a moment of a run that has leave to use some devices. It is not stuck. Each device that is operated
+-- then or later is reached by what the moment captures, and is one of those. An exit finds its scope among those that
+-- stand.
 pub record IsSafeMoment (permitted : List ℕ) (now : State) : Type 0 where
   pub not_stuck : move now ≢ IsStuck
   pub reached : (later : State) (events : List Event) → Leads now events later
@@ -64,8 +65,8 @@ pub record IsSafeMoment (permitted : List ℕ) (now : State) : Type 0 where
   pub exits : (label : ℕ) (next : State) → move now ≡ Moves (Some (Exited label)) next
       → IsListed label (scopes_of now.configuration.stack)
 
--- What holds of the run from a state, with so much fuel, that has leave to use some devices. It does not stop before its
--- end. Each of its moments is safe. It operates no other device, and its events are well scoped.
+-- What holds of the run from a state, with so much fuel, that has leave to use some devices. It does not stop before
+-- its end. Each of its moments is safe. It operates no other device, and its events are well scoped.
 pub record RunsSafely (permitted : List ℕ) (start : State) (fuel : ℕ) : Type 0 where
   pub not_stopped : (run fuel start).ending ≢ IsStopped
   pub moments : (now : State) (events : List Event) → Leads start events now → IsSafeMoment permitted now

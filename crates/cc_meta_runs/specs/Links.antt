@@ -102,7 +102,8 @@ program_context entry = TermEntry (BaseShape bases.Unit) empty ∷ entry_context
 -- The start of an entry's program: no frame, no label, and the definition that is run, applied to the cell with unit.
 abbrev pub program_start : Entry → Configuration
 program_start entry =
-    configured (program_store entry) [] 0 (Application (Free (entry_position entry)) (Free (length (entry_store entry))))
+    configured (program_store entry) [] 0
+    (Application (Free (entry_position entry)) (Free (length (entry_store entry))))
 
 -- the state that a device of the kind begins with
 abbrev pub declared_state : Kind → DeviceState

@@ -30,9 +30,9 @@ EndsAreOfTheirTasks =
     → slice_get (ends_from 0 turns devices tasks) task
     ≡ option_map (λ configuration. (ending_in devices configuration, own_steps task turns)) (slice_get tasks task)
 
--- What holds of a task at a moment of an interleaved run, where it has leave to use some devices. It is not stuck. Each
--- device that it operates then or later is reached by what it captures at that moment, and is one of those. An exit finds
--- its scope among those of the task that stand.
+-- What holds of a task at a moment of an interleaved run, where it has leave to use some devices. It is not stuck.
+-- Each device that it operates then or later is reached by what it captures at that moment, and is one of those. An
+-- exit finds its scope among those of the task that stand.
 pub record IsSafeTask (permitted : List ℕ) (task : ℕ) (now : World) (configuration : Configuration) : Type 0 where
   pub not_stuck : move_of now task ≢ Some IsStuck
   pub reached : (later : World) (turns : List Turn) → Takes now turns later
@@ -46,9 +46,10 @@ pub record IsSafeTask (permitted : List ℕ) (task : ℕ) (now : World) (configu
   pub exits : (label : ℕ) (next : State) → move_of now task ≡ Some (Moves (Some (Exited label)) next)
       → IsListed label (scopes_of configuration.stack)
 
--- What holds of the task of an entry in an interleaved run. It does not stop before its end. It is safe at each moment, it
--- operates no device outside the entry's authority, and its own events are well scoped.
-pub record TaskRunsSafely (entries : List Entry) (devices : Devices) (schedule : List ℕ) (fuel task : ℕ) (entry : Entry) : Type 0 where
+-- What holds of the task of an entry in an interleaved run. It does not stop before its end. It is safe at each
+-- moment, it operates no device outside the entry's authority, and its own events are well scoped.
+pub record TaskRunsSafely (entries : List Entry) (devices : Devices) (schedule : List ℕ) (fuel task : ℕ) (entry : Entry)
+    : Type 0 where
   pub ending : Ending
   pub steps : ℕ
   pub told : slice_get (interleaved_run fuel schedule entries devices).ends task ≡ Some (ending, steps)
@@ -57,7 +58,8 @@ pub record TaskRunsSafely (entries : List Entry) (devices : Devices) (schedule :
       → Takes (world_of entries devices) turns now → slice_get now.tasks task ≡ Some configuration
       → IsSafeTask entry.authority task now configuration
   pub authority : (device : ℕ) (operation : Op) (literal : Literal)
-      → IsAmong (Operated device operation literal) (own_events task (interleaved_run fuel schedule entries devices).trace)
+      → IsAmong (Operated device operation literal)
+      (own_events task (interleaved_run fuel schedule entries devices).trace)
       → IsListed device entry.authority
   pub well_scoped : IsWellScoped (own_events task (interleaved_run fuel schedule entries devices).trace)
 
@@ -67,17 +69,17 @@ HasItsDevicesAlone entries task entry =
     (other : ℕ) (entry' : Entry) → other ≢ task → slice_get entries other ≡ Some entry'
     → (device : ℕ) → IsListed device entry.authority → IsListed device entry'.authority → ⊥
 
--- The run of the entry alone, from the same devices and with the task's own number of steps for fuel, has the events and the
--- end of the task, and takes as many steps.
+-- The run of the entry alone, from the same devices and with the task's own number of steps for fuel, has the events
+-- and the end of the task, and takes as many steps.
 pub record TaskRunsAsAlone (report : Report) (devices : Devices) (task : ℕ) (entry : Entry) : Type 0 where
   pub steps : ℕ
   pub events : (run steps (state_of devices (program_start entry))).events ≡ own_events task report.trace
   pub told : slice_get report.ends task ≡ Some ((run steps (state_of devices (program_start entry))).ending, steps)
   pub all_steps : (run steps (state_of devices (program_start entry))).steps ≡ steps
 
--- What holds of the interleaved run of the programs of entries. All its turns are taken, or each task of the schedule has
--- come to its end. The task of each entry runs safely. The events of each device are a history of that device alone, from
--- its state at the start. A task that has its devices alone runs as it does alone.
+-- What holds of the interleaved run of the programs of entries. All its turns are taken, or each task of the schedule
+-- has come to its end. The task of each entry runs safely. The events of each device are a history of that device
+-- alone, from its state at the start. A task that has its devices alone runs as it does alone.
 pub record RunsInterleaved (entries : List Entry) (devices : Devices) (schedule : List ℕ) (fuel : ℕ) : Type 0 where
   pub goes_on : (length (interleave fuel schedule (world_of entries devices)).turns ≡ fuel)
       ⊎ ((task : ℕ) → IsListed task schedule

@@ -9,10 +9,11 @@ pub fn steps_are_local()
     ensures changes { law.StepsChangeWhatTheyReach }
 {}
 
-/// An interleaved run is turns of its tasks, and it goes on while it has fuel and a task of the schedule is not final. Each
-/// task keeps what it keeps alone.
+/// An interleaved run is turns of its tasks, which come up as the schedule has them when it is repeated, and it goes on while it
+/// has fuel and a task of the schedule is not final. Each task keeps what it keeps alone.
 pub fn tasks_keep_their_promises()
     ensures turns { law.InterleavingsAreTurns }
+    ensures repeated { law.SchedulesAreRepeated }
     ensures goes_on { law.SchedulesGoOn }
     ensures sound { law.TasksStaySound }
     ensures promises { law.TasksKeepTheirPromises }

@@ -1,3 +1,4 @@
+use Rattle.cc_meta_runs.proofs.Schedules.{schedules_are_repeated}
 use Rattle.cc_meta_runs.proofs.InterleavedTasks.{interleavings_are_turns, schedules_go_on, tasks_stay_sound, tasks_keep_their_promises}
 use Rattle.cc_meta_runs.proofs.interleavings.tasks_keep_their_promises.Goals as goal
 
@@ -5,6 +6,7 @@ pub returns : goal.returns
 returns c =
     record {
       turns = interleavings_are_turns;
+      repeated = schedules_are_repeated;
       goes_on = schedules_go_on;
       sound = tasks_stay_sound;
       promises = tasks_keep_their_promises;
