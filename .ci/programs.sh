@@ -1,7 +1,7 @@
 #!/usr/bin/env bash
 # Runs the built program and compares its standard output, its standard error and its exit status with what they must be.
 # It prints a line for each failure and a closing line where there is one, and nothing where all is as it must be.
-# Usage: .ci/programs.sh [PROGRAM ..], at most one of them built another way; by default those that `rt ci` leaves.
+# Usage: .ci/programs.sh [PROGRAM ..]; with no program, those that `rt ci` leaves.
 set -u
 top=$(cd "$(dirname "$0")/.." && pwd)
 built=$top/crates/capc/out/capc
@@ -90,10 +90,15 @@ for program; do
     # A directory opens and cannot be read, and the full device takes nothing.
     run < /
     expect 'a read that fails' 3 '' 'capc: read fault\n'
+    run <&-
+    expect 'no standard input' 3 '' 'capc: read fault\n'
     timeout 120 "$program" < "$jobs/accepted.job" > /dev/full 2> "$work/err"
     echo $? > "$work/status"
     : > "$work/out"
     expect 'a write that fails' 4 '' 'capc: write fault\n'
+    timeout 120 "$program" < "$jobs/accepted.job" >&- 2> "$work/err"
+    echo $? > "$work/status"
+    expect 'no standard output' 4 '' 'capc: write fault\n'
 done
 
 if [ "$failed" -gt 0 ]; then
