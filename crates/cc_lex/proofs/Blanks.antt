@@ -5,7 +5,8 @@ use Rattle.std.proofs.lemmas.Bool.Decides.{Decides-eqb}
 use Rattle.cc_base.specs.Names.{first_passes}
 use Rattle.cc_lex.specs.Lexical.{is_white, EndsTheLine, IsComment, IsBlank, white_space, a_comment}
 use Rattle.cc_lex.specs.Cutting.{Front, short_symbol, pair_symbol, long_symbol, symbol_front, front_of, blank_of}
-use Rattle.cc_lex.proofs.Booleans.{both, if_true, none_is_some}
+use Rattle.cc_lex.proofs.Booleans.{both, if_true}
+use Rattle.cc_lex.proofs.Constructors.{none_is_some, cons_is}
 use Rattle.cc_lex.proofs.Prefixes.{prefix_within, prefix-passes, prefix-ends, prefix-exact}
 use Rattle.cc_lex.proofs.Reaches.{no_start, at_other}
 
@@ -53,9 +54,6 @@ blank_of-found c cs = chosen-blank c cs (is_white c) (c == 47 && first_passes (�
 
 -- a blank at the front is found
 
-first-is : (c d : ℕ) (cs ds : List ℕ) → c ∷ cs ≡ d ∷ ds → (c ≡ d) × (cs ≡ ds)
-first-is c d cs ds h = (cc, cc)
-
 white-first : (c : ℕ) (cs : List ℕ) → is_white c ≡ true → blank_of c cs ≡ Some 0
 unfolding blank_of
 white-first c cs h = if_true (Some 0) (cond (c == 47 && first_passes (λ d. d == 47) cs) (Some (prefix_len in_line cs)) None) h
@@ -73,11 +71,11 @@ slash-first body after h e =
 
 pub blank-found : (c : ℕ) (es after : List ℕ) → IsBlank (c ∷ es) after → blank_of c (es ++ after) ≡ Some (length es)
 blank-found c es after (white_space d h e) =
-    let parts = first-is c d es [] e in
+    let parts = cons_is c d es [] e in
     let white : is_white c ≡ true = ap is_white parts.0 ∙ h in
     white-first c (es ++ after) white ∙ ap (λ xs. Some (length xs)) (sym parts.1)
 blank-found c es after (a_comment m) =
-    let parts = first-is c 47 es (47 ∷ m.body) m.begins in
+    let parts = cons_is c 47 es (47 ∷ m.body) m.begins in
     rw (parts.0, parts.1) (slash-first m.body after m.in_line m.whole)
 
 pub blank-some : (ds after : List ℕ) → IsBlank ds after → ds ≡ [] → ⊥
@@ -125,11 +123,11 @@ no_front-white c cs (inr (inr (inr e))) = rw e (no_front-10 cs)
 
 no_front-blank : (c : ℕ) (cs ds after : List ℕ) → IsBlank ds after → c ∷ cs ≡ ds ++ after → front_of c cs ≡ None
 no_front-blank c cs ds after (white_space d h e) s =
-    let same : c ≡ d = (first-is c d cs after (s ∙ ap (λ xs. xs ++ after) e)).0 in
+    let same : c ≡ d = (cons_is c d cs after (s ∙ ap (λ xs. xs ++ after) e)).0 in
     let cases = white-cases d (d == 32) (d == 9) (d == 13) (d == 10) refl refl refl refl h in
     rw same (no_front-white d cs cases)
 no_front-blank c cs ds after (a_comment m) s =
-    let same : c ≡ 47 = (first-is c 47 cs (47 ∷ (m.body ++ after)) (s ∙ ap (λ xs. xs ++ after) m.begins)).0 in
+    let same : c ≡ 47 = (cons_is c 47 cs (47 ∷ (m.body ++ after)) (s ∙ ap (λ xs. xs ++ after) m.begins)).0 in
     rw same (no_front-47 cs)
 
 -- where a form begins, no blank does

@@ -1,5 +1,5 @@
 -- Tests joined, and choices that a test decides.
-use Rattle.std.proofs.Common.{◌≡◌, Bool, true, false, cond, ◌&&◌, not, refl, ap, Some, None}
+use Rattle.std.proofs.Common.{◌≡◌, Bool, true, false, cond, ◌&&◌, not, refl, ap}
 
 pub both : (a b : Bool) → (a && b) ≡ true → (a ≡ true) × (b ≡ true)
 both true true h = (refl, refl)
@@ -23,6 +23,3 @@ if_true x y h = ap (λ a. cond a x y) h
 
 pub if_false : {A : Type 0} {b : Bool} (x y : A) → b ≡ false → cond b x y ≡ y
 if_false x y h = ap (λ a. cond a x y) h
-
-pub none_is_some : {A : Type 0} (x : A) → None ≡ Some x → ⊥
-none_is_some x h = cc

@@ -8,13 +8,10 @@ use Rattle.cc_lex.specs.Lexemes.{Lexeme, NumberLexeme}
 use Rattle.cc_lex.specs.Forms.{IsTooGreat, Spells}
 use Rattle.cc_lex.specs.Lexical.{place_after, place_past, byte_count, SpannedLexeme, spelled_at, Extent, UpTo, IsBlank, IsLongestForm, BeginsNothing, BeginsTooGreat, IsCut, at_end, at_nothing, at_too_great, past_blank, past_token}
 use Rattle.cc_lex.specs.Cutting.{Front, front_of, blank_of, spelled_by, spelled_front, token_of, Cutting, stop, behind, found, cut}
-use Rattle.cc_lex.proofs.Booleans.{none_is_some}
+use Rattle.cc_lex.proofs.Constructors.{some_is, none_is_some}
 use Rattle.cc_lex.proofs.LongestForms.{front-good, found-longest, longest-found, form-some, none-begins}
 use Rattle.cc_lex.proofs.Blanks.{IsBlankFound, blank_of-found, blank-found, blank-some, front-no_blank}
 use Rattle.cc_lex.proofs.Spelling.{number_of-beyond, spelled-spells, spelled-none, spells-spelled}
-
-some_is : {A : Type 0} (x y : A) → Some x ≡ Some y → x ≡ y
-some_is x y h = cc
 
 -- the text is cut as is found
 abbrev pub IsCutAs : Place → ℕ → List ℕ → Cutting → Type 0

@@ -1,4 +1,5 @@
 mod Booleans
+mod Constructors
 mod Prefixes
 mod WordTexts
 mod WordsOrNames

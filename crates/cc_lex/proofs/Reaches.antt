@@ -14,6 +14,7 @@ use Rattle.cc_lex.specs.declared.form.Form.TheVariants as forms
 use Rattle.cc_lex.specs.Forms.{symbol_text, stands_in_string, IsDigits, IsWord, IsOfForm}
 use Rattle.cc_lex.specs.Cutting.{Front, short_symbol, pair_symbol, long_symbol, symbol_front, string_front, front_of}
 use Rattle.cc_lex.proofs.Booleans.{both, both_true, opposite, if_true, if_false}
+use Rattle.cc_lex.proofs.Constructors.{cons_is}
 use Rattle.cc_lex.proofs.Prefixes.{prefix-at_least, prefix-exact}
 
 -- what is found has k characters or more behind its first, and with k of them it is of this form
@@ -130,12 +131,9 @@ symbol-reach symbols.Star after = single 42 symbols.Star after refl (no_start 42
 
 -- all forms
 
-first-is : (c d : ℕ) (cs ds : List ℕ) → c ∷ cs ≡ d ∷ ds → (c ≡ d) × (cs ≡ ds)
-first-is c d cs ds h = (cc, cc)
-
 text-reach : (c : ℕ) (cs after text : List ℕ) → c ∷ cs ≡ 34 ∷ (text ++ 34 ∷ []) → list_all stands_in_string text ≡ true → length text ≤ 200 → Reaches forms.Text (length cs) (front_of c (cs ++ after))
 text-reach c cs after text e h l =
-    let parts = first-is c 34 cs (text ++ 34 ∷ []) e in
+    let parts = cons_is c 34 cs (text ++ 34 ∷ []) e in
     rw parts.0 (string-reach cs after text parts.1 h l)
 
 pub form-reaches : (form : Form) (cs after : List ℕ) → IsOfForm form cs → ReachesFrom form cs after

@@ -15,10 +15,8 @@ use Rattle.cc_lex.specs.Lexemes.{Lexeme, NameLexeme, NumberLexeme, TextLexeme, W
 use Rattle.cc_lex.specs.Forms.{word_text, IsDigits, IsWord, IsString, IsOfForm, greatest_number, IsTooGreat, Spells}
 use Rattle.cc_lex.specs.Cutting.{word_of, number_of, inside, word_or_name, spelled_by}
 use Rattle.cc_lex.proofs.Booleans.{both, opposite, if_true, if_false, not_true}
+use Rattle.cc_lex.proofs.Constructors.{some_is}
 use Rattle.cc_lex.proofs.WordsOrNames.{word_of-some, name_of-none}
-
-some_is : {A : Type 0} (x y : A) → Some x ≡ Some y → x ≡ y
-some_is x y h = cc
 
 -- numbers
 

@@ -2,9 +2,9 @@
 #![tactic(auto)]
 
 pub mod error;
-pub mod form;
-pub mod kind;
+mod form;
+mod kind;
 pub mod laws;
 pub mod lexer;
 pub mod token;
-pub mod words;
+mod words;
