@@ -10,3 +10,4 @@ pub mod SureShapes
 pub mod ExprRules
 pub mod SureExprs
 pub mod Complete
+pub mod CompleteShapes

@@ -150,3 +150,11 @@ spell-unplaced at [] [] h = h
 spell-unplaced at [] (a ∷ ms) h = absurd h
 spell-unplaced at (t ∷ ts) [] h = absurd h
 spell-unplaced at (t ∷ ts) (a ∷ ms) (l, (e, p), h) = (l, p, h)
+
+-- the first token stands at the place
+pub standing-place : (at : Place) (t : PlacedLexeme) (ts : List PlacedLexeme) (ms : List Terminal) → Spell (t ∷ ts) (standing_at at ms) → t.at ≡ at
+standing-place at t ts [] h = absurd h
+standing-place at t ts (m ∷ ms) (l, (p, q), h) = p
+
+pub first-more : (at : Place) (front back : List PlacedLexeme) → First at front → First at (front ++ back)
+first-more at front back f = record { token = f.token; more = f.more ++ back; whole = ap (λ x. x ++ back) f.whole; place = f.place }
