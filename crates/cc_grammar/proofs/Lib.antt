@@ -11,3 +11,4 @@ pub mod ExprRules
 pub mod SureExprs
 pub mod Complete
 pub mod CompleteShapes
+pub mod CompleteExprs
