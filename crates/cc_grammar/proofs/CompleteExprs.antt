@@ -394,3 +394,96 @@ link-reads link rule at tree e p whole lev high tokens reads all sane order tigh
         sym f.place ∙ ap (λ x. x.at) (sym same) ∙ standing-place at u us _ k
     place : expr_place e ≡ at
     place = stands ts first spelled
+
+operator-link : (o : Operator) → link_of (SymbolLexeme (operator_symbol o)) ≡ Some (OperatorLink o)
+operator-link operators.Add = refl
+operator-link operators.Sub = refl
+operator-link operators.Mul = refl
+operator-link operators.Less = refl
+operator-link operators.Equal = refl
+
+operator-order : (o : Operator) → operator_level o ≤ left_level o
+operator-order operators.Add = omega arith
+operator-order operators.Sub = omega arith
+operator-order operators.Mul = omega arith
+operator-order operators.Less = omega arith
+operator-order operators.Equal = omega arith
+
+operator-reads : (at : Place) (o : Operator) (l r : ExprSyntax) → ExprReads l → ExprReads r → left_level o ≤ level l → 1 + operator_level o ≤ level r → ExprReads (OperatorExpr at o l r)
+unfolding link_at
+operator-reads at o l r reads more tight tighter =
+    link-reads (OperatorLink o) (OperatorRule o) at (λ a. OperatorExpr a o l r) l (r, tt) refl refl refl
+    (λ ts h. subst (Spell ts) same h) reads (kind-reads (1 + operator_level o) r tighter more, tt) tt (operator-order o) tight dispatch (λ rest loose link e. let small = loose link e in omega arith)
+  where
+    same : expr_terminals (OperatorExpr at o l r) ≡ standing_at at (expr_terminals l ++ (link_front (OperatorRule o) ++ parts_terminals (link_pieces (OperatorRule o)) (r, tt)))
+    same = rw append-nil refl
+    dispatch : (back rest : List PlacedLexeme) → Spell back (link_front (OperatorRule o) ++ parts_terminals (link_pieces (OperatorRule o)) (r, tt)) → Dispatch (OperatorLink o) (OperatorRule o) (r, tt) l rest back
+    dispatch [] rest h = absurd h
+    dispatch (t ∷ us) rest (e, p, h) = record { token = t; more = us; parts = us; whole = refl; links = ap link_of e ∙ operator-link o; spelled = h; same = λ rd k. refl }
+
+call-reads : (at : Place) (f a : ExprSyntax) → ExprReads f → ExprReads a → 5 ≤ level f → ExprReads (CallExpr at f a)
+unfolding link_at
+call-reads at f a reads more tight =
+    link-reads CallLink CallRule at (λ q. CallExpr q f a) f (a, (tt, tt)) refl refl refl
+    (λ ts h. h) reads (any a more, (tt, tt)) (stop_close, tt) (omega arith) tight dispatch (λ rest loose. tt)
+  where
+    dispatch : (back rest : List PlacedLexeme) → Spell back (link_front CallRule ++ parts_terminals (link_pieces CallRule) (a, (tt, tt))) → Dispatch CallLink CallRule (a, (tt, tt)) f rest back
+    dispatch [] rest h = absurd h
+    dispatch (t ∷ us) rest (e, p, h) = record { token = t; more = us; parts = us; whole = refl; links = ap link_of e; spelled = h; same = λ rd k. refl }
+
+type_call-reads : (at : Place) (f : ExprSyntax) (a : ShapeSyntax) → ExprReads f → KindReads ShapePart a → 5 ≤ level f → ExprReads (TypeCallExpr at f a)
+unfolding link_at
+type_call-reads at f a reads more tight =
+    link-reads TypeCallLink TypeCallRule at (λ q. TypeCallExpr q f a) f (a, (tt, tt)) refl refl refl
+    (λ ts h. h) reads (more, (tt, tt)) (stop_close_bracket, tt) (omega arith) tight dispatch (λ rest loose. tt)
+  where
+    dispatch : (back rest : List PlacedLexeme) → Spell back (link_front TypeCallRule ++ parts_terminals (link_pieces TypeCallRule) (a, (tt, tt))) → Dispatch TypeCallLink TypeCallRule (a, (tt, tt)) f rest back
+    dispatch [] rest h = absurd h
+    dispatch (t ∷ us) rest (e, p, h) = record { token = t; more = us; parts = us; whole = refl; links = ap link_of e; spelled = h; same = λ rd k. refl }
+
+dot-ask : (rd : Readers) (k : ℕ) (e : ExprSyntax) (o : Op) (u : PlacedLexeme) (ts : List PlacedLexeme) → u.lexeme ≡ NameLexeme (operation_name o) → takes_argument o ≡ false → link_at rd k e DotLink (u ∷ ts) ≡ link_rule_at rd k e (AskRule o) ts
+unfolding link_at dot_at operation_at
+dot-ask rd k e o u ts l f = let g : operation_of u.lexeme ≡ Some o = operation_of-same u.lexeme o l in rw (g, dot_at) (rw f refl)
+
+dot-tell : (rd : Readers) (k : ℕ) (e : ExprSyntax) (o : Op) (u : PlacedLexeme) (ts : List PlacedLexeme) → u.lexeme ≡ NameLexeme (operation_name o) → takes_argument o ≡ true → link_at rd k e DotLink (u ∷ ts) ≡ link_rule_at rd k e (TellRule o) ts
+unfolding link_at dot_at operation_at
+dot-tell rd k e o u ts l f = let g : operation_of u.lexeme ≡ Some o = operation_of-same u.lexeme o l in rw (g, dot_at) (rw f refl)
+
+ask-reads : (at : Place) (o : Op) (e : ExprSyntax) → ExprReads e → 5 ≤ level e → takes_argument o ≡ false → ExprReads (AskExpr at o e)
+ask-reads at o e reads tight takes =
+    link-reads DotLink (AskRule o) at (λ q. AskExpr q o e) e (tt, (tt, tt)) refl refl (omega arith)
+    (λ ts h. h) reads (tt, (tt, tt)) (tt, tt) (omega arith) tight dispatch (λ rest loose. tt)
+  where
+    dispatch : (back rest : List PlacedLexeme) → Spell back (link_front (AskRule o) ++ parts_terminals (link_pieces (AskRule o)) (tt, (tt, tt))) → Dispatch DotLink (AskRule o) (tt, (tt, tt)) e rest back
+    dispatch [] rest h = absurd h
+    dispatch (t ∷ []) rest (l, p, h) = absurd h
+    dispatch (t ∷ u ∷ us) rest (l, p, (m, q, h)) = record { token = t; more = u ∷ us; parts = us; whole = refl; links = ap link_of l; spelled = h; same = λ rd k. dot-ask rd k e o u (us ++ rest) m takes }
+
+tell-reads : (at : Place) (o : Op) (e a : ExprSyntax) → ExprReads e → ExprReads a → 5 ≤ level e → takes_argument o ≡ true → ExprReads (TellExpr at o e a)
+tell-reads at o e a reads more tight takes =
+    link-reads DotLink (TellRule o) at (λ q. TellExpr q o e a) e (tt, (a, (tt, tt))) refl refl refl
+    (λ ts h. h) reads (tt, (any a more, (tt, tt))) (tt, (stop_close, tt)) (omega arith) tight dispatch (λ rest loose. tt)
+  where
+    dispatch : (back rest : List PlacedLexeme) → Spell back (link_front (TellRule o) ++ parts_terminals (link_pieces (TellRule o)) (tt, (a, (tt, tt)))) → Dispatch DotLink (TellRule o) (tt, (a, (tt, tt))) e rest back
+    dispatch [] rest h = absurd h
+    dispatch (t ∷ []) rest (l, p, h) = absurd h
+    dispatch (t ∷ u ∷ us) rest (l, p, (m, q, h)) = record { token = t; more = u ∷ us; parts = us; whole = refl; links = ap link_of l; spelled = h; same = λ rd k. dot-tell rd k e o u (us ++ rest) m takes }
+
+pub expr-read : (e : ExprSyntax) → IsExpr e → ExprReads e
+expr-read (NameExpr at name) is = name-reads at name
+expr-read (LiteralExpr at literal) is = literal-reads at literal
+expr-read (ParenthesizedExpr at inner) is = paren-reads at inner (expr-read inner is)
+expr-read (ValExpr at name written right body) is = val-reads at name written right body is.0 (expr-read right is.1) (expr-read body is.2)
+expr-read (FunExpr at parameter takes body) is = fun-reads at parameter takes body (type-read takes is.0) (expr-read body is.1)
+expr-read (TypeFunExpr at parameter bound body) is = type_fun-reads at parameter bound body (shape-read bound is.0) (expr-read body is.1)
+expr-read (IfExpr at gives test positive negative) is = if-reads at gives test positive negative (type-read gives is.0) (expr-read test is.1) (expr-read positive is.2) (expr-read negative is.3)
+expr-read (BoundaryExpr at gives exit body) is = boundary-reads at gives exit body (shape-read gives is.0) (expr-read body is.1)
+expr-read (OperatorExpr at operator l r) is = operator-reads at operator l r (expr-read l is.0) (expr-read r is.1) is.2 is.3
+expr-read (BoxExpr at content) is = box-reads at content is.1 (expr-read content is.0)
+expr-read (UnboxExpr at captures content) is = unbox-reads at captures content is.1 (expr-read content is.0)
+expr-read (CallExpr at function argument) is = call-reads at function argument (expr-read function is.0) (expr-read argument is.1) is.2
+expr-read (TypeCallExpr at function argument) is = type_call-reads at function argument (expr-read function is.0) (shape-read argument is.1) is.2
+expr-read (AskExpr at operation receiver) is = ask-reads at operation receiver (expr-read receiver is.0) is.1 is.2
+expr-read (TellExpr at operation receiver argument) is = tell-reads at operation receiver argument (expr-read receiver is.0) (expr-read argument is.1) is.2 is.3
+expr-read (ExitExpr at gives exit value) is = exit-reads at gives exit value (type-read gives is.0) (expr-read exit is.1) (expr-read value is.2)
+expr-read (RepeatExpr at count function) is = repeat-reads at count function (expr-read count is.0) (expr-read function is.1)
