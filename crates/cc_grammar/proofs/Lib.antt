@@ -12,3 +12,4 @@ pub mod SureExprs
 pub mod Complete
 pub mod CompleteShapes
 pub mod CompleteExprs
+pub mod SureModules

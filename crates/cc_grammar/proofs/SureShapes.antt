@@ -101,12 +101,12 @@ Behind P (Got v s rest) = P v rest
 Behind P (Wrong rest) = ⊤
 Behind P (High rest) = ⊤
 
-behind-then : {A B : Type 0} (P : B → List PlacedLexeme → Type 0) (found : Found A) (next : A → ℕ → Reader B) → ((v : A) (s : ℕ) (rest : List PlacedLexeme) → Behind P (next v s rest)) → Behind P (found >>= next)
+pub behind-then : {A B : Type 0} (P : B → List PlacedLexeme → Type 0) (found : Found A) (next : A → ℕ → Reader B) → ((v : A) (s : ℕ) (rest : List PlacedLexeme) → Behind P (next v s rest)) → Behind P (found >>= next)
 behind-then P (Got v s rest) next h = h v s rest
 behind-then P (Wrong rest) next h = tt
 behind-then P (High rest) next h = tt
 
-behind-made : {A B : Type 0} (P : A → List PlacedLexeme → Type 0) (Q : B → List PlacedLexeme → Type 0) (f : A → ℕ → ℕ) (g : A → B) → ((v : A) (rest : List PlacedLexeme) → P v rest → Q (g v) rest) → (found : Found A) → Behind P found → Behind Q (found >>= λ v s rest. Got (g v) (f v s) rest)
+pub behind-made : {A B : Type 0} (P : A → List PlacedLexeme → Type 0) (Q : B → List PlacedLexeme → Type 0) (f : A → ℕ → ℕ) (g : A → B) → ((v : A) (rest : List PlacedLexeme) → P v rest → Q (g v) rest) → (found : Found A) → Behind P found → Behind Q (found >>= λ v s rest. Got (g v) (f v s) rest)
 behind-made P Q f g k (Got v s rest) h = k v rest h
 behind-made P Q f g k (Wrong rest) h = tt
 behind-made P Q f g k (High rest) h = tt
