@@ -84,7 +84,7 @@ link-not-four CallLink h = omega arith
 link-not-four TypeCallLink h = omega arith
 link-not-four DotLink h = omega arith
 
-loose-zero : (rest : List PlacedLexeme) → Loose 1 rest → Loose 0 rest
+pub loose-zero : (rest : List PlacedLexeme) → Loose 1 rest → Loose 0 rest
 loose-zero rest loose link e = absurd (omega (arith, link-positive link, loose link e))
 
 loose-four : (rest : List PlacedLexeme) → Loose 5 rest → Loose 4 rest
@@ -144,7 +144,7 @@ literal-reads at v n least [] rest le h loose = absurd h
 literal-reads at v n least (t ∷ []) rest le (l, (p, q), h) loose = whole (λ a. LiteralExpr a v) least at t rest (ap (expr_head t.at) l ∙ literal-head t.at v) p n
 literal-reads at v n least (t ∷ u ∷ us) rest le (l, p, h) loose = absurd h
 
-stop_equals : Stopper (SymbolLexeme symbols.Equals)
+pub stop_equals : Stopper (SymbolLexeme symbols.Equals)
 stop_equals = record { link = refl; caret = refl; colon = refl; brace = refl }
 
 stop_semicolon : Stopper (SymbolLexeme symbols.Semicolon)
@@ -160,7 +160,7 @@ stop_else : Stopper (WordLexeme words.Else)
 stop_else = record { link = refl; caret = refl; colon = refl; brace = refl }
 
 -- any expression, where no tightness is wanted
-any : (e : ExprSyntax) → ExprReads e → KindReads (ExprPart 0) e
+pub any : (e : ExprSyntax) → ExprReads e → KindReads (ExprPart 0) e
 any e reads = kind-reads 0 e (omega arith) reads
 
 paren-reads : (at : Place) (inner : ExprSyntax) → ExprReads inner → ExprReads (ParenthesizedExpr at inner)

@@ -13,3 +13,5 @@ pub mod Complete
 pub mod CompleteShapes
 pub mod CompleteExprs
 pub mod SureModules
+pub mod CompleteModules
+pub mod Readings
