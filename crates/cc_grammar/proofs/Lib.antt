@@ -15,3 +15,4 @@ pub mod CompleteExprs
 pub mod SureModules
 pub mod CompleteModules
 pub mod Readings
+pub mod Rooms
