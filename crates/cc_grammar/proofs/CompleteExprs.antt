@@ -1,8 +1,7 @@
 -- On the tokens of an expression its reader comes to the expression and reads what goes on it, or has no room for it.
-use Rattle.std.proofs.Common.{◌≡◌, ◌∙◌, ◌⊎◌, inl, inr, ℕ, zero, suc, ◌+◌, ◌-◌, ◌<◌, ◌≤◌, min, max, Bool, true, false, nat_le, ◌&&◌, List, [], ◌∷◌, ◌++◌, Option, Some, None, refl, sym, ap, subst, append_assoc, arith, if◌then◌else◌}
-use Rattle.std.specs.Prelude.{⊤}
+use Rattle.std.proofs.Common.{◌≡◌, ◌∙◌, ◌⊎◌, inl, inr, ℕ, zero, suc, ◌+◌, ◌-◌, ◌<◌, ◌≤◌, min, max, Bool, true, false, nat_le, List, [], ◌∷◌, ◌++◌, Option, Some, None, refl, sym, ap, subst, append_assoc, arith}
 use Rattle.std.proofs.lemmas.List.{append-nil}
-use Rattle.std.proofs.lemmas.Bool.{leb-true, le-leb}
+use Rattle.std.proofs.lemmas.Bool.{le-leb}
 use Rattle.std.proofs.lemmas.Bool.Decides.{leb_tells}
 use Rattle.cc_base.specs.declared.place.Place.{Place}
 use Rattle.cc_base.specs.declared.literal.Operator.{Operator}
@@ -11,16 +10,16 @@ use Rattle.cc_base.specs.declared.literal.Op.{Op}
 use Rattle.cc_base.specs.Literals.{Literal, UnitLiteral, TruthLiteral, NumberLiteral, TextLiteral}
 use Rattle.cc_lex.specs.declared.token.Word.TheVariants as words
 use Rattle.cc_lex.specs.declared.token.Symbol.TheVariants as symbols
-use Rattle.cc_lex.specs.Lexemes.{Lexeme, NameLexeme, NumberLexeme, TextLexeme, WordLexeme, SymbolLexeme, PlacedLexeme}
-use Rattle.cc_grammar.specs.Syntax.{ElementSyntax, TypeSyntax, ShapeSyntax, ExprSyntax, NameExpr, LiteralExpr, ParenthesizedExpr, ValExpr, FunExpr, TypeFunExpr, IfExpr, BoundaryExpr, OperatorExpr, BoxExpr, UnboxExpr, CallExpr, TypeCallExpr, AskExpr, TellExpr, ExitExpr, RepeatExpr, type_height, shape_height, written_height, expr_height}
-use Rattle.cc_grammar.specs.Grammar.{Terminal, terminal, word, symbol, named, standing_at, Spell, literal_lexeme, operator_symbol, operation_name, takes_argument, captures_terminals, written_terminals, type_terminals, shape_terminals, expr_terminals, IsType, IsShape, IsWritten, IsExpr, operator_level, left_level, level}
+use Rattle.cc_lex.specs.Lexemes.{NameLexeme, WordLexeme, SymbolLexeme, PlacedLexeme}
+use Rattle.cc_grammar.specs.Syntax.{ElementSyntax, TypeSyntax, ShapeSyntax, ExprSyntax, NameExpr, LiteralExpr, ParenthesizedExpr, ValExpr, FunExpr, TypeFunExpr, IfExpr, BoundaryExpr, OperatorExpr, BoxExpr, UnboxExpr, CallExpr, TypeCallExpr, AskExpr, TellExpr, ExitExpr, RepeatExpr, expr_height}
+use Rattle.cc_grammar.specs.Grammar.{word, symbol, named, standing_at, Spell, literal_lexeme, operator_symbol, operation_name, takes_argument, captures_terminals, written_terminals, type_terminals, shape_terminals, expr_terminals, IsWritten, IsExpr, operator_level, left_level, level}
 use Rattle.cc_grammar.specs.Tests.{begins_symbol, is_symbol, operation_of}
-use Rattle.cc_grammar.specs.Reading.{Found, Got, Wrong, High, Reader, Readers, ◌>>=◌, ShapePart, TypePart, ExprPart, Parts, pieces_at, ExprRule, ParenRule, ValRule, FunRule, TypeFunRule, IfRule, BoundaryRule, BoxRule, UnboxRule, ExitRule, RepeatRule, expr_pieces, expr_tree, expr_rule_at, fun_at, ExprStart, FunStart, RuleStart, start_level, expr_start_at, ExprHead, WholeExpr, StartsExpr, NoExpr, expr_head, Link, OperatorLink, CallLink, TypeCallLink, DotLink, link_of, link_level, link_left, LinkRule, OperatorRule, CallRule, TypeCallRule, AskRule, TellRule, link_pieces, expr_place, link_tree, link_rule_at, operation_at, dot_at, link_at, goes_on, if_on, next_link, links_at, expr_over, nothing_at, part_at}
+use Rattle.cc_grammar.specs.Reading.{Found, Got, Wrong, High, Readers, ◌>>=◌, ShapePart, TypePart, ExprPart, Parts, pieces_at, ExprRule, ParenRule, ValRule, FunRule, TypeFunRule, IfRule, BoundaryRule, BoxRule, UnboxRule, ExitRule, RepeatRule, expr_pieces, expr_tree, expr_rule_at, fun_at, ExprStart, FunStart, RuleStart, start_level, expr_start_at, WholeExpr, StartsExpr, NoExpr, expr_head, Link, OperatorLink, CallLink, TypeCallLink, DotLink, link_of, link_level, link_left, LinkRule, OperatorRule, CallRule, TypeCallRule, AskRule, TellRule, link_pieces, expr_place, link_tree, link_rule_at, operation_at, dot_at, link_at, if_on, next_link, links_at, expr_over, nothing_at, part_at}
 use Rattle.cc_grammar.proofs.Spelling.{symbol-is, is_symbol-same, operation_of-same, Split, spell-split, spell-unplaced, First, first-more, standing-place}
 use Rattle.cc_grammar.proofs.PieceLanguages.{parts_terminals, parts_height}
-use Rattle.cc_grammar.proofs.ExprRules.{expr-positive, expr-height, link_front, link-height, rule_made, expr-first}
-use Rattle.cc_grammar.proofs.Complete.{IsHigh, high-then, Bounded, BoundedBy, front_link, Loose, CapturesStop, Stopper, IsSane, StopsAll, LastStops, sane-stops, KindReads, WrittenReads, AllRead, pieces-read}
-use Rattle.cc_grammar.proofs.CompleteShapes.{stop_close, stop_close_bracket, same-place, shape-read, type-read}
+use Rattle.cc_grammar.proofs.ExprRules.{expr-positive, expr-height, link_front, link-height, expr-first}
+use Rattle.cc_grammar.proofs.Complete.{IsHigh, high-then, Bounded, BoundedBy, Loose, CapturesStop, Stopper, IsSane, StopsAll, LastStops, sane-stops, KindReads, WrittenReads, AllRead, pieces-read}
+use Rattle.cc_grammar.proofs.CompleteShapes.{stop_close, stop_close_bracket, shape-read, type-read}
 
 -- the readers of the parts one level below
 abbrev pub below : ℕ → Readers
@@ -99,9 +98,10 @@ expr_rule-read rule at p reads m ts rest stops h =
     let height = expr-height rule at p in
     record {
       low = λ small.
-        let spares : min m (suc m - parts_height (expr_pieces rule) p) ≡ suc (suc m) - expr_height (expr_tree rule at p) = omega arith in
-        rw (b.low (omega arith)) (ap (λ x. Got (expr_tree rule at p) x rest) spares);
-      high = λ great. high-then (pieces_at (part_at m) (expr_pieces rule) m (ts ++ rest)) _ (b.high (omega arith)) }
+          let spares : min m (suc m - parts_height (expr_pieces rule) p) ≡ suc (suc m) - expr_height (expr_tree rule at p) = omega arith in
+          rw (b.low (omega arith)) (ap (λ x. Got (expr_tree rule at p) x rest) spares);
+      high = λ great. high-then (pieces_at (part_at m) (expr_pieces rule) m (ts ++ rest)) _ (b.high (omega arith));
+    }
 
 -- an expression of more than one token, from its first token on
 started : (start : ExprStart) (tree : Place → ExprSyntax) (height least : ℕ) (at : Place) (t : PlacedLexeme) (us rest : List PlacedLexeme) → expr_head t.at t.lexeme ≡ StartsExpr start → least ≤ start_level start → t.at ≡ at → 2 ≤ height → ((m : ℕ) → Bounded height (suc m) (expr_start_at (part_at m) m t.at start us) (tree t.at) rest) → (n : ℕ) → Reaches height n least (tree at) rest (part_at n (ExprPart least) (t ∷ us))
@@ -116,7 +116,8 @@ started start tree height least at t us rest e le p tall read (suc m) =
     let b = read m in
     record {
       low = λ h. (suc (suc m) - height, omega arith, here ∙ (rw (b.low h) (ap (λ a. links_at (part_at m) least (suc (suc m) - height) (tree a) (suc (suc m) - height) rest) p)));
-      high = λ h. subst IsHigh (sym here) (high-then (expr_start_at (part_at m) m t.at start us) _ (b.high h)) }
+      high = λ h. subst IsHigh (sym here) (high-then (expr_start_at (part_at m) m t.at start us) _ (b.high h));
+    }
 
 -- an expression of one token
 whole : (tree : Place → ExprSyntax) (least : ℕ) (at : Place) (t : PlacedLexeme) (rest : List PlacedLexeme) → expr_head t.at t.lexeme ≡ WholeExpr (tree t.at) → t.at ≡ at → (n : ℕ) → Reaches 1 n least (tree at) rest (part_at n (ExprPart least) (t ∷ rest))
@@ -257,8 +258,10 @@ no-brace e reads (t ∷ ts) rest h = go (is_symbol symbols.OpenBrace t.lexeme) r
     refused : (n : ℕ) → t.lexeme ≡ SymbolLexeme symbols.OpenBrace → part_at n (ExprPart 0) (t ∷ (ts ++ [])) ≡ Wrong (t ∷ (ts ++ []))
     refused zero l = let e : expr_head t.at t.lexeme ≡ NoExpr = rw l refl in rw (e, expr_over) refl
     refused (suc n) l = let e : expr_head t.at t.lexeme ≡ NoExpr = rw l refl in rw (e, expr_over) refl
+
     no_link : (k : ℕ) → Loose k []
     no_link k link f = let g : None ≡ Some link = f in cc
+
     go : (b : Bool) → is_symbol symbols.OpenBrace t.lexeme ≡ b → is_symbol symbols.OpenBrace t.lexeme ≡ false
     go false f = f
     go true f =
@@ -277,6 +280,7 @@ unbox-reads at captures content tight reads n least (t ∷ us) rest le (l, (p, q
     brace : (c : Option (List ElementSyntax)) (ts : List PlacedLexeme) → Spell ts (expr_terminals content ++ []) → CapturesStop c (ts ++ rest)
     brace None ts k = no-brace content reads ts rest (subst (Spell ts) (append-nil (expr_terminals content)) k)
     brace (Some elements) ts k = tt
+
     last : (ts : List PlacedLexeme) → Spell ts [] → Loose 4 (ts ++ rest)
     last [] k = loose-four rest loose
     last (u ∷ ts) k = absurd k
@@ -321,42 +325,56 @@ linked link rule e p reads all sane order tight n least front back rest le sp d 
   where
     t : PlacedLexeme
     t = d.token
+
     ws : List PlacedLexeme
     ws = d.more ++ rest
+
     hl : ℕ
     hl = expr_height e
+
     ph : ℕ
     ph = parts_height (link_pieces rule) p
+
     height : expr_height (link_tree rule e p) ≡ 1 + max hl ph
     height = link-height rule e p
+
     positive : 1 ≤ hl
     positive = expr-positive e
+
     loose : Loose (suc (level e)) (t ∷ ws)
     loose k f =
         let g : Some link ≡ Some k = sym d.links ∙ f in
         let same : link ≡ k = cc in
         subst (λ x. link_level x < suc (level e)) same (omega arith)
+
     next : next_link least e (t ∷ ws) ≡ Some link
     next = next-some least e t ws link d.links le tight
+
     parts : (m k : ℕ) → k ≤ m → BoundedBy ph m k (link_at (part_at m) k e link ws) (link_tree rule e p) rest
     parts m k small = subst (λ x. BoundedBy ph m k x (link_tree rule e p) rest) (sym (d.same (part_at m) k)) (link_rule-read rule e p all sane m k small d.parts rest last d.spelled)
+
     low : (m : ℕ) (found : Found ExprSyntax) → expr_height (link_tree rule e p) ≤ suc (suc m) → (steps : ℕ) → suc (suc m) - hl ≤ steps → found ≡ links_at (part_at m) least steps e (suc (suc m) - hl) (t ∷ ws) → (more : ℕ) × (suc (suc m) - expr_height (link_tree rule e p) ≤ more) × (found ≡ links_at (part_at m) least more (link_tree rule e p) (suc (suc m) - expr_height (link_tree rule e p)) rest)
     low m found small zero enough f = absurd (omega (arith, height, positive))
     low m found small (suc steps) enough f =
         let spare : suc (suc m) - hl ≡ suc (suc m - hl) = omega (arith, height, positive) in
         let q : link_at (part_at m) (suc m - hl) e link ws ≡ Got (link_tree rule e p) (min (suc m - hl) (suc m - ph)) rest = (parts m (suc m - hl) (omega (arith, height, positive))).low (omega (arith, height, positive)) in
-        let last_spare : min (suc m - hl) (suc m - ph) ≡ suc (suc m) - expr_height (link_tree rule e p) = omega (arith, height, positive) in
-        (steps, omega (arith, height, positive),
-        f ∙ ap (λ x. links_at (part_at m) least (suc steps) e x (t ∷ ws)) spare ∙ link-step (part_at m) least steps e (suc m - hl) t ws link next ∙
-        (rw q (ap (λ x. links_at (part_at m) least steps (link_tree rule e p) x rest) last_spare)))
+        let last_spare : min (suc m - hl) (suc m - ph) ≡ suc (suc m) - expr_height (link_tree rule e p) = omega (arith, height, positive) in (
+          steps,
+          omega (arith, height, positive),
+          f ∙ ap (λ x. links_at (part_at m) least (suc steps) e x (t ∷ ws)) spare ∙ link-step (part_at m) least steps e (suc m - hl) t ws link next ∙
+              (rw q (ap (λ x. links_at (part_at m) least steps (link_tree rule e p) x rest) last_spare)),
+        )
+
     blocked : (rd : Readers) (found : Found ExprSyntax) (steps s : ℕ) → s ≡ 0 → found ≡ links_at rd least steps e s (t ∷ ws) → IsHigh found
     blocked rd found steps s none f = subst IsHigh (sym (f ∙ ap (λ x. links_at rd least steps e x (t ∷ ws)) none)) (link-high rd least steps e t ws link next)
+
     high : (m : ℕ) (found : Found ExprSyntax) → suc (suc m) < expr_height (link_tree rule e p) → hl ≤ suc m → (steps : ℕ) → suc (suc m) - hl ≤ steps → found ≡ links_at (part_at m) least steps e (suc (suc m) - hl) (t ∷ ws) → IsHigh found
     high m found great fits zero enough f = absurd (omega (arith, height, positive))
     high m found great fits (suc steps) enough f =
         let spare : suc (suc m) - hl ≡ suc (suc m - hl) = omega (arith, height, positive) in
         let g : found ≡ (link_at (part_at m) (suc m - hl) e link ws >>= λ more less r. links_at (part_at m) least steps more less r) = f ∙ ap (λ x. links_at (part_at m) least (suc steps) e x (t ∷ ws)) spare ∙ link-step (part_at m) least steps e (suc m - hl) t ws link next in
         subst IsHigh (sym g) (high-then (link_at (part_at m) (suc m - hl) e link ws) _ ((parts m (suc m - hl) (omega (arith, height, positive))).high (omega (arith, height, positive))))
+
     go : (n : ℕ) (found : Found ExprSyntax) → Reaches hl n least e (t ∷ ws) found → Reaches (expr_height (link_tree rule e p)) n least (link_tree rule e p) rest found
     go zero found r = record { low = λ h. absurd (omega (arith, height, positive)); high = λ h. alone (leb_tells hl 1) }
       where
@@ -380,18 +398,23 @@ link-reads link rule at tree e p whole lev high tokens reads all sane order tigh
   where
     spelled : Spell ts (standing_at at (expr_terminals e ++ (link_front rule ++ parts_terminals (link_pieces rule) p)))
     spelled = tokens ts h
+
     split : Split ts (expr_terminals e) (link_front rule ++ parts_terminals (link_pieces rule) p)
     split = spell-split (expr_terminals e) (link_front rule ++ parts_terminals (link_pieces rule) p) ts (spell-unplaced at ts _ spelled)
+
     split_whole : ts ++ rest ≡ split.front ++ (split.back ++ rest)
     split_whole = ap (λ x. x ++ rest) split.whole ∙ append_assoc split.front split.back rest
+
     first : First (expr_place e) ts
     first = subst (First (expr_place e)) (sym split.whole) (first-more (expr_place e) split.front split.back (expr-first e split.front split.first))
+
     stands : (us : List PlacedLexeme) → First (expr_place e) us → Spell us (standing_at at (expr_terminals e ++ (link_front rule ++ parts_terminals (link_pieces rule) p))) → expr_place e ≡ at
     stands [] f k = let g : [] ≡ f.token ∷ f.more = f.whole in cc
     stands (u ∷ us) f k =
         let g : u ∷ us ≡ f.token ∷ f.more = f.whole in
         let same : u ≡ f.token = cc in
         sym f.place ∙ ap (λ x. x.at) (sym same) ∙ standing-place at u us _ k
+
     place : expr_place e ≡ at
     place = stands ts first spelled
 
@@ -417,6 +440,7 @@ operator-reads at o l r reads more tight tighter =
   where
     same : expr_terminals (OperatorExpr at o l r) ≡ standing_at at (expr_terminals l ++ (link_front (OperatorRule o) ++ parts_terminals (link_pieces (OperatorRule o)) (r, tt)))
     same = rw append-nil refl
+
     dispatch : (back rest : List PlacedLexeme) → Spell back (link_front (OperatorRule o) ++ parts_terminals (link_pieces (OperatorRule o)) (r, tt)) → Dispatch (OperatorLink o) (OperatorRule o) (r, tt) l rest back
     dispatch [] rest h = absurd h
     dispatch (t ∷ us) rest (e, p, h) = record { token = t; more = us; parts = us; whole = refl; links = ap link_of e ∙ operator-link o; spelled = h; same = λ rd k. refl }

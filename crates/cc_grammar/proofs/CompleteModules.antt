@@ -1,20 +1,17 @@
 -- On the tokens of a module its reader gives it, or has no room for it; and no two modules have the same tokens.
 use Rattle.std.proofs.Common.{◌≡◌, ◌∙◌, ◌⊎◌, inl, inr, ℕ, zero, suc, ◌+◌, ◌-◌, ◌<◌, ◌≤◌, min, max, Bool, true, false, nat_le, List, [], ◌∷◌, ◌++◌, length, Option, Some, None, refl, sym, ap, subst, append_assoc, length-append, arith, if◌then◌else◌}
-use Rattle.std.specs.Prelude.{⊤}
 use Rattle.std.specs.List.{flat_map}
-use Rattle.std.proofs.lemmas.List.{append-nil}
 use Rattle.std.proofs.lemmas.Bool.Decides.{leb_tells}
 use Rattle.cc_base.specs.declared.place.Place.{Place}
 use Rattle.cc_lex.specs.declared.token.Word.TheVariants as words
-use Rattle.cc_lex.specs.declared.token.Symbol.TheVariants as symbols
-use Rattle.cc_lex.specs.Lexemes.{Lexeme, WordLexeme, PlacedLexeme}
+use Rattle.cc_lex.specs.Lexemes.{WordLexeme, PlacedLexeme}
 use Rattle.cc_grammar.specs.Syntax.{TypeSyntax, ExprSyntax, ImportSyntax, DefSyntax, ModuleSyntax}
-use Rattle.cc_grammar.specs.Grammar.{Spell, import_terminals, def_terminals, module_terminals, IsDef, AreDefs, IsModule}
+use Rattle.cc_grammar.specs.Grammar.{Spell, import_terminals, def_terminals, IsDef, AreDefs, IsModule}
 use Rattle.cc_grammar.specs.Tests.{is_word, begins_word}
-use Rattle.cc_grammar.specs.Reading.{Found, Got, Wrong, High, Reader, ◌>>=◌, Parts, pieces_at, part_at, top_room, import_pieces, import_tree, import_at, imports_at, DefRule, PlainRule, OwnRule, def_pieces, def_tree, def_rule_at, def_at, defs_at, module_at, Link, link_level}
+use Rattle.cc_grammar.specs.Reading.{Found, Got, Wrong, High, Reader, ◌>>=◌, Parts, pieces_at, part_at, top_room, import_pieces, import_at, imports_at, DefRule, PlainRule, OwnRule, def_pieces, def_tree, def_rule_at, def_at, defs_at, module_at}
 use Rattle.cc_grammar.proofs.Spelling.{is_word-same, Split, spell-split}
-use Rattle.cc_grammar.proofs.PieceLanguages.{parts_terminals, parts_height}
-use Rattle.cc_grammar.proofs.Complete.{IsHigh, high-then, BoundedBy, Loose, IsSane, LastStops, sane-stops, AllRead, pieces-read}
+use Rattle.cc_grammar.proofs.PieceLanguages.{parts_height}
+use Rattle.cc_grammar.proofs.Complete.{IsHigh, high-then, Loose, IsSane, LastStops, sane-stops, AllRead, pieces-read}
 use Rattle.cc_grammar.proofs.CompleteShapes.{type-read}
 use Rattle.cc_grammar.proofs.CompleteExprs.{any, stop_equals, written-reads, expr-read}
 use Rattle.cc_grammar.proofs.SureModules.{import_behind, def_behind, def_height, defs_height, def-terminals, def-height}
@@ -120,7 +117,8 @@ def_rule-read rule p reads sane n ts rest last h =
     let height = def-height rule p in
     record {
       low = λ small. (min n (suc n - parts_height (def_pieces rule) p), rw (b.low (omega arith)) refl);
-      high = λ great. high-then (pieces_at (part_at n) (def_pieces rule) n (ts ++ rest)) _ (b.high (omega arith)) }
+      high = λ great. high-then (pieces_at (part_at n) (def_pieces rule) n (ts ++ rest)) _ (b.high (omega arith));
+    }
 
 def-read : (own : Bool) (name : List ℕ) (at : Place) (written : Option TypeSyntax) (right : ExprSyntax) → IsDef (record { own = own; name = name; name_at = at; written = written; right = right }) → (n : ℕ) (ts rest : List PlacedLexeme) → Loose 0 rest → Spell ts (def_behind (record { own = own; name = name; name_at = at; written = written; right = right })) → Settles (def_height (record { own = own; name = name; name_at = at; written = written; right = right })) n (def_in n (ts ++ rest)) (record { own = own; name = name; name_at = at; written = written; right = right }) rest
 unfolding def_in
@@ -141,20 +139,27 @@ unfolding defs_in
 defs-cons d defs is n steps t ts l h enough ih =
     subst (λ f. Settles (max (def_height d) (defs_height defs)) n f (d ∷ defs) []) (sym here) (record {
       low = λ small. ((more.low (omega arith)).0, rw ((first.low (omega arith)).1) (rw ((more.low (omega arith)).1) refl));
-      high = λ great. go great (leb_tells (def_height d) (suc n)) })
+      high = λ great. go great (leb_tells (def_height d) (suc n));
+    })
   where
     split : Split ts (def_behind d) (flat_map def_terminals defs)
     split = spell-split (def_behind d) (flat_map def_terminals defs) ts h
+
     size : length ts ≡ length split.front + length split.back
     size = ap length split.whole ∙ length-append split.front split.back
+
     rest_found : Found DefSyntax → Found (List DefSyntax)
     rest_found found = found >>= λ first spare rest. defs_in n steps rest >>= λ more left behind. Got (first ∷ more) left behind
+
     here : defs_in n (suc steps) (t ∷ ts) ≡ rest_found (def_in n (split.front ++ split.back))
     here = rw (is_word-same words.Def t.lexeme l) (ap (λ x. rest_found (def_in n x)) split.whole)
+
     first : Settles (def_height d) n (def_in n (split.front ++ split.back)) d split.back
     first = def-read d.own d.name d.name_at d.written d.right is n split.front split.back (loose-defs defs split.back split.second 0) split.first
+
     more : Settles (defs_height defs) n (defs_in n steps split.back) defs []
     more = ih split.back split.second (omega (arith, size, enough))
+
     go : suc n < max (def_height d) (defs_height defs) → ((nat_le (def_height d) (suc n) ≡ true) × (def_height d ≤ suc n)) ⊎ ((nat_le (def_height d) (suc n) ≡ false) × (suc n < def_height d)) → IsHigh (rest_found (def_in n (split.front ++ split.back)))
     go great (inl k) = subst (λ f. IsHigh (rest_found f)) (sym ((first.low k.1).1)) (high-then (defs_in n steps split.back) _ (more.high (omega (arith, great, k.1))))
     go great (inr k) = high-then (def_in n (split.front ++ split.back)) _ (first.high k.1)
@@ -172,15 +177,19 @@ defs-read (d ∷ defs) (is, are) n (suc steps) (t ∷ ts) (l, p, h) enough = def
 pub module-read : (it : ModuleSyntax) (ts : List PlacedLexeme) → IsModule ts it → (n : ℕ) → Settles (defs_height it.defs) n (module_in n ts) it []
 unfolding module_in
 module-read it ts is n = subst (λ f. Settles (defs_height it.defs) n f it []) (sym here) (record {
-      low = λ small. ((defs.low small).0, rw ((defs.low small).1) refl);
-      high = λ great. high-then (defs_in n (length split.back) split.back) _ (defs.high great) })
+  low = λ small. ((defs.low small).0, rw ((defs.low small).1) refl);
+  high = λ great. high-then (defs_in n (length split.back) split.back) _ (defs.high great);
+})
   where
     split : Split ts (flat_map import_terminals it.imports) (flat_map def_terminals it.defs)
     split = spell-split (flat_map import_terminals it.imports) (flat_map def_terminals it.defs) ts is.spelled
+
     defs : Settles (defs_height it.defs) n (defs_in n (length split.back) split.back) it.defs []
     defs = defs-read it.defs is.grammatical n (length split.back) split.back split.second (omega arith)
+
     imports : imports_at (length ts) (split.front ++ split.back) ≡ Got it.imports 99 split.back
     imports = imports-read it.imports (length ts) split.front split.back split.first (no-import it.defs split.back split.second) (subst (λ x. length x ≤ length ts) split.whole (omega arith))
+
     here : module_in n ts ≡ (defs_in n (length split.back) split.back >>= λ defs left behind. Got (record { imports = it.imports; defs = defs }) left behind)
     here = ap (λ f. f >>= λ imports spare rest. defs_in n (length rest) rest >>= λ defs left behind. Got (record { imports = imports; defs = defs }) left behind) (ap (imports_at (length ts)) split.whole ∙ imports)
 

@@ -1,21 +1,19 @@
 -- On the tokens of a shape or a type its reader gives it, or has no room for it.
-use Rattle.std.proofs.Common.{◌≡◌, ◌∙◌, ℕ, zero, suc, ◌+◌, ◌-◌, ◌<◌, ◌≤◌, min, max, Bool, true, false, List, [], ◌∷◌, ◌++◌, Option, Some, None, refl, sym, ap, subst, append_assoc, arith, if◌then◌else◌}
-use Rattle.std.specs.Prelude.{⊤}
+use Rattle.std.proofs.Common.{◌≡◌, ◌∙◌, ℕ, zero, suc, ◌+◌, ◌-◌, ◌≤◌, min, max, false, List, [], ◌∷◌, ◌++◌, None, refl, sym, ap, subst, append_assoc, arith}
 use Rattle.std.proofs.lemmas.List.{append-nil}
 use Rattle.cc_base.specs.declared.place.Place.{Place}
 use Rattle.cc_base.specs.declared.literal.Base.{Base}
 use Rattle.cc_base.specs.declared.literal.Base.TheVariants as bases
-use Rattle.cc_lex.specs.declared.token.Word.TheVariants as words
 use Rattle.cc_lex.specs.declared.token.Symbol.TheVariants as symbols
-use Rattle.cc_lex.specs.Lexemes.{Lexeme, NameLexeme, WordLexeme, SymbolLexeme, PlacedLexeme}
+use Rattle.cc_lex.specs.Lexemes.{NameLexeme, WordLexeme, SymbolLexeme, PlacedLexeme}
 use Rattle.cc_grammar.specs.Syntax.{SetSyntax, AbsentSet, OmittedSet, WrittenSet, TypeSyntax, CapturingType, ShapeSyntax, BaseShape, AnyShape, NamedShape, ExitShape, BoxShape, ParenthesizedShape, FunctionShape, TypeFunctionShape, shape_height, type_height}
-use Rattle.cc_grammar.specs.Grammar.{Terminal, word, symbol, named, standing_at, Spell, base_word, shape_terminals, type_terminals, set_terminals, IsShape, IsType, CanTake}
+use Rattle.cc_grammar.specs.Grammar.{symbol, named, Spell, base_word, shape_terminals, type_terminals, set_terminals, IsShape, IsType, CanTake}
 use Rattle.cc_grammar.specs.Tests.{begins_symbol, is_symbol, name_of}
-use Rattle.cc_grammar.specs.Reading.{Found, Got, Wrong, High, Reader, Readers, ◌>>=◌, ShapePart, TypePart, Parts, pieces_at, set_at, ShapeRule, ExitShapeRule, BoxShapeRule, InnerRule, NamedInnerRule, FunctionShapeRule, TypeFunctionShapeRule, shape_pieces, shape_tree, shape_rule_at, named_at, paren_at, ShapeStart, ExitStart, BoxStart, ParenStart, TypeFunctionStart, ShapeHead, WholeShape, StartsShape, NoShape, shape_head, shape_start_at, shape_over, shape_place, type_over, part_at}
+use Rattle.cc_grammar.specs.Reading.{Got, High, ◌>>=◌, ShapePart, TypePart, Parts, pieces_at, set_at, ShapeRule, ExitShapeRule, BoxShapeRule, InnerRule, NamedInnerRule, FunctionShapeRule, TypeFunctionShapeRule, shape_pieces, shape_tree, shape_rule_at, named_at, paren_at, ShapeStart, ExitStart, BoxStart, ParenStart, TypeFunctionStart, WholeShape, StartsShape, shape_head, shape_start_at, shape_over, shape_place, type_over, part_at}
 use Rattle.cc_grammar.proofs.Spelling.{is_symbol-same, Split, spell-split, spell-unplaced, First, first-more, standing-place}
 use Rattle.cc_grammar.proofs.PieceLanguages.{parts_terminals, parts_height}
 use Rattle.cc_grammar.proofs.ShapeRules.{shape-positive, type-positive, shape-height, shape-first}
-use Rattle.cc_grammar.proofs.Complete.{IsHigh, high-then, Bounded, BoundedBy, SetStops, TypeStops, ShapeStops, Stopper, IsSane, LastStops, sane-stops, KindReads, AllRead, pieces-read, set-read}
+use Rattle.cc_grammar.proofs.Complete.{IsHigh, high-then, Bounded, SetStops, TypeStops, ShapeStops, Stopper, IsSane, LastStops, sane-stops, KindReads, AllRead, pieces-read, set-read}
 
 -- SIGNS BEFORE WHICH ALL STOPS
 
@@ -34,9 +32,10 @@ shape_rule-read rule at p reads sane m ts rest last h =
     let height = shape-height rule at p in
     record {
       low = λ small.
-        let spares : min m (suc m - parts_height (shape_pieces rule) p) ≡ suc (suc m) - shape_height (shape_tree rule at p) = omega arith in
-        rw (b.low (omega arith)) (ap (λ x. Got (shape_tree rule at p) x rest) spares);
-      high = λ great. high-then (pieces_at (part_at m) (shape_pieces rule) m (ts ++ rest)) _ (b.high (omega arith)) }
+          let spares : min m (suc m - parts_height (shape_pieces rule) p) ≡ suc (suc m) - shape_height (shape_tree rule at p) = omega arith in
+          rw (b.low (omega arith)) (ap (λ x. Got (shape_tree rule at p) x rest) spares);
+      high = λ great. high-then (pieces_at (part_at m) (shape_pieces rule) m (ts ++ rest)) _ (b.high (omega arith));
+    }
 
 -- a shape of more than one token, from its first token on
 started : (start : ShapeStart) (tree : Place → ShapeSyntax) (height : ℕ) (at : Place) (t : PlacedLexeme) (us rest : List PlacedLexeme) → shape_head t.at t.lexeme ≡ StartsShape start → t.at ≡ at → 2 ≤ height → ((m : ℕ) → Bounded height (suc m) (shape_start_at (part_at m) m t.at start us) (tree t.at) rest) → (n : ℕ) → Bounded height n (part_at n ShapePart (t ∷ us)) (tree at) rest
@@ -141,6 +140,7 @@ inner_name-read place x at m (u ∷ w ∷ []) rest (l, (p, q), (c, r, h)) =
   where
     closes : is_symbol symbols.Colon w.lexeme ≡ false
     closes = rw c refl
+
     here : paren_at (part_at m) m at (u ∷ w ∷ rest) ≡ shape_rule_at (part_at m) m at (NamedInnerRule place x) (w ∷ rest)
     here = rw (l, paren_at) (rw closes (ap (λ a. shape_rule_at (part_at m) m at (NamedInnerRule a x) (w ∷ rest)) p))
 
@@ -218,18 +218,22 @@ type-first at shape set (t ∷ ts) h f =
 capturing-read : (at : Place) (shape : ShapeSyntax) (set : SetSyntax) → CanTake shape set → KindReads ShapePart shape → KindReads TypePart (CapturingType at shape set)
 capturing-read at shape set can read n ts rest h stops = record {
   low = λ small.
-    part-type n (ts ++ rest) ∙
-    (let e : part_at n ShapePart (ts ++ rest) ≡ Got shape (suc n - shape_height shape) (split.back ++ rest) = ap (part_at n ShapePart) whole ∙ b.low small in
-    let g : set_at (suc n - shape_height shape) (split.back ++ rest) ≡ Got set (suc n - shape_height shape) rest = set-read set (suc n - shape_height shape) split.back rest split.second stops in
-    rw e (rw g (ap (λ a. Got (CapturingType a shape set) (suc n - shape_height shape) rest) place)));
-  high = λ great. subst IsHigh (sym (part-type n (ts ++ rest))) (high-then (part_at n ShapePart (ts ++ rest)) _ (subst IsHigh (sym (ap (part_at n ShapePart) whole)) (b.high great))) }
+      part-type n (ts ++ rest) ∙
+      (let e : part_at n ShapePart (ts ++ rest) ≡ Got shape (suc n - shape_height shape) (split.back ++ rest) = ap (part_at n ShapePart) whole ∙ b.low small in
+      let g : set_at (suc n - shape_height shape) (split.back ++ rest) ≡ Got set (suc n - shape_height shape) rest = set-read set (suc n - shape_height shape) split.back rest split.second stops in
+      rw e (rw g (ap (λ a. Got (CapturingType a shape set) (suc n - shape_height shape) rest) place)));
+  high = λ great. subst IsHigh (sym (part-type n (ts ++ rest))) (high-then (part_at n ShapePart (ts ++ rest)) _ (subst IsHigh (sym (ap (part_at n ShapePart) whole)) (b.high great)));
+}
   where
     split : Split ts (shape_terminals shape) (set_terminals set)
     split = spell-split (shape_terminals shape) (set_terminals set) ts (spell-unplaced at ts _ h)
+
     place : shape_place shape ≡ at
     place = type-first at shape set ts h (subst (First (shape_place shape)) (sym split.whole) (first-more (shape_place shape) split.front split.back (shape-first shape split.front split.first)))
+
     whole : ts ++ rest ≡ split.front ++ (split.back ++ rest)
     whole = ap (λ x. x ++ rest) split.whole ∙ append_assoc split.front split.back rest
+
     b : Bounded (shape_height shape) n (part_at n ShapePart (split.front ++ (split.back ++ rest))) shape (split.back ++ rest)
     b = read n split.front (split.back ++ rest) split.first (shape-stops shape set split.back rest can split.second stops)
 

@@ -1,24 +1,23 @@
 -- The laws of readings: each list of tokens has the computed reading, and no other.
-use Rattle.std.proofs.Common.{◌≡◌, ◌∙◌, ◌⊎◌, inl, inr, ℕ, zero, suc, ◌+◌, ◌<◌, ◌≤◌, max, Bool, true, false, nat_le, List, [], ◌∷◌, ◌++◌, length, Option, Some, None, refl, sym, ap, subst, append_assoc, length-append, arith, if◌then◌else◌}
+use Rattle.std.proofs.Common.{◌≡◌, ◌∙◌, ◌⊎◌, inl, inr, ℕ, zero, suc, ◌+◌, ◌<◌, ◌≤◌, true, false, nat_le, List, [], ◌∷◌, ◌++◌, length, refl, sym, ap, subst, append_assoc, length-append, arith, if◌then◌else◌}
 use Rattle.std.specs.Prelude.{⊤}
-use Rattle.std.proofs.lemmas.List.{append-nil, append_cancel_left, append_cancel_right}
+use Rattle.std.proofs.lemmas.List.{append-nil, append_cancel_right}
 use Rattle.std.proofs.lemmas.Bool.Decides.{leb_tells}
-use Rattle.cc_base.specs.declared.place.Place.{Place}
 use Rattle.cc_lex.specs.declared.token.Word.TheVariants as words
 use Rattle.cc_lex.specs.Lexemes.{PlacedLexeme}
-use Rattle.cc_grammar.specs.Syntax.{ImportSyntax, DefSyntax, ModuleSyntax, written_height, expr_height}
+use Rattle.cc_grammar.specs.Syntax.{DefSyntax, ModuleSyntax}
 use Rattle.cc_grammar.specs.Grammar.{IsModule, IsLow, AreLowDefs}
-use Rattle.cc_grammar.specs.Reads.{Begins, BeginsLow, NoneGoesOn, OnlyHighGoOn, place_of, ModuleReading, TreeOf, SyntaxError, TooHigh, Reads}
+use Rattle.cc_grammar.specs.Reads.{Begins, BeginsLow, NoneGoesOn, OnlyHighGoOn, place_of, TreeOf, SyntaxError, TooHigh, Reads}
 use Rattle.cc_grammar.specs.Tests.{is_word}
 use Rattle.cc_grammar.specs.Reading.{Found, Got, Wrong, High, Reader, ◌>>=◌, import_at, imports_at, def_at, defs_at, module_at, reading_from, reading_of}
 use Rattle.cc_grammar.specs.Laws.{TokensReadAsTheyAre, TokensHaveOneReading, ModulesHaveOneTree, LowModulesAreRead}
-use Rattle.cc_grammar.proofs.Uniform.{Alike, UniformAt, Uniform, left_of, leaving, then-uniform}
+use Rattle.cc_grammar.proofs.Uniform.{Alike, Uniform, left_of, leaving, then-uniform}
 use Rattle.cc_grammar.proofs.UniformReaders.{made-uniform, import_at-uniform, imports_at-uniform, def_at-uniform, defs_at-uniform}
 use Rattle.cc_grammar.proofs.Sure.{BeginsIn}
 use Rattle.cc_grammar.proofs.SureShapes.{Behind}
-use Rattle.cc_grammar.proofs.SureModules.{SureIn, module_language, module_at-in, module_at-ends, def_height, defs_height}
+use Rattle.cc_grammar.proofs.SureModules.{SureIn, module_language, module_at-in, module_at-ends, defs_height}
 use Rattle.cc_grammar.proofs.Complete.{IsHigh}
-use Rattle.cc_grammar.proofs.CompleteModules.{Settles, module_in, module-same, module-read, module-tree}
+use Rattle.cc_grammar.proofs.CompleteModules.{module-same, module-read, module-tree}
 
 -- STEPS: more than enough of them make no difference
 

@@ -1,6 +1,6 @@
 -- Links and the room that is spare: what is found behind a link leaves less room, so that with as many steps as there is
 -- spare room all links are read, and one turn of a loop over them is what follows.
-use Rattle.std.proofs.Common.{◌≡◌, ◌∙◌, ℕ, zero, suc, ◌≤◌, min, Bool, true, false, List, [], ◌∷◌, Option, Some, None, refl, sym, ap, arith, if◌then◌else◌}
+use Rattle.std.proofs.Common.{◌≡◌, ℕ, zero, suc, ◌≤◌, min, Bool, true, false, List, [], ◌∷◌, Option, Some, None, refl, arith, if◌then◌else◌}
 use Rattle.std.specs.Prelude.{⊤}
 use Rattle.cc_base.specs.declared.literal.Op.{Op}
 use Rattle.cc_lex.specs.declared.token.Word.{Word}
@@ -10,7 +10,7 @@ use Rattle.cc_lex.specs.Lexemes.{PlacedLexeme}
 use Rattle.cc_grammar.specs.Syntax.{ExprSyntax}
 use Rattle.cc_grammar.specs.Grammar.{takes_argument}
 use Rattle.cc_grammar.specs.Tests.{is_word, is_symbol, name_of, operation_of}
-use Rattle.cc_grammar.specs.Reading.{Found, Got, Wrong, High, Reader, Readers, ◌>>=◌, Kind, TypePart, Piece, AWord, ASymbol, AName, APlacedName, Captures, Written, Part, PieceValue, Parts, word_at, symbol_at, name_at, placed_name_at, PlacedName, SetState, AtFirst, AtNext, Behind, SetStep, Ends, Takes, Separates, Misfits, set_step, elements_at, captures_at, written_at, one_part_at, piece_at, pieces_at, Link, OperatorLink, CallLink, TypeCallLink, DotLink, LinkRule, OperatorRule, CallRule, TypeCallRule, AskRule, TellRule, link_pieces, link_tree, link_rule_at, operation_at, dot_at, link_at, next_link, links_at, behind_first}
+use Rattle.cc_grammar.specs.Reading.{Found, Got, Wrong, High, Reader, Readers, ◌>>=◌, TypePart, Piece, AWord, ASymbol, AName, APlacedName, Captures, Written, Part, word_at, symbol_at, name_at, placed_name_at, PlacedName, SetState, AtFirst, AtNext, Behind, SetStep, Ends, Takes, Separates, Misfits, set_step, elements_at, captures_at, written_at, one_part_at, piece_at, pieces_at, Link, OperatorLink, CallLink, TypeCallLink, DotLink, LinkRule, OperatorRule, CallRule, TypeCallRule, AskRule, TellRule, link_pieces, link_tree, link_rule_at, operation_at, dot_at, link_at, next_link, links_at, behind_first}
 
 -- no more room is spare
 abbrev pub LeavesAtMost : {A : Type 0} → ℕ → Found A → Type 0
@@ -130,6 +130,7 @@ dot_at-most rd s e (t ∷ ts) = go (operation_of t.lexeme)
     operation : (o : Op) (b : Bool) → LeavesAtMost s (if b then link_rule_at rd s e (TellRule o) ts else link_rule_at rd s e (AskRule o) ts)
     operation o true = link_rule_at-most rd s e (TellRule o) ts
     operation o false = link_rule_at-most rd s e (AskRule o) ts
+
     go : (o : Option Op) → LeavesAtMost s (elim o [ None ↦ Wrong (t ∷ ts) | Some operation ↦ operation_at rd s e operation ts ])
     go None = tt
     go (Some o) = operation o (takes_argument o)

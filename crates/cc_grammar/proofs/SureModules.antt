@@ -1,19 +1,17 @@
 -- What the readers of imports, definitions and modules find is so.
-use Rattle.std.proofs.Common.{◌≡◌, ◌∙◌, ℕ, zero, suc, ◌+◌, ◌≤◌, min, max, Bool, true, false, List, [], ◌∷◌, ◌++◌, length, Option, Some, None, refl, sym, ap, subst, append_assoc, arith, if◌then◌else◌}
-use Rattle.std.specs.Prelude.{⊤}
+use Rattle.std.proofs.Common.{◌≡◌, ◌∙◌, ℕ, zero, suc, ◌≤◌, max, Bool, true, false, List, [], ◌∷◌, ◌++◌, length, refl, sym, ap, subst, append_assoc, arith, if◌then◌else◌}
 use Rattle.std.specs.List.{flat_map}
 use Rattle.std.proofs.lemmas.List.{append-nil}
-use Rattle.cc_base.specs.declared.place.Place.{Place}
 use Rattle.cc_lex.specs.declared.token.Word.TheVariants as words
 use Rattle.cc_lex.specs.declared.token.Symbol.TheVariants as symbols
-use Rattle.cc_lex.specs.Lexemes.{Lexeme, WordLexeme, PlacedLexeme}
+use Rattle.cc_lex.specs.Lexemes.{PlacedLexeme}
 use Rattle.cc_grammar.specs.Syntax.{ImportSyntax, DefSyntax, ModuleSyntax, written_height, expr_height}
 use Rattle.cc_grammar.specs.Grammar.{Terminal, word, symbol, named, standing_at, Spell, written_terminals, expr_terminals, import_terminals, def_terminals, module_terminals, IsDef, AreDefs}
 use Rattle.cc_grammar.specs.Tests.{is_word, begins_word}
 use Rattle.cc_grammar.specs.Reading.{Found, Got, Wrong, High, Reader, ◌>>=◌, Parts, pieces_at, part_at, top_room, import_pieces, import_tree, import_at, imports_at, DefRule, PlainRule, OwnRule, def_pieces, def_tree, def_rule_at, def_at, defs_at, module_at}
 use Rattle.cc_grammar.proofs.Spelling.{word-is, spell-append}
-use Rattle.cc_grammar.proofs.Sure.{Language, BeginsIn, BeginsSome, SureAt, Filler}
-use Rattle.cc_grammar.proofs.PieceLanguages.{parts_language, parts_terminals, parts_height, AreParts, AreFair, parts-filler}
+use Rattle.cc_grammar.proofs.Sure.{Language, BeginsIn, BeginsSome, SureAt}
+use Rattle.cc_grammar.proofs.PieceLanguages.{parts_language, parts_terminals, parts_height, AreParts, AreFair}
 use Rattle.cc_grammar.proofs.SurePieces.{pieces_at-sure}
 use Rattle.cc_grammar.proofs.SureShapes.{Behind, behind-then, behind-made}
 use Rattle.cc_grammar.proofs.SureExprs.{part_at-sure}
@@ -41,6 +39,7 @@ then-in {A} {B} {C} la lb lc pair room join heights none spelled flat ts (Got v 
   where
     joined : (w : B) (xs ys : List PlacedLexeme) → lb.spells w (xs ++ ys) → lc.spells (pair v w) (front ++ xs ++ ys)
     joined w xs ys h = rw append_assoc (join v w front (xs ++ ys) sp h)
+
     go : (f : Found B) → SureIn lb room rest f → SureIn lc room ts (f >>= λ w less behind. Got (pair v w) less behind)
     go (Got w less behind) (more, f, sq, lr) = (front ++ more, longer ts front rest more behind e f, join v w front more sp sq, rw heights (omega arith))
     go (Wrong behind) (more, f, (w, ys, h, sq)) = (front ++ more, longer ts front rest more behind e f, (pair v w, ys, rw heights (omega arith), joined w more ys sq))

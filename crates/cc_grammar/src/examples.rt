@@ -21,6 +21,11 @@ pub fn texts()
     ensures imports_come_first { example.ImportsComeFirst }
     ensures no_import_behind_a_definition { example.NoImportBehindADefinition }
     ensures shapes_in_parentheses { example.ShapesInParentheses }
+    ensures arrow_is_wanted { example.ArrowIsWanted }
+    ensures names_follow_rec { example.NamesFollowRec }
+    ensures comma_wants_an_element { example.CommaWantsAnElement }
+    ensures box_takes_calls { example.BoxTakesCalls }
+    ensures box_takes_no_product { example.BoxTakesNoProduct }
     ensures hundred_parentheses_are_too_high { example.HundredParenthesesAreTooHigh }
     ensures ninety_nine_parentheses_are_not { example.NinetyNineParenthesesAreNot }
 {}

@@ -1,7 +1,10 @@
 //! What holds of every list of tokens, as contracts that need no call.
 
 ghost use Rattle.cc_grammar.specs.Laws.{
-    TokensReadAsTheyAre, TokensHaveOneReading, ModulesHaveOneTree, LowModulesAreRead,
+  TokensReadAsTheyAre,
+  TokensHaveOneReading,
+  ModulesHaveOneTree,
+  LowModulesAreRead,
 };
 
 /// The reading that is computed of a list of tokens is one that it has: its tree, the place of its syntax error, or the
