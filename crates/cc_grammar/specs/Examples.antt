@@ -6,7 +6,8 @@ use Rattle.cc_base.specs.declared.literal.Op.TheVariants as ops
 use Rattle.cc_lex.specs.declared.token.Word.TheVariants as words
 use Rattle.cc_lex.specs.declared.token.Symbol.TheVariants as symbols
 use Rattle.cc_lex.specs.Lexemes.{Lexeme, NameLexeme, WordLexeme, SymbolLexeme, PlacedLexeme}
-use Rattle.cc_grammar.specs.Syntax.{AbsentSet, OmittedSet, WrittenSet, CapturingType, NamedShape, BoxShape, ParenthesizedShape, FunctionShape, NameExpr, ParenthesizedExpr, FunExpr, OperatorExpr, BoxExpr, UnboxExpr, CallExpr, AskExpr, TellExpr}
+use Rattle.cc_grammar.specs.Syntax.{AbsentSet, OmittedSet, WrittenSet, CapturingType, NamedShape, BoxShape, ParenthesizedShape, FunctionShape, NameExpr, ParenthesizedExpr, FunExpr, OperatorExpr, BoxExpr, UnboxExpr, CallExpr, AskExpr, TellExpr, ExprSyntax, expr_height, shape_height}
+use Rattle.cc_grammar.specs.Grammar.{IsExpr}
 use Rattle.cc_grammar.specs.Reads.{TreeOf, SyntaxError, TooHigh}
 use Rattle.cc_grammar.specs.Reading.{reading_of}
 
@@ -379,3 +380,32 @@ NinetyNineParenthesesAreNot =
     reading_of
     (token 1 (WordLexeme words.Def) ∷ token 5 (NameLexeme (codes "f")) ∷ token 7 (SymbolLexeme symbols.Equals) ∷
     (parentheses 9 99 ++ token 108 (NameLexeme (codes "a")) ∷ [])) (place 109) ≡ SyntaxError (place 109)
+
+-- a leaf, and any place
+abbrev pub leaf : ExprSyntax
+leaf = NameExpr (place 1) (codes "a")
+
+-- `(a)(a)`: parentheses count
+abbrev pub HeightsCountParentheses : Type 0
+HeightsCountParentheses = expr_height (CallExpr (place 1) (ParenthesizedExpr (place 1) leaf) leaf) ≡ 3
+
+-- `unbox {b} a`: a set has no height
+abbrev pub SetsHaveNoHeight : Type 0
+SetsHaveNoHeight =
+    expr_height (UnboxExpr (place 1) (Some (record { at = place 1; name = Some (codes "b") } ∷ [])) leaf) ≡ 2
+
+-- `Box[T^{cap}]`: a type has the height of its shape
+abbrev pub TypesHaveTheHeightOfTheirShapes : Type 0
+TypesHaveTheHeightOfTheirShapes =
+    shape_height (BoxShape (place 1)
+    (CapturingType (place 1) (NamedShape (place 1) (codes "T")) (WrittenSet (record { at = place 1; name = None } ∷ [])))) ≡ 2
+
+-- `a * (a + a)` is an expression, and without the parentheses it is not that tree
+abbrev pub SumsAreNoFactors : Type 0
+SumsAreNoFactors =
+    IsExpr (OperatorExpr (place 1) operators.Mul leaf (OperatorExpr (place 1) operators.Add leaf leaf)) → ⊥
+
+abbrev pub SumsInParenthesesAreFactors : Type 0
+SumsInParenthesesAreFactors =
+    IsExpr (OperatorExpr (place 1) operators.Mul leaf
+    (ParenthesizedExpr (place 1) (OperatorExpr (place 1) operators.Add leaf leaf)))

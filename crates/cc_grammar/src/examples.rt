@@ -29,3 +29,13 @@ pub fn texts()
     ensures hundred_parentheses_are_too_high { example.HundredParenthesesAreTooHigh }
     ensures ninety_nine_parentheses_are_not { example.NinetyNineParenthesesAreNot }
 {}
+
+/// Heights, and which trees are expressions.
+#[tactic(auto, using(crate::proofs::WorkedTexts::worked))]
+pub fn trees()
+    ensures heights_count_parentheses { example.HeightsCountParentheses }
+    ensures sets_have_no_height { example.SetsHaveNoHeight }
+    ensures types_have_the_height_of_their_shapes { example.TypesHaveTheHeightOfTheirShapes }
+    ensures sums_are_no_factors { example.SumsAreNoFactors }
+    ensures sums_in_parentheses_are_factors { example.SumsInParenthesesAreFactors }
+{}
