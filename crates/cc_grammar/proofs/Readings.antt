@@ -3,6 +3,7 @@ use Rattle.std.proofs.Common.{◌≡◌, ◌∙◌, ◌⊎◌, inl, inr, ℕ, ze
 use Rattle.std.specs.Prelude.{⊤}
 use Rattle.std.proofs.lemmas.List.{append-nil, append_cancel_right}
 use Rattle.std.proofs.lemmas.Bool.Decides.{leb_tells}
+use Rattle.cc_base.specs.declared.place.Place.{Place}
 use Rattle.cc_lex.specs.declared.token.Word.TheVariants as words
 use Rattle.cc_lex.specs.Lexemes.{PlacedLexeme}
 use Rattle.cc_grammar.specs.Syntax.{DefSyntax, ModuleSyntax}
@@ -10,7 +11,7 @@ use Rattle.cc_grammar.specs.Grammar.{IsModule, IsLow, AreLowDefs}
 use Rattle.cc_grammar.specs.Reads.{Begins, BeginsLow, NoneGoesOn, OnlyHighGoOn, place_of, TreeOf, SyntaxError, TooHigh, Reads}
 use Rattle.cc_grammar.specs.Tests.{is_word}
 use Rattle.cc_grammar.specs.Reading.{Found, Got, Wrong, High, Reader, ◌>>=◌, import_at, imports_at, def_at, defs_at, module_at, reading_from, reading_of}
-use Rattle.cc_grammar.specs.Laws.{TokensReadAsTheyAre, TokensHaveOneReading, ModulesHaveOneTree, LowModulesAreRead}
+use Rattle.cc_grammar.specs.Laws.{TokensReadAsTheyAre, TokensHaveOneReading, ModulesHaveOneTree, LowModulesAreRead, HighModulesAreTooHigh}
 use Rattle.cc_grammar.proofs.Uniform.{Alike, Uniform, left_of, leaving, then-uniform}
 use Rattle.cc_grammar.proofs.UniformReaders.{made-uniform, import_at-uniform, imports_at-uniform, def_at-uniform, defs_at-uniform}
 use Rattle.cc_grammar.proofs.Sure.{BeginsIn}
@@ -159,6 +160,20 @@ tokens_read_as_they_are tokens end = go (module_at tokens) refl (module_at-in to
 pub low_modules_are_read : LowModulesAreRead
 unfolding reading_of
 low_modules_are_read tokens end it is low = ap (reading_from end) ((module-low it tokens is low).1)
+
+-- a high one is too high
+pub high_modules_are_too_high : HighModulesAreTooHigh
+unfolding reading_of
+high_modules_are_too_high tokens end it is tall = go (leb_tells (defs_height it.defs) 100)
+  where
+    read : (found : Found ModuleSyntax) → IsHigh found → (at : Place) × (reading_from end found ≡ TooHigh at)
+    read (Got v s rest) h = absurd h
+    read (Wrong rest) h = absurd h
+    read (High rest) h = (place_of rest end, refl)
+
+    go : ((nat_le (defs_height it.defs) 100 ≡ true) × (defs_height it.defs ≤ 100)) ⊎ ((nat_le (defs_height it.defs) 100 ≡ false) × (100 < defs_height it.defs)) → (at : Place) × (reading_from end (module_at tokens) ≡ TooHigh at)
+    go (inl k) = absurd (tall (low-is it.defs k.1))
+    go (inr k) = read (module_at tokens) (subst IsHigh (module-same tokens) ((module-read it tokens is 99).high k.1))
 
 pub modules_have_one_tree : ModulesHaveOneTree
 modules_have_one_tree tokens a b p q = module-tree tokens a b p q

@@ -4,7 +4,7 @@ use Rattle.cc_base.specs.declared.place.Place.{Place}
 use Rattle.cc_lex.specs.Lexemes.{PlacedLexeme}
 use Rattle.cc_grammar.specs.Syntax.{ModuleSyntax}
 use Rattle.cc_grammar.specs.Grammar.{IsModule, IsLow}
-use Rattle.cc_grammar.specs.Reads.{ModuleReading, TreeOf, Reads}
+use Rattle.cc_grammar.specs.Reads.{ModuleReading, TreeOf, TooHigh, Reads}
 use Rattle.cc_grammar.specs.Reading.{reading_of}
 
 -- the computed reading is one that the tokens have
@@ -25,3 +25,9 @@ abbrev pub LowModulesAreRead : Type 0
 LowModulesAreRead =
     (tokens : List PlacedLexeme) (end : Place) (it : ModuleSyntax) → IsModule tokens it → IsLow it →
     reading_of tokens end ≡ TreeOf it
+
+-- what is a module with a tree that is too high is read as too high
+abbrev pub HighModulesAreTooHigh : Type 0
+HighModulesAreTooHigh =
+    (tokens : List PlacedLexeme) (end : Place) (it : ModuleSyntax) → IsModule tokens it → (IsLow it → ⊥) →
+    (at : Place) × (reading_of tokens end ≡ TooHigh at)

@@ -5,6 +5,7 @@ ghost use Rattle.cc_grammar.specs.Laws.{
   TokensHaveOneReading,
   ModulesHaveOneTree,
   LowModulesAreRead,
+  HighModulesAreTooHigh,
 };
 
 /// The reading that is computed of a list of tokens is one that it has: its tree, the place of its syntax error, or the
@@ -30,4 +31,9 @@ pub fn modules_have_one_tree()
 #[tactic(auto, using(crate::proofs::Readings::low_modules_are_read))]
 pub fn low_modules_are_read()
     ensures { LowModulesAreRead }
+{}
+
+/// A module with a tree that is too high is read as too high.
+pub fn high_modules_are_too_high()
+    ensures { HighModulesAreTooHigh }
 {}
