@@ -1,17 +1,16 @@
 -- On the tokens of a tree a reader gives the tree, with the room that it leaves, or has no room for it: it never refuses them.
-use Rattle.std.proofs.Common.{◌≡◌, ◌∙◌, ◌⊎◌, inl, inr, ℕ, zero, suc, ◌+◌, ◌-◌, ◌<◌, ◌≤◌, min, max, Bool, true, false, nat_le, List, [], ◌∷◌, ◌++◌, Option, Some, None, refl, sym, ap, subst, append_assoc, arith, if◌then◌else◌}
+use Rattle.std.proofs.Common.{◌≡◌, ◌∙◌, ◌⊎◌, inl, inr, ℕ, suc, ◌-◌, ◌<◌, ◌≤◌, min, max, true, false, nat_le, List, [], ◌∷◌, ◌++◌, Option, Some, None, refl, sym, ap, subst, append_assoc, arith}
 use Rattle.std.specs.Prelude.{⊤}
 use Rattle.std.proofs.lemmas.Bool.Decides.{leb_tells}
 use Rattle.cc_base.specs.declared.place.Place.{Place}
 use Rattle.cc_lex.specs.declared.token.Word.{Word}
-use Rattle.cc_lex.specs.declared.token.Word.TheVariants as words
 use Rattle.cc_lex.specs.declared.token.Symbol.{Symbol}
 use Rattle.cc_lex.specs.declared.token.Symbol.TheVariants as symbols
-use Rattle.cc_lex.specs.Lexemes.{Lexeme, NameLexeme, WordLexeme, SymbolLexeme, PlacedLexeme}
+use Rattle.cc_lex.specs.Lexemes.{Lexeme, WordLexeme, SymbolLexeme, PlacedLexeme}
 use Rattle.cc_grammar.specs.Syntax.{ElementSyntax, SetSyntax, AbsentSet, OmittedSet, WrittenSet, TypeSyntax, CapturingType, ShapeSyntax, FunctionShape, TypeFunctionShape, written_height, type_height}
 use Rattle.cc_grammar.specs.Grammar.{Terminal, word, symbol, standing_at, Spell, element_lexeme, set_terminals, captures_terminals}
-use Rattle.cc_grammar.specs.Tests.{is_word, is_symbol, begins_symbol, name_of}
-use Rattle.cc_grammar.specs.Reading.{Found, Got, Wrong, High, Reader, Readers, ◌>>=◌, Kind, ShapePart, TypePart, ExprPart, Value, Piece, AWord, ASymbol, AName, APlacedName, Captures, Written, Part, PieceValue, Parts, word_at, symbol_at, name_at, placed_name_at, SetState, AtFirst, AtNext, Behind, SetStep, Ends, Takes, Separates, Misfits, set_step, elements_at, caret_step, caret_at, set_at, captures_at, written_at, one_part_at, piece_at, pieces_at, Link, link_of, link_level, part_at}
+use Rattle.cc_grammar.specs.Tests.{is_symbol, begins_symbol}
+use Rattle.cc_grammar.specs.Reading.{Found, Got, Wrong, High, Reader, ◌>>=◌, Kind, ShapePart, TypePart, ExprPart, Value, Piece, AWord, ASymbol, AName, APlacedName, Captures, Written, Part, PieceValue, Parts, word_at, symbol_at, name_at, placed_name_at, SetState, AtFirst, AtNext, Behind, Ends, Takes, Separates, set_step, elements_at, caret_at, set_at, captures_at, written_at, one_part_at, piece_at, pieces_at, Link, link_of, link_level, part_at}
 use Rattle.cc_grammar.proofs.Spelling.{is_word-same, is_symbol-same, spell-split}
 use Rattle.cc_grammar.proofs.PieceLanguages.{kind_terminals, kind_height, piece_terminals, piece_height, parts_terminals, parts_height}
 use Rattle.cc_grammar.proofs.SurePieces.{state_terminals}
@@ -349,11 +348,12 @@ piece-read (Part kind) v reads n s le ts rest h stops = one_part-read kind v rea
 then-read : {A B : Type 0} (a b n s : ℕ) (v : A) (w : B) (found : Found A) (mid rest : List PlacedLexeme) (next : A → ℕ → Reader B) → s ≤ n → BoundedBy a n s found v mid → ((left : ℕ) → left ≤ n → BoundedBy b n left (next v left mid) w rest) → BoundedBy {A = A × B} (max a b) n s (found >>= λ x left r. next x left r >>= λ y less q. Got (x, y) less q) (v, w) rest
 then-read {A} {B} a b n s v w found mid rest next le first second = record {
   low = λ h.
-    let e = first.low (omega arith) in
-    let f = (second (min s (suc n - a)) (omega arith)).low (omega arith) in
-    let spares : min (min s (suc n - a)) (suc n - b) ≡ min s (suc n - max a b) = omega arith in
-    rw e (rw f (ap (λ x. Got (v, w) x rest) spares));
-  high = λ h. go (leb_tells a (suc n)) h }
+      let e = first.low (omega arith) in
+      let f = (second (min s (suc n - a)) (omega arith)).low (omega arith) in
+      let spares : min (min s (suc n - a)) (suc n - b) ≡ min s (suc n - max a b) = omega arith in
+      rw e (rw f (ap (λ x. Got (v, w) x rest) spares));
+  high = λ h. go (leb_tells a (suc n)) h;
+}
   where
     go : ((nat_le a (suc n) ≡ true) × (a ≤ suc n)) ⊎ ((nat_le a (suc n) ≡ false) × (suc n < a)) → suc n < max a b → IsHigh {A = A × B} (found >>= λ x left r. next x left r >>= λ y less q. Got (x, y) less q)
     go (inr k) h = high-then found _ (first.high k.1)

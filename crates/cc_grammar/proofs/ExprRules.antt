@@ -1,21 +1,18 @@
 -- What the rules of expressions make of their pieces.
-use Rattle.std.proofs.Common.{◌≡◌, ◌∙◌, ℕ, zero, suc, ◌+◌, ◌<◌, ◌≤◌, max, Bool, true, false, List, [], ◌∷◌, ◌++◌, Option, Some, None, refl, sym, ap, subst, arith}
+use Rattle.std.proofs.Common.{◌≡◌, ℕ, ◌+◌, ◌≤◌, max, true, false, List, [], ◌∷◌, ◌++◌, Some, refl, subst, arith}
 use Rattle.std.specs.Prelude.{⊤}
 use Rattle.std.proofs.lemmas.List.{append-nil}
 use Rattle.cc_base.specs.declared.place.Place.{Place}
 use Rattle.cc_base.specs.declared.literal.Operator.{Operator}
 use Rattle.cc_base.specs.declared.literal.Operator.TheVariants as operators
-use Rattle.cc_base.specs.declared.literal.Op.{Op}
-use Rattle.cc_base.specs.Literals.{Literal, UnitLiteral, TruthLiteral, NumberLiteral, TextLiteral}
 use Rattle.cc_lex.specs.declared.token.Word.TheVariants as words
 use Rattle.cc_lex.specs.declared.token.Symbol.TheVariants as symbols
 use Rattle.cc_lex.specs.Lexemes.{Lexeme, NameLexeme, NumberLexeme, TextLexeme, WordLexeme, SymbolLexeme, PlacedLexeme}
 use Rattle.cc_grammar.specs.Syntax.{ExprSyntax, NameExpr, LiteralExpr, ParenthesizedExpr, ValExpr, FunExpr, TypeFunExpr, IfExpr, BoundaryExpr, OperatorExpr, BoxExpr, UnboxExpr, CallExpr, TypeCallExpr, AskExpr, TellExpr, ExitExpr, RepeatExpr, expr_height}
-use Rattle.cc_grammar.specs.Grammar.{Terminal, terminal, word, symbol, named, standing_at, Spell, expr_terminals, operator_symbol, operation_name, takes_argument, operator_level, left_level, level, IsExpr}
-use Rattle.cc_grammar.specs.Reading.{Parts, ExprRule, ParenRule, ValRule, FunRule, TypeFunRule, IfRule, BoundaryRule, BoxRule, UnboxRule, ExitRule, RepeatRule, expr_pieces, expr_tree, rule_level, ExprStart, FunStart, RuleStart, start_level, ExprHead, WholeExpr, StartsExpr, NoExpr, expr_head, Link, OperatorLink, CallLink, TypeCallLink, DotLink, link_of, link_level, link_left, LinkRule, OperatorRule, CallRule, TypeCallRule, AskRule, TellRule, link_pieces, expr_place, link_tree}
+use Rattle.cc_grammar.specs.Grammar.{Terminal, word, symbol, named, standing_at, Spell, expr_terminals, operator_symbol, operation_name, takes_argument, operator_level, left_level, level, IsExpr}
+use Rattle.cc_grammar.specs.Reading.{Parts, ExprRule, ParenRule, ValRule, FunRule, TypeFunRule, IfRule, BoundaryRule, BoxRule, UnboxRule, ExitRule, RepeatRule, expr_pieces, expr_tree, rule_level, ExprStart, FunStart, RuleStart, WholeExpr, StartsExpr, expr_head, Link, OperatorLink, CallLink, TypeCallLink, DotLink, link_of, LinkRule, OperatorRule, CallRule, TypeCallRule, AskRule, TellRule, link_pieces, expr_place, link_tree}
 use Rattle.cc_grammar.proofs.Spelling.{First, first-standing}
 use Rattle.cc_grammar.proofs.PieceLanguages.{parts_terminals, parts_height, AreParts, AreFair}
-use Rattle.cc_grammar.proofs.ShapeRules.{shape-positive, type-positive}
 
 pub expr-positive : (e : ExprSyntax) → 1 ≤ expr_height e
 expr-positive (NameExpr at name) = omega arith

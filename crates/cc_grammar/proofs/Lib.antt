@@ -1,12 +1,18 @@
 pub mod WorkedTexts
-pub mod Uniform
-pub mod UniformReaders
-pub mod Sure
+mod Uniform
+mod UniformReaders
+mod Sure
 pub mod Spelling
-pub mod PieceLanguages
-pub mod SurePieces
-pub mod ShapeRules
-pub mod SureShapes
-pub mod ExprRules
-pub mod SureExprs
-pub mod Complete
+mod PieceLanguages
+mod SurePieces
+mod ShapeRules
+mod SureShapes
+mod ExprRules
+mod SureExprs
+mod Complete
+mod CompleteShapes
+mod CompleteExprs
+mod SureModules
+mod CompleteModules
+pub mod Readings
+pub mod Rooms

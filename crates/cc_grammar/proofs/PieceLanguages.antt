@@ -1,13 +1,10 @@
 -- The languages of the pieces of productions, and that each of them has a value of height at most 1.
-use Rattle.std.proofs.Common.{◌≡◌, ◌∙◌, ℕ, zero, suc, ◌+◌, ◌≤◌, max, Bool, true, false, List, [], ◌∷◌, ◌++◌, codes, Option, Some, None, refl, sym, ap, subst, arith}
+use Rattle.std.proofs.Common.{ℕ, ◌≤◌, max, List, [], ◌∷◌, ◌++◌, codes, None, refl, arith}
 use Rattle.std.specs.Prelude.{⊤}
 use Rattle.cc_base.specs.declared.place.Place.{Place}
-use Rattle.cc_lex.specs.declared.token.Word.{Word}
-use Rattle.cc_lex.specs.declared.token.Symbol.{Symbol}
-use Rattle.cc_lex.specs.declared.token.Symbol.TheVariants as symbols
 use Rattle.cc_lex.specs.Lexemes.{Lexeme, NameLexeme, WordLexeme, SymbolLexeme, PlacedLexeme}
-use Rattle.cc_grammar.specs.Syntax.{ElementSyntax, SetSyntax, AbsentSet, OmittedSet, WrittenSet, TypeSyntax, CapturingType, ShapeSyntax, NamedShape, ExprSyntax, NameExpr, shape_height, type_height, expr_height, written_height}
-use Rattle.cc_grammar.specs.Grammar.{Terminal, terminal, word, symbol, named, standing_at, Spell, captures_terminals, written_terminals, shape_terminals, type_terminals, expr_terminals, IsShape, IsType, IsExpr, IsWritten, level}
+use Rattle.cc_grammar.specs.Syntax.{AbsentSet, CapturingType, NamedShape, NameExpr, shape_height, type_height, expr_height, written_height}
+use Rattle.cc_grammar.specs.Grammar.{Terminal, word, symbol, named, standing_at, Spell, captures_terminals, written_terminals, shape_terminals, type_terminals, expr_terminals, IsShape, IsType, IsExpr, IsWritten, level}
 use Rattle.cc_grammar.specs.Reading.{Kind, ShapePart, TypePart, ExprPart, Value, Piece, AWord, ASymbol, AName, APlacedName, Captures, Written, Part, PieceValue, Parts}
 use Rattle.cc_grammar.proofs.Spelling.{spell-append}
 use Rattle.cc_grammar.proofs.Sure.{Language, Filler}
@@ -111,11 +108,23 @@ some_token lexeme = record { lexeme = lexeme; at = anywhere } ∷ []
 
 pub kind-filler : (kind : Kind) → IsFair kind → Filler (kind_language kind)
 kind-filler ShapePart fair = record {
-  value = NamedShape anywhere any_name; tokens = some_token (NameLexeme any_name); spelled = (tt, (refl, (refl, tt), tt)); low = omega arith }
+  value = NamedShape anywhere any_name;
+  tokens = some_token (NameLexeme any_name);
+  spelled = (tt, (refl, (refl, tt), tt));
+  low = omega arith;
+}
 kind-filler TypePart fair = record {
-  value = CapturingType anywhere (NamedShape anywhere any_name) AbsentSet; tokens = some_token (NameLexeme any_name); spelled = ((tt, tt), (refl, (refl, (refl, tt)), tt)); low = omega arith }
+  value = CapturingType anywhere (NamedShape anywhere any_name) AbsentSet;
+  tokens = some_token (NameLexeme any_name);
+  spelled = ((tt, tt), (refl, (refl, (refl, tt)), tt));
+  low = omega arith;
+}
 kind-filler (ExprPart least) fair = record {
-  value = NameExpr anywhere any_name; tokens = some_token (NameLexeme any_name); spelled = ((tt, fair), (refl, (refl, tt), tt)); low = omega arith }
+  value = NameExpr anywhere any_name;
+  tokens = some_token (NameLexeme any_name);
+  spelled = ((tt, fair), (refl, (refl, tt), tt));
+  low = omega arith;
+}
 
 pub piece-filler : (piece : Piece) → IsFairPiece piece → Filler (piece_language piece)
 piece-filler (AWord w) fair = record { value = tt; tokens = some_token (WordLexeme w); spelled = (tt, (refl, tt, tt)); low = omega arith }

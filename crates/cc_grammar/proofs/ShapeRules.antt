@@ -1,15 +1,13 @@
 -- What the rules of shapes make of their pieces.
-use Rattle.std.proofs.Common.{◌≡◌, ◌∙◌, ℕ, zero, suc, ◌+◌, ◌≤◌, max, Bool, true, false, List, [], ◌∷◌, ◌++◌, Option, Some, None, refl, sym, ap, subst, arith}
-use Rattle.std.specs.Prelude.{⊤}
+use Rattle.std.proofs.Common.{◌≡◌, ◌+◌, ◌≤◌, max, List, [], ◌∷◌, ◌++◌, refl, subst, arith}
 use Rattle.std.proofs.lemmas.List.{append-nil}
 use Rattle.cc_base.specs.declared.place.Place.{Place}
-use Rattle.cc_base.specs.declared.literal.Base.TheVariants as bases
 use Rattle.cc_lex.specs.declared.token.Word.TheVariants as words
 use Rattle.cc_lex.specs.declared.token.Symbol.TheVariants as symbols
 use Rattle.cc_lex.specs.Lexemes.{Lexeme, NameLexeme, NumberLexeme, TextLexeme, WordLexeme, SymbolLexeme, PlacedLexeme}
-use Rattle.cc_grammar.specs.Syntax.{SetSyntax, AbsentSet, OmittedSet, WrittenSet, TypeSyntax, CapturingType, ShapeSyntax, BaseShape, AnyShape, NamedShape, ExitShape, BoxShape, ParenthesizedShape, FunctionShape, TypeFunctionShape, shape_height, type_height}
-use Rattle.cc_grammar.specs.Grammar.{Terminal, terminal, word, symbol, named, standing_at, Spell, shape_terminals, type_terminals, IsShape, IsType}
-use Rattle.cc_grammar.specs.Reading.{Parts, ShapeRule, ExitShapeRule, BoxShapeRule, InnerRule, NamedInnerRule, FunctionShapeRule, TypeFunctionShapeRule, shape_pieces, shape_tree, ShapeStart, ExitStart, BoxStart, ParenStart, TypeFunctionStart, ShapeHead, WholeShape, StartsShape, NoShape, shape_head, shape_place}
+use Rattle.cc_grammar.specs.Syntax.{TypeSyntax, CapturingType, ShapeSyntax, BaseShape, AnyShape, NamedShape, ExitShape, BoxShape, ParenthesizedShape, FunctionShape, TypeFunctionShape, shape_height, type_height}
+use Rattle.cc_grammar.specs.Grammar.{Terminal, word, symbol, named, standing_at, Spell, shape_terminals, IsShape}
+use Rattle.cc_grammar.specs.Reading.{Parts, ShapeRule, ExitShapeRule, BoxShapeRule, InnerRule, NamedInnerRule, FunctionShapeRule, TypeFunctionShapeRule, shape_pieces, shape_tree, ShapeStart, ExitStart, BoxStart, ParenStart, TypeFunctionStart, WholeShape, StartsShape, shape_head, shape_place}
 use Rattle.cc_grammar.proofs.Spelling.{First, first-standing}
 use Rattle.cc_grammar.proofs.PieceLanguages.{parts_terminals, parts_height, AreParts, AreFair}
 

@@ -1,6 +1,5 @@
 -- The tests of tokens say which token it is, and the tokens of several terminals are those of each.
-use Rattle.std.proofs.Common.{◌≡◌, ◌∙◌, ℕ, Bool, true, false, nat_eq, eqb, List, [], ◌∷◌, ◌++◌, get_or, codes, Option, Some, None, refl, sym, ap, subst, if◌then◌else◌}
-use Rattle.std.specs.Prelude.{⊤}
+use Rattle.std.proofs.Common.{◌≡◌, ◌∙◌, ℕ, Bool, true, false, List, [], ◌∷◌, ◌++◌, get_or, codes, Some, None, refl, sym, ap, subst, if◌then◌else◌}
 use Rattle.std.specs.Str.{bytes_eq}
 use Rattle.std.proofs.lemmas.Bool.{eqb-true, eq-eqb}
 use Rattle.std.proofs.lemmas.Slice.Eq.{bytes_eq-Decides}
@@ -12,7 +11,7 @@ use Rattle.cc_lex.specs.declared.token.Word.TheVariants as words
 use Rattle.cc_lex.specs.declared.token.Symbol.{Symbol}
 use Rattle.cc_lex.specs.declared.token.Symbol.TheVariants as symbols
 use Rattle.cc_lex.specs.Lexemes.{Lexeme, NameLexeme, NumberLexeme, TextLexeme, WordLexeme, SymbolLexeme, PlacedLexeme}
-use Rattle.cc_grammar.specs.Grammar.{Terminal, standing_at, AreAll, Spell, operation_name}
+use Rattle.cc_grammar.specs.Grammar.{Terminal, standing_at, Spell, operation_name}
 use Rattle.cc_grammar.specs.Tests.{word_number, symbol_number, is_word, is_symbol, name_of, operation_named, operation_of}
 
 all_words : List Word
@@ -72,6 +71,7 @@ operation_named-is x o = go (bytes_eq x (codes "print")) (bytes_eq x (codes "say
   where
     is : (p : Op) → x ≡ operation_name p → Some p ≡ Some o → x ≡ operation_name o
     is p e h = let same : p ≡ o = cc in subst (λ q. x ≡ operation_name q) same e
+
     go : (a b c d e : Bool) → bytes_eq x (codes "print") ≡ a → bytes_eq x (codes "say") ≡ b → bytes_eq x (codes "read") ≡ c → bytes_eq x (codes "write") ≡ d → bytes_eq x (codes "tick") ≡ e → (if a then Some ops.Print else if b then Some ops.Say else if c then Some ops.Read else if d then Some ops.Write else if e then Some ops.Tick else None) ≡ Some o → x ≡ operation_name o
     go true b c d e p q r s t h = is ops.Print (same-name x _ p) h
     go false true c d e p q r s t h = is ops.Say (same-name x _ q) h
@@ -150,3 +150,11 @@ spell-unplaced at [] [] h = h
 spell-unplaced at [] (a ∷ ms) h = absurd h
 spell-unplaced at (t ∷ ts) [] h = absurd h
 spell-unplaced at (t ∷ ts) (a ∷ ms) (l, (e, p), h) = (l, p, h)
+
+-- the first token stands at the place
+pub standing-place : (at : Place) (t : PlacedLexeme) (ts : List PlacedLexeme) (ms : List Terminal) → Spell (t ∷ ts) (standing_at at ms) → t.at ≡ at
+standing-place at t ts [] h = absurd h
+standing-place at t ts (m ∷ ms) (l, (p, q), h) = p
+
+pub first-more : (at : Place) (front back : List PlacedLexeme) → First at front → First at (front ++ back)
+first-more at front back f = record { token = f.token; more = f.more ++ back; whole = ap (λ x. x ++ back) f.whole; place = f.place }

@@ -1,7 +1,6 @@
 -- What a reader finds is so: the tree that it gives is that of the tokens it takes and fits the room; where it refuses, a
 -- tree within the room begins with the tokens before the refused one; and where it finds no room, some tree goes on.
-use Rattle.std.proofs.Common.{◌≡◌, ◌∙◌, ℕ, ◌+◌, ◌≤◌, max, List, [], ◌∷◌, ◌++◌, refl, sym, ap, subst, append_assoc, arith}
-use Rattle.std.proofs.lemmas.List.{append-nil}
+use Rattle.std.proofs.Common.{◌≡◌, ◌∙◌, ℕ, ◌+◌, ◌≤◌, max, List, [], ◌∷◌, ◌++◌, sym, ap, subst, append_assoc, arith}
 use Rattle.cc_lex.specs.Lexemes.{PlacedLexeme}
 use Rattle.cc_grammar.specs.Reading.{Found, Got, Wrong, High, Reader, ◌>>=◌}
 
@@ -42,6 +41,7 @@ then-sure {A} {B} {C} la lb lc pair join heights filler room top low ts (Got v s
   where
     joined : (w : B) (xs ys : List PlacedLexeme) → lb.spells w (xs ++ ys) → lc.spells (pair v w) (front ++ xs ++ ys)
     joined w xs ys h = rw append_assoc (join v w front (xs ++ ys) sp h)
+
     go : (f : Found B) → SureAt lb room s [] rest f → SureAt lc room top [] ts (f >>= λ w less behind. Got (pair v w) less behind)
     go (Got w less behind) (more, f, sq, lc', lr) =
         (front ++ more, longer ts front rest more behind e f, join v w front more sp sq, omega arith, (rw heights (omega arith)))

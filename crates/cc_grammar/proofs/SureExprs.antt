@@ -1,6 +1,5 @@
 -- What the readers of expressions find is so.
-use Rattle.std.proofs.Common.{◌≡◌, ◌∙◌, ℕ, zero, suc, ◌+◌, ◌≤◌, min, max, Bool, true, false, nat_le, ◌&&◌, List, [], ◌∷◌, ◌++◌, Option, Some, None, refl, sym, ap, subst, append_assoc, arith, if◌then◌else◌}
-use Rattle.std.specs.Prelude.{⊤}
+use Rattle.std.proofs.Common.{◌≡◌, ◌∙◌, ℕ, zero, suc, ◌+◌, ◌≤◌, Bool, true, false, nat_le, ◌&&◌, List, [], ◌∷◌, ◌++◌, Option, Some, None, refl, sym, subst, append_assoc, arith, if◌then◌else◌}
 use Rattle.std.proofs.lemmas.List.{append-nil}
 use Rattle.std.proofs.lemmas.Bool.{leb-true}
 use Rattle.cc_base.specs.declared.place.Place.{Place}
@@ -9,15 +8,15 @@ use Rattle.cc_base.specs.declared.literal.Op.TheVariants as ops
 use Rattle.cc_lex.specs.declared.token.Symbol.TheVariants as symbols
 use Rattle.cc_lex.specs.Lexemes.{Lexeme, NameLexeme, SymbolLexeme, PlacedLexeme}
 use Rattle.cc_grammar.specs.Syntax.{ExprSyntax, expr_height}
-use Rattle.cc_grammar.specs.Grammar.{Terminal, standing_at, Spell, expr_terminals, operation_name, takes_argument, IsExpr, level}
+use Rattle.cc_grammar.specs.Grammar.{standing_at, Spell, expr_terminals, operation_name, takes_argument, IsExpr, level}
 use Rattle.cc_grammar.specs.Tests.{begins_symbol, operation_of}
-use Rattle.cc_grammar.specs.Reading.{Found, Got, Wrong, High, Reader, Readers, ◌>>=◌, Kind, ShapePart, TypePart, ExprPart, Parts, pieces_at, ExprRule, FunRule, TypeFunRule, expr_pieces, expr_tree, rule_level, expr_rule_at, fun_at, ExprStart, FunStart, RuleStart, start_level, expr_start_at, ExprHead, WholeExpr, StartsExpr, NoExpr, expr_head, Link, OperatorLink, CallLink, TypeCallLink, DotLink, link_of, link_level, link_left, LinkRule, OperatorRule, CallRule, TypeCallRule, AskRule, TellRule, link_pieces, expr_place, link_tree, link_rule_at, operation_at, dot_at, link_at, goes_on, if_on, next_link, links_at, expr_over, part_over, part_at, nothing_at}
-use Rattle.cc_grammar.proofs.Spelling.{operation-is, spell-append, spell-standing, First}
-use Rattle.cc_grammar.proofs.Sure.{Language, SureAt, Filler, BeginsIn, BeginsSome, made-sure, shift-sure, chain-sure}
-use Rattle.cc_grammar.proofs.PieceLanguages.{kind_language, parts_language, parts_height, parts_terminals, IsFair, AreParts, kind-filler, parts-filler}
+use Rattle.cc_grammar.specs.Reading.{Found, Got, Wrong, High, Reader, Readers, ◌>>=◌, ShapePart, TypePart, ExprPart, Parts, pieces_at, ExprRule, FunRule, TypeFunRule, expr_pieces, expr_tree, rule_level, expr_rule_at, fun_at, ExprStart, FunStart, RuleStart, start_level, expr_start_at, ExprHead, WholeExpr, StartsExpr, NoExpr, expr_head, Link, OperatorLink, CallLink, TypeCallLink, DotLink, link_of, link_level, link_left, LinkRule, OperatorRule, CallRule, TypeCallRule, AskRule, TellRule, link_pieces, expr_place, link_tree, link_rule_at, operation_at, dot_at, link_at, goes_on, if_on, next_link, links_at, expr_over, part_over, part_at, nothing_at}
+use Rattle.cc_grammar.proofs.Spelling.{operation-is, spell-append, spell-standing}
+use Rattle.cc_grammar.proofs.Sure.{Language, SureAt, BeginsIn, BeginsSome, made-sure, shift-sure, chain-sure}
+use Rattle.cc_grammar.proofs.PieceLanguages.{kind_language, parts_language, parts_height, parts_terminals, kind-filler, parts-filler}
 use Rattle.cc_grammar.proofs.SurePieces.{via, refused, AreSure, pieces_at-sure}
 use Rattle.cc_grammar.proofs.SureShapes.{AreSureBelow, TypesEnd, shape_over-sure, type_over-sure, type_over-ends}
-use Rattle.cc_grammar.proofs.ExprRules.{expr-positive, expr_front, expr-terminals, expr-height, expr-made, expr-level, expr-fair, link_front, link-terminals, link-height, rule_left, rule_made, IsRule, link-made, link-level, link-fair, link_lexeme, link-is, WholeAt, expr-whole, rule_lexeme, rule-front, start_rule, expr-starts, expr-first}
+use Rattle.cc_grammar.proofs.ExprRules.{expr_front, expr-terminals, expr-height, expr-made, expr-level, expr-fair, link_front, link-terminals, link-height, rule_left, rule_made, IsRule, link-made, link-level, link-fair, link_lexeme, link-is, WholeAt, expr-whole, rule_lexeme, rule-front, start_rule, expr-starts, expr-first}
 
 -- expressions that are at least so tight
 abbrev pub exprs : ℕ → Language ExprSyntax
@@ -146,6 +145,7 @@ goes-on least e l link = go (link_of l) refl
         let same : m ≡ link = cc in
         let tests = both (nat_le least (link_level m)) (nat_le (link_left m) (level e)) g in
         subst (GoesOn least e l) same (record { is = link-is l m f; made = leb-true _ _ tests.0; tight = leb-true _ _ tests.1 })
+
     go : (o : Option Link) → link_of l ≡ o → if_on least e o ≡ Some link → GoesOn least e l link
     go None f h = cc
     go (Some m) f h = here m f (goes_on least e m) refl h
@@ -157,10 +157,15 @@ done least room s e pre ts is le sp sr low = ([], refl, ((is, le), subst (λ x. 
 -- what goes on is too high
 high : (least room s : ℕ) (e : ExprSyntax) (pre : List PlacedLexeme) (t : PlacedLexeme) (ts : List PlacedLexeme) (link : Link) → IsExpr e → least ≤ level e → Spell pre (expr_terminals e) → s + expr_height e ≤ suc room → GoesOn least e t.lexeme link → SureAt (exprs least) (suc room) room pre (t ∷ ts) (High (t ∷ ts))
 high least room s e pre t ts link is le sp low g =
-    let b = begun_link (expr_height e) least zero link e pre t (record { is = is; spelled = sp; tight = g.tight; made = g.made }) g.is (omega arith) in
-    ([], t, ts, refl, refl,
-    (e, [], omega arith, ((is, le), subst (λ x. Spell x (expr_terminals e)) (sym (append-nil (pre ++ []) ∙ append-nil pre)) sp)),
-    (b.0, b.1, subst (λ x. (exprs least).spells b.0 (x ++ t ∷ [] ++ b.1)) (sym (append-nil pre)) b.3))
+    let b = begun_link (expr_height e) least zero link e pre t (record { is = is; spelled = sp; tight = g.tight; made = g.made }) g.is (omega arith) in (
+      [],
+      t,
+      ts,
+      refl,
+      refl,
+      (e, [], omega arith, ((is, le), subst (λ x. Spell x (expr_terminals e)) (sym (append-nil (pre ++ []) ∙ append-nil pre)) sp)),
+      (b.0, b.1, subst (λ x. (exprs least).spells b.0 (x ++ t ∷ [] ++ b.1)) (sym (append-nil pre)) b.3),
+    )
 
 pub links_at-sure : (room : ℕ) (rd : Readers) → AreSureBelow room rd → (least steps : ℕ) (e : ExprSyntax) (s : ℕ) (pre : List PlacedLexeme) → IsExpr e → least ≤ level e → Spell pre (expr_terminals e) → s ≤ room → s ≤ steps → s + expr_height e ≤ suc room → (ts : List PlacedLexeme) → SureAt (exprs least) (suc room) room pre ts (links_at rd least steps e s ts)
 unfolding links_at next_link
@@ -175,6 +180,7 @@ links_at-sure room rd sure least (suc steps) e s pre is le sp sr ss low (t ∷ t
   where
     more : (n k : ℕ) → ExprSyntax → Link → Found ExprSyntax
     more n k v link = link_at rd k v link ts >>= λ w less rest. links_at rd least steps w less rest
+
     go : (n : ℕ) → AreSureBelow n rd → (k : ℕ) → k ≤ n → k ≤ suc steps → k + expr_height e ≤ suc n → (o : Option Link) → if_on least e (link_of t.lexeme) ≡ o → ((m : ℕ) → AreSure rd m → (v : ExprSyntax) (j : ℕ) (q : List PlacedLexeme) → IsExpr v → least ≤ level v → Spell q (expr_terminals v) → j ≤ suc m → j ≤ steps → j + expr_height v ≤ suc (suc m) → (us : List PlacedLexeme) → SureAt (exprs least) (suc (suc m)) (suc m) q us (links_at rd least steps v j us)) → SureAt (exprs least) (suc n) n pre (t ∷ ts) (links_at rd least (suc steps) e k (t ∷ ts))
     go n below k kn ks low' None f next = via (exprs least) (suc n) n pre (t ∷ ts) (links_at rd least (suc steps) e k (t ∷ ts)) (Got e k (t ∷ ts)) (rw (f, links_at) refl) (done least n k e pre (t ∷ ts) is le sp kn low')
     go n below zero kn ks low' (Some link) f next = via (exprs least) (suc n) n pre (t ∷ ts) (links_at rd least (suc steps) e zero (t ∷ ts)) (High (t ∷ ts)) (rw (f, links_at) refl) (high least n zero e pre t ts link is le sp low' (goes-on least e t.lexeme link f))
@@ -210,8 +216,10 @@ expr_over-sure room rd sure least fair (t ∷ ts) = go room sure (expr_head t.at
         (chain-sure (exprs least) (suc (suc n)) (suc n) (suc n) (t ∷ []) ts (expr_start_at rd n t.at start ts) (λ v s rest. links_at rd least s v s rest)
         (expr_start_at-sure rd n below least start t (leb-true _ _ f) (expr-starts t.at t.lexeme start e) ts)
         (λ v j front rest h jk small. links_at-sure (suc n) rd below least j v j (t ∷ front) h.0.0 h.0.1 h.1 jk (omega arith) small rest)))
+
     whole : (n : ℕ) → AreSureBelow n rd → (e : ExprSyntax) → WholeAt t.at t.lexeme e → SureAt (exprs least) (suc n) n [] (t ∷ ts) (links_at rd least n e n ts)
     whole n below e w = shift-sure (exprs least) (suc n) n [] (t ∷ []) ts (links_at rd least n e n ts) (links_at-sure n rd below least n e n (t ∷ []) w.is (rw w.tight fair) w.spelled (omega arith) (omega arith) (rw w.height (omega arith)) ts)
+
     go : (n : ℕ) → AreSureBelow n rd → (head : ExprHead) → expr_head t.at t.lexeme ≡ head → SureAt (exprs least) (suc n) n [] (t ∷ ts) (expr_over n rd least (t ∷ ts))
     go n below (WholeExpr e) f = via (exprs least) (suc n) n [] (t ∷ ts) (expr_over n rd least (t ∷ ts)) (links_at rd least n e n ts) (rw (f, expr_over) refl) (whole n below e (expr-whole t.at t.lexeme e f))
     go n below (StartsExpr start) f = starts n below start (nat_le least (start_level start)) f refl

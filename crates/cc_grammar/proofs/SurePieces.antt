@@ -1,20 +1,18 @@
 -- What the readers of pieces find is so.
-use Rattle.std.proofs.Common.{◌≡◌, ◌∙◌, ℕ, zero, suc, ◌+◌, ◌≤◌, min, max, Bool, true, false, List, [], ◌∷◌, ◌++◌, Option, Some, None, refl, sym, ap, subst, arith}
+use Rattle.std.proofs.Common.{◌≡◌, ℕ, suc, ◌≤◌, min, Bool, true, false, List, [], ◌∷◌, ◌++◌, Option, Some, None, refl, sym, subst, arith}
 use Rattle.std.specs.Prelude.{⊤}
-use Rattle.std.proofs.lemmas.List.{append-nil}
-use Rattle.cc_base.specs.declared.place.Place.{Place}
 use Rattle.cc_lex.specs.declared.token.Word.{Word}
 use Rattle.cc_lex.specs.declared.token.Word.TheVariants as words
 use Rattle.cc_lex.specs.declared.token.Symbol.{Symbol}
 use Rattle.cc_lex.specs.declared.token.Symbol.TheVariants as symbols
 use Rattle.cc_lex.specs.Lexemes.{Lexeme, NameLexeme, NumberLexeme, TextLexeme, WordLexeme, SymbolLexeme, PlacedLexeme}
-use Rattle.cc_grammar.specs.Syntax.{ElementSyntax, SetSyntax, AbsentSet, OmittedSet, WrittenSet, TypeSyntax, written_height, type_height}
-use Rattle.cc_grammar.specs.Grammar.{Terminal, terminal, word, symbol, named, standing_at, Spell, element_lexeme, element_terminals, more_elements_terminals, elements_terminals, braced_terminals, set_terminals, captures_terminals, written_terminals}
+use Rattle.cc_grammar.specs.Syntax.{ElementSyntax, SetSyntax, AbsentSet, OmittedSet, WrittenSet}
+use Rattle.cc_grammar.specs.Grammar.{Terminal, symbol, standing_at, Spell, element_lexeme, element_terminals, more_elements_terminals, elements_terminals, braced_terminals, set_terminals}
 use Rattle.cc_grammar.specs.Tests.{is_word, is_symbol, name_of}
-use Rattle.cc_grammar.specs.Reading.{Found, Got, Wrong, High, Reader, Readers, ◌>>=◌, Kind, ShapePart, TypePart, ExprPart, Value, Piece, AWord, ASymbol, AName, APlacedName, Captures, Written, Part, PieceValue, Parts, word_at, symbol_at, name_at, placed_name_at, SetState, AtFirst, AtNext, Behind, SetStep, Ends, Takes, Separates, Misfits, first_step, next_step, behind_step, set_step, elements_at, CaretStep, Omits, Opens, Fails, caret_step, caret_at, set_at, captures_at, written_at, one_part_at, piece_at, pieces_at}
+use Rattle.cc_grammar.specs.Reading.{Found, Got, Wrong, High, Readers, ◌>>=◌, Kind, TypePart, Piece, AWord, ASymbol, AName, APlacedName, Captures, Written, Part, word_at, symbol_at, name_at, placed_name_at, SetState, AtFirst, AtNext, Behind, SetStep, Ends, Takes, Separates, Misfits, first_step, next_step, behind_step, set_step, elements_at, CaretStep, Omits, Opens, Fails, caret_step, caret_at, set_at, captures_at, written_at, one_part_at, piece_at, pieces_at}
 use Rattle.cc_grammar.proofs.Spelling.{word-is, symbol-is, name-is, spell-append}
-use Rattle.cc_grammar.proofs.Sure.{Language, SureAt, Filler, BeginsIn, then-sure, made-sure, shift-sure}
-use Rattle.cc_grammar.proofs.PieceLanguages.{kind_language, kind_terminals, kind_height, IsFair, piece_language, piece_terminals, piece_height, IsFairPiece, parts_language, parts_terminals, AreFair, kind-filler, piece-filler, parts-filler, some_token, any_name, anywhere}
+use Rattle.cc_grammar.proofs.Sure.{Language, SureAt, Filler, then-sure, made-sure, shift-sure}
+use Rattle.cc_grammar.proofs.PieceLanguages.{kind_language, IsFair, piece_language, piece_terminals, IsFairPiece, parts_language, parts_terminals, AreFair, piece-filler, parts-filler, some_token, any_name, anywhere}
 
 pub via : {A : Type 0} (l : Language A) (room top : ℕ) (pre ts : List PlacedLexeme) (a b : Found A) → a ≡ b → SureAt l room top pre ts b → SureAt l room top pre ts a
 via l room top pre ts a b e h = subst (SureAt l room top pre ts) (sym e) h

@@ -1,17 +1,17 @@
 -- What the readers of shapes and types find is so.
-use Rattle.std.proofs.Common.{◌≡◌, ◌∙◌, ℕ, zero, suc, ◌+◌, ◌≤◌, min, max, Bool, true, false, List, [], ◌∷◌, ◌++◌, Option, Some, None, refl, sym, ap, subst, arith, if◌then◌else◌}
+use Rattle.std.proofs.Common.{◌≡◌, ℕ, zero, suc, ◌+◌, ◌≤◌, min, Bool, true, false, List, [], ◌∷◌, ◌++◌, Option, Some, None, refl, sym, subst, arith, if◌then◌else◌}
 use Rattle.std.specs.Prelude.{⊤}
 use Rattle.std.proofs.lemmas.List.{append-nil}
 use Rattle.cc_base.specs.declared.place.Place.{Place}
 use Rattle.cc_lex.specs.declared.token.Symbol.TheVariants as symbols
 use Rattle.cc_lex.specs.Lexemes.{Lexeme, NameLexeme, SymbolLexeme, PlacedLexeme}
-use Rattle.cc_grammar.specs.Syntax.{SetSyntax, AbsentSet, OmittedSet, WrittenSet, TypeSyntax, CapturingType, ShapeSyntax, BaseShape, AnyShape, NamedShape, ExitShape, BoxShape, ParenthesizedShape, FunctionShape, TypeFunctionShape, shape_height, type_height}
-use Rattle.cc_grammar.specs.Grammar.{Terminal, standing_at, Spell, shape_terminals, type_terminals, set_terminals, IsShape, IsType, CanTake}
+use Rattle.cc_grammar.specs.Syntax.{SetSyntax, AbsentSet, OmittedSet, WrittenSet, TypeSyntax, CapturingType, ShapeSyntax, BaseShape, AnyShape, NamedShape, ExitShape, BoxShape, ParenthesizedShape, FunctionShape, TypeFunctionShape, shape_height}
+use Rattle.cc_grammar.specs.Grammar.{standing_at, Spell, shape_terminals, type_terminals, set_terminals, IsShape, CanTake}
 use Rattle.cc_grammar.specs.Tests.{is_symbol, begins_symbol, name_of}
-use Rattle.cc_grammar.specs.Reading.{Found, Got, Wrong, High, Reader, Readers, ◌>>=◌, ShapePart, TypePart, Piece, AWord, ASymbol, AName, Part, piece_at, PlacedName, Parts, pieces_at, CaretStep, Omits, Opens, Fails, caret_step, AtFirst, elements_at, caret_at, set_at, one_part_at, symbol_at, name_at, ShapeRule, ExitShapeRule, BoxShapeRule, InnerRule, NamedInnerRule, FunctionShapeRule, TypeFunctionShapeRule, shape_pieces, shape_tree, shape_rule_at, named_at, paren_at, ShapeStart, ExitStart, BoxStart, ParenStart, TypeFunctionStart, ShapeHead, WholeShape, StartsShape, NoShape, shape_head, shape_start_at, shape_over, shape_place, type_over}
-use Rattle.cc_grammar.proofs.Spelling.{name-is, spell-append, spell-standing, First}
-use Rattle.cc_grammar.proofs.Sure.{Language, SureAt, Filler, BeginsIn, BeginsSome, made-sure, shift-sure, resplit}
-use Rattle.cc_grammar.proofs.PieceLanguages.{kind_language, parts_language, parts_height, parts_terminals, kind-filler, parts-filler}
+use Rattle.cc_grammar.specs.Reading.{Found, Got, Wrong, High, Reader, Readers, ◌>>=◌, ShapePart, TypePart, Piece, ASymbol, AName, Part, piece_at, PlacedName, Parts, pieces_at, CaretStep, Omits, Opens, Fails, caret_step, AtFirst, elements_at, caret_at, set_at, one_part_at, ShapeRule, ExitShapeRule, BoxShapeRule, InnerRule, NamedInnerRule, FunctionShapeRule, TypeFunctionShapeRule, shape_pieces, shape_tree, shape_rule_at, named_at, paren_at, ShapeStart, ExitStart, BoxStart, ParenStart, TypeFunctionStart, ShapeHead, WholeShape, StartsShape, NoShape, shape_head, shape_start_at, shape_over, shape_place, type_over}
+use Rattle.cc_grammar.proofs.Spelling.{name-is, spell-append, spell-standing}
+use Rattle.cc_grammar.proofs.Sure.{SureAt, BeginsIn, made-sure, shift-sure, resplit}
+use Rattle.cc_grammar.proofs.PieceLanguages.{kind_language, parts_language, parts_height, kind-filler, parts-filler}
 use Rattle.cc_grammar.proofs.SurePieces.{via, refused, AreSure, pieces_at-sure, set_language, set-spells, set_at-sure}
 use Rattle.cc_grammar.proofs.ShapeRules.{shape-positive, type-positive, shape_front, shape-terminals, shape-height, shape-made, shape-fair, shape-first, WholeAt, shape-whole, shape_start, shape-starts}
 
@@ -84,6 +84,7 @@ shape_over-sure room rd sure (t ∷ ts) = go room sure (shape_head t.at t.lexeme
   where
     whole : (n : ℕ) (shape : ShapeSyntax) → WholeAt t.at t.lexeme shape → SureAt (kind_language ShapePart) (suc n) n [] (t ∷ ts) (Got shape n ts)
     whole n shape w = (t ∷ [], refl, (w.is, w.spelled), omega arith, rw w.height (omega arith))
+
     go : (n : ℕ) → AreSureBelow n rd → (head : ShapeHead) → shape_head t.at t.lexeme ≡ head → SureAt (kind_language ShapePart) (suc n) n [] (t ∷ ts) (shape_over n rd (t ∷ ts))
     go n below (WholeShape shape) e = via (kind_language ShapePart) (suc n) n [] (t ∷ ts) (shape_over n rd (t ∷ ts)) (Got shape n ts) (rw (e, shape_over) refl) (whole n shape (shape-whole t.at t.lexeme shape e))
     go zero below (StartsShape start) e =
@@ -101,12 +102,12 @@ Behind P (Got v s rest) = P v rest
 Behind P (Wrong rest) = ⊤
 Behind P (High rest) = ⊤
 
-behind-then : {A B : Type 0} (P : B → List PlacedLexeme → Type 0) (found : Found A) (next : A → ℕ → Reader B) → ((v : A) (s : ℕ) (rest : List PlacedLexeme) → Behind P (next v s rest)) → Behind P (found >>= next)
+pub behind-then : {A B : Type 0} (P : B → List PlacedLexeme → Type 0) (found : Found A) (next : A → ℕ → Reader B) → ((v : A) (s : ℕ) (rest : List PlacedLexeme) → Behind P (next v s rest)) → Behind P (found >>= next)
 behind-then P (Got v s rest) next h = h v s rest
 behind-then P (Wrong rest) next h = tt
 behind-then P (High rest) next h = tt
 
-behind-made : {A B : Type 0} (P : A → List PlacedLexeme → Type 0) (Q : B → List PlacedLexeme → Type 0) (f : A → ℕ → ℕ) (g : A → B) → ((v : A) (rest : List PlacedLexeme) → P v rest → Q (g v) rest) → (found : Found A) → Behind P found → Behind Q (found >>= λ v s rest. Got (g v) (f v s) rest)
+pub behind-made : {A B : Type 0} (P : A → List PlacedLexeme → Type 0) (Q : B → List PlacedLexeme → Type 0) (f : A → ℕ → ℕ) (g : A → B) → ((v : A) (rest : List PlacedLexeme) → P v rest → Q (g v) rest) → (found : Found A) → Behind P found → Behind Q (found >>= λ v s rest. Got (g v) (f v s) rest)
 behind-made P Q f g k (Got v s rest) h = k v rest h
 behind-made P Q f g k (Wrong rest) h = tt
 behind-made P Q f g k (High rest) h = tt
@@ -269,6 +270,7 @@ shape_over-ends room rd ends (t ∷ ts) = go room (shape_head t.at t.lexeme) ref
     start : (n : ℕ) (s : ShapeStart) → Behind ShapeEnds (elim n [ zero ↦ High (t ∷ ts) | suc below ↦ shape_start_at rd below t.at s ts ])
     start zero s = tt
     start (suc n) s = shape_start_at-ends rd ends n t.at s ts
+
     go : (n : ℕ) (head : ShapeHead) → shape_head t.at t.lexeme ≡ head → Behind ShapeEnds (elim head [ WholeShape shape ↦ Got shape n ts | StartsShape s ↦ (elim n [ zero ↦ High (t ∷ ts) | suc below ↦ shape_start_at rd below t.at s ts ]) | NoShape ↦ Wrong (t ∷ ts) ])
     go n (WholeShape shape) e = λ f. leaf-closed t.at t.lexeme shape (shape-whole t.at t.lexeme shape e)
     go n (StartsShape s) e = start n s
@@ -297,6 +299,7 @@ type_over-sure room rd sure ends ts = go (shape_over room rd ts) (shape_over-sur
   where
     typed : ShapeSyntax → ℕ → Reader TypeSyntax
     typed shape s rest = set_at s rest >>= λ set left behind. Got (CapturingType (shape_place shape) shape set) left behind
+
     set : (shape : ShapeSyntax) (s : ℕ) (rest front : List PlacedLexeme) → ts ≡ front ++ rest → IsShape shape → Spell front (shape_terminals shape) → s ≤ room → s + shape_height shape ≤ suc room → ShapeEnds shape rest → (b : Bool) → begins_symbol symbols.Caret rest ≡ b → SureAt (kind_language TypePart) (suc room) room [] ts (typed shape s rest)
     set shape s rest front e is sp le le' closes true caret =
         resplit (kind_language TypePart) (suc room) room [] (front ++ rest) ts (typed shape s rest) e
@@ -307,6 +310,7 @@ type_over-sure room rd sure ends ts = go (shape_over room rd ts) (shape_over-sur
     set shape s rest front e is sp le le' closes false caret =
         via (kind_language TypePart) (suc room) room [] ts (typed shape s rest) (Got (CapturingType (shape_place shape) shape AbsentSet) s rest) (rw (set_at-absent s rest caret) refl)
         (front, e, without-set shape front (is, sp), le, le')
+
     go : (found : Found ShapeSyntax) → SureAt (kind_language ShapePart) (suc room) room [] ts found → Behind ShapeEnds found → SureAt (kind_language TypePart) (suc room) room [] ts (found >>= typed)
     go (Got shape s rest) (front, e, (is, sp), le, le') closes = set shape s rest front e is sp le le' closes (begins_symbol symbols.Caret rest) refl
     go (Wrong rest) h closes = made-sure (kind_language ShapePart) (kind_language TypePart) without_set [] without-set (suc room) room (suc room) room (λ a k. k) (λ a s k k'. (k, k')) ts (Wrong rest) h

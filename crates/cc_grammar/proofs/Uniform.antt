@@ -1,17 +1,8 @@
 -- A reader looks at no token behind the first one that it leaves: with any other tokens from there on that begin alike it
 -- finds the same. This is what makes a refusal one for all continuations.
-use Rattle.std.proofs.Common.{◌≡◌, ◌∙◌, ℕ, zero, suc, min, Bool, true, false, nat_le, List, [], ◌∷◌, ◌++◌, length, Option, Some, None, refl, sym, ap, subst, append_assoc, if◌then◌else◌}
+use Rattle.std.proofs.Common.{◌≡◌, ◌∙◌, ℕ, Bool, true, false, List, [], ◌∷◌, ◌++◌, refl, sym, ap, subst, append_assoc, if◌then◌else◌}
 use Rattle.std.specs.Prelude.{⊤}
-use Rattle.cc_base.specs.declared.place.Place.{Place}
-use Rattle.cc_base.specs.declared.literal.Op.{Op}
-use Rattle.cc_lex.specs.declared.token.Word.{Word}
-use Rattle.cc_lex.specs.declared.token.Word.TheVariants as words
-use Rattle.cc_lex.specs.declared.token.Symbol.{Symbol}
-use Rattle.cc_lex.specs.declared.token.Symbol.TheVariants as symbols
-use Rattle.cc_lex.specs.Lexemes.{Lexeme, PlacedLexeme}
-use Rattle.cc_grammar.specs.Grammar.{takes_argument}
-use Rattle.cc_grammar.specs.Syntax.{ElementSyntax, SetSyntax, AbsentSet, OmittedSet, TypeSyntax, ShapeSyntax, ExprSyntax, DefSyntax, ImportSyntax, ModuleSyntax}
-use Rattle.cc_grammar.specs.Tests.{is_word, is_symbol, begins_symbol, begins_word, name_of, operation_of}
+use Rattle.cc_lex.specs.Lexemes.{PlacedLexeme}
 use Rattle.cc_grammar.specs.Reading.{Found, Got, Wrong, High, Reader, ◌>>=◌}
 
 -- both lists are empty, or both begin with one token
@@ -65,8 +56,10 @@ then-uniform {A} {B} r k ts first second = go (r ts) first
       front = u.front ++ w.front;
       split = u.split ∙ ap (λ x. u.front ++ x) w.split ∙ sym (append_assoc u.front w.front (left_of (k v s rest)));
       same = λ us a.
-        let alike : Alike rest (w.front ++ us) = subst (λ x. Alike x (w.front ++ us)) (sym w.split) (alike-front w.front _ us a) in
-        rw append_assoc (rw (u.same (w.front ++ us) alike) (w.same us a)) }
+          let alike : Alike rest (w.front ++ us) = subst (λ x. Alike x (w.front ++ us)) (sym w.split) (alike-front w.front _ us a) in
+          rw append_assoc (rw (u.same (w.front ++ us) alike) (w.same us a));
+    }
+
     go : (found : Found A) → UniformAt r ts found → UniformAt (λ us. r us >>= k) ts (found >>= k)
     go (Got v s rest) u = next v s rest u (second v s rest)
     go (Wrong rest) u = record { front = u.front; split = u.split; same = λ us a. rw (u.same us a) refl }
@@ -129,12 +122,16 @@ by_first {A} test same_test a b ua ub ts = go (test ts) refl
   where
     whole : Reader A
     whole us = if test us then a us else b us
+
     kept : (front rest us : List PlacedLexeme) → ts ≡ front ++ rest → Alike rest us → test (front ++ us) ≡ test ts
     kept front rest us e l = sym (same_test ts (front ++ us) (subst (λ x. Alike x (front ++ us)) (sym e) (alike-front front rest us l)))
+
     first : (e : test ts ≡ true) → UniformAt a ts (a ts) → UniformAt whole ts (a ts)
     first e u = record { front = u.front; split = u.split; same = λ us l. let h : test (u.front ++ us) ≡ true = kept u.front _ us u.split l ∙ e in rw h (u.same us l) }
+
     second : (e : test ts ≡ false) → UniformAt b ts (b ts) → UniformAt whole ts (b ts)
     second e u = record { front = u.front; split = u.split; same = λ us l. let h : test (u.front ++ us) ≡ false = kept u.front _ us u.split l ∙ e in rw h (u.same us l) }
+
     go : (c : Bool) → test ts ≡ c → UniformAt whole ts (whole ts)
     go true e = rw e (first e (ua ts))
     go false e = rw e (second e (ub ts))
@@ -146,7 +143,8 @@ as_first r a t ts e u =
     (record {
       front = u.front;
       split = u.split;
-      same = λ us l. agrees (u.front ++ us) (subst (λ x. Alike x (u.front ++ us)) (sym u.split) (alike-front u.front _ us l)) ∙ u.same us l })
+      same = λ us l. agrees (u.front ++ us) (subst (λ x. Alike x (u.front ++ us)) (sym u.split) (alike-front u.front _ us l)) ∙ u.same us l;
+    })
   where
     agrees : (xs : List PlacedLexeme) → Alike (t ∷ ts) xs → r xs ≡ a xs
     agrees [] l = absurd l

@@ -1,19 +1,19 @@
 -- Every reader is uniform: each proof goes as its reader does.
-use Rattle.std.proofs.Common.{◌≡◌, ℕ, zero, suc, min, Bool, true, false, nat_le, List, [], ◌∷◌, ◌++◌, length, Option, Some, None, refl, if◌then◌else◌}
+use Rattle.std.proofs.Common.{◌≡◌, ℕ, zero, suc, min, Bool, true, false, nat_le, List, [], ◌∷◌, Option, Some, None, refl}
 use Rattle.cc_base.specs.declared.place.Place.{Place}
 use Rattle.cc_base.specs.declared.literal.Op.{Op}
 use Rattle.cc_lex.specs.declared.token.Word.{Word}
 use Rattle.cc_lex.specs.declared.token.Word.TheVariants as words
 use Rattle.cc_lex.specs.declared.token.Symbol.{Symbol}
 use Rattle.cc_lex.specs.declared.token.Symbol.TheVariants as symbols
-use Rattle.cc_lex.specs.Lexemes.{Lexeme, PlacedLexeme}
+use Rattle.cc_lex.specs.Lexemes.{PlacedLexeme}
 use Rattle.cc_grammar.specs.Grammar.{takes_argument}
-use Rattle.cc_grammar.specs.Syntax.{ElementSyntax, SetSyntax, AbsentSet, OmittedSet, WrittenSet, TypeSyntax, CapturingType, ShapeSyntax, ExprSyntax, DefSyntax, ImportSyntax, ModuleSyntax}
+use Rattle.cc_grammar.specs.Syntax.{AbsentSet, OmittedSet, WrittenSet, CapturingType, ExprSyntax}
 use Rattle.cc_grammar.specs.Tests.{is_word, is_symbol, begins_symbol, begins_word, name_of, operation_of}
-use Rattle.cc_grammar.specs.Reading.{Found, Got, Wrong, High, Reader, Readers, ◌>>=◌, Kind, ShapePart, TypePart, ExprPart, Value, Piece, AWord, ASymbol, AName, APlacedName, Captures, Written, Part, PlacedName, PieceValue, Parts, word_at, symbol_at, name_at, placed_name_at, SetState, AtFirst, AtNext, Behind, SetStep, Ends, Takes, Separates, Misfits, set_step, elements_at, CaretStep, Omits, Opens, Fails, caret_step, caret_at, set_at, captures_at, written_at, one_part_at, piece_at, pieces_at, ShapeRule, InnerRule, NamedInnerRule, FunctionShapeRule, ExitShapeRule, BoxShapeRule, TypeFunctionShapeRule, shape_pieces, shape_tree, shape_rule_at, named_at, paren_at, ShapeStart, ExitStart, BoxStart, ParenStart, TypeFunctionStart, ShapeHead, WholeShape, StartsShape, NoShape, shape_head, shape_start_at, shape_over, type_over, ExprRule, FunRule, TypeFunRule, expr_pieces, expr_tree, expr_rule_at, fun_at, ExprStart, FunStart, RuleStart, start_level, expr_start_at, ExprHead, WholeExpr, StartsExpr, NoExpr, expr_head, Link, OperatorLink, CallLink, TypeCallLink, DotLink, link_of, LinkRule, OperatorRule, CallRule, TypeCallRule, AskRule, TellRule, link_pieces, link_tree, link_rule_at, operation_at, dot_at, link_at, if_on, next_link, links_at, behind_first, expr_over, nothing_at, part_over, part_at, top_room, import_pieces, import_tree, import_at, imports_at, DefRule, PlainRule, OwnRule, def_pieces, def_tree, def_rule_at, def_at, defs_at, module_at}
-use Rattle.cc_grammar.proofs.Uniform.{Alike, UniformAt, Uniform, then-uniform, Stays, StaysGot, StaysWrong, StaysHigh, stay, stay-uniform, at_end, at_first, past_first, by_first, as_first}
+use Rattle.cc_grammar.specs.Reading.{Got, Reader, Readers, ◌>>=◌, Kind, ShapePart, TypePart, ExprPart, Piece, AWord, ASymbol, AName, APlacedName, Captures, Written, Part, PlacedName, word_at, symbol_at, name_at, placed_name_at, SetState, AtFirst, AtNext, Behind, SetStep, Ends, Takes, Separates, Misfits, set_step, elements_at, CaretStep, Omits, Opens, Fails, caret_step, caret_at, set_at, captures_at, written_at, one_part_at, piece_at, pieces_at, ShapeRule, InnerRule, NamedInnerRule, FunctionShapeRule, ExitShapeRule, BoxShapeRule, TypeFunctionShapeRule, shape_pieces, shape_tree, shape_rule_at, named_at, paren_at, ShapeStart, ExitStart, BoxStart, ParenStart, TypeFunctionStart, ShapeHead, WholeShape, StartsShape, NoShape, shape_head, shape_start_at, shape_over, type_over, ExprRule, FunRule, TypeFunRule, expr_pieces, expr_tree, expr_rule_at, fun_at, ExprStart, FunStart, RuleStart, start_level, expr_start_at, ExprHead, WholeExpr, StartsExpr, NoExpr, expr_head, Link, OperatorLink, CallLink, TypeCallLink, DotLink, link_of, LinkRule, OperatorRule, CallRule, TypeCallRule, AskRule, TellRule, link_pieces, link_tree, link_rule_at, operation_at, dot_at, link_at, if_on, next_link, links_at, expr_over, nothing_at, part_over, part_at, top_room, import_pieces, import_tree, import_at, imports_at, DefRule, PlainRule, OwnRule, def_pieces, def_tree, def_rule_at, def_at, defs_at}
+use Rattle.cc_grammar.proofs.Uniform.{Alike, UniformAt, Uniform, then-uniform, StaysGot, StaysWrong, StaysHigh, stay, stay-uniform, at_end, at_first, past_first, by_first, as_first}
 
-made-uniform : {A B : Type 0} (r : Reader A) (f : A → B) (ts : List PlacedLexeme) → UniformAt r ts (r ts) → UniformAt (λ us. r us >>= λ v s rest. Got (f v) s rest) ts (r ts >>= λ v s rest. Got (f v) s rest)
+pub made-uniform : {A B : Type 0} (r : Reader A) (f : A → B) (ts : List PlacedLexeme) → UniformAt r ts (r ts) → UniformAt (λ us. r us >>= λ v s rest. Got (f v) s rest) ts (r ts >>= λ v s rest. Got (f v) s rest)
 made-uniform r f ts u = then-uniform r (λ v s rest. Got (f v) s rest) ts u (λ v s. stay-uniform (StaysGot (f v) s))
 
 word_at-uniform : (w : Word) (s : ℕ) → Uniform (word_at w s)
@@ -234,6 +234,7 @@ expr_over-uniform room rd u least (t ∷ ts) = go room (expr_head t.at t.lexeme)
     starts n start false e f = at_first (expr_over n rd least) StaysWrong t ts (λ us. rw (e, f, expr_over) refl)
     starts zero start true e f = at_first (expr_over zero rd least) StaysHigh t ts (λ us. rw (e, f, expr_over) refl)
     starts (suc n) start true e f = past_first (expr_over (suc n) rd least) (λ us. expr_start_at rd n t.at start us >>= λ expr spare rest. links_at rd least spare expr spare rest) t ts (λ us. rw (e, f, expr_over) refl) (then-uniform (expr_start_at rd n t.at start) (λ expr spare rest. links_at rd least spare expr spare rest) ts (expr_start_at-uniform rd u n t.at start ts) (λ expr spare. links_at-uniform rd u least spare expr spare))
+
     go : (n : ℕ) (head : ExprHead) → expr_head t.at t.lexeme ≡ head → UniformAt (expr_over n rd least) (t ∷ ts) (expr_over n rd least (t ∷ ts))
     go n (WholeExpr expr) e = past_first (expr_over n rd least) (links_at rd least n expr n) t ts (λ us. rw (e, expr_over) refl) (links_at-uniform rd u least n expr n ts)
     go n (StartsExpr start) e = starts n start (nat_le least (start_level start)) e refl
@@ -249,11 +250,11 @@ unfolding part_at
 part_at-uniform zero = part_over-uniform zero nothing_at (λ kind. stay-uniform StaysHigh)
 part_at-uniform (suc room) = part_over-uniform (suc room) (part_at room) (part_at-uniform room)
 
-import_at-uniform : Uniform import_at
+pub import_at-uniform : Uniform import_at
 unfolding import_at
 import_at-uniform ts = made-uniform (pieces_at (part_at top_room) import_pieces top_room) import_tree ts (pieces_at-uniform (part_at top_room) (part_at-uniform top_room) import_pieces top_room ts)
 
-imports_at-uniform : (steps : ℕ) → Uniform (imports_at steps)
+pub imports_at-uniform : (steps : ℕ) → Uniform (imports_at steps)
 unfolding imports_at
 imports_at-uniform zero [] = at_end (imports_at zero) (StaysGot [] top_room) refl
 imports_at-uniform zero (t ∷ ts) = at_first (imports_at zero) (StaysGot [] top_room) t ts (λ us. refl)
@@ -268,11 +269,11 @@ def_rule_at-uniform : (rule : DefRule) → Uniform (def_rule_at rule)
 unfolding def_rule_at
 def_rule_at-uniform rule ts = made-uniform (pieces_at (part_at top_room) (def_pieces rule) top_room) (def_tree rule) ts (pieces_at-uniform (part_at top_room) (part_at-uniform top_room) (def_pieces rule) top_room ts)
 
-def_at-uniform : Uniform def_at
+pub def_at-uniform : Uniform def_at
 unfolding def_at
 def_at-uniform = by_first (begins_word words.Rec) (begins_word-alike words.Rec) _ _ (def_rule_at-uniform OwnRule) (def_rule_at-uniform PlainRule)
 
-defs_at-uniform : (steps : ℕ) → Uniform (defs_at steps)
+pub defs_at-uniform : (steps : ℕ) → Uniform (defs_at steps)
 unfolding defs_at
 defs_at-uniform zero [] = at_end (defs_at zero) (StaysGot [] top_room) refl
 defs_at-uniform zero (t ∷ ts) = at_first (defs_at zero) StaysWrong t ts (λ us. refl)
