@@ -1,2 +1,2 @@
-pub mod VerdictSteps
-pub mod VerdictLaws
+mod ReadTexts
+mod VerdictLaws

@@ -1,7 +1,5 @@
-pub mod Spelled
-pub mod Taken
-pub mod Misfits
-pub mod Readers
-pub mod Heights
-pub mod Modules
-pub mod Readings
+pub mod AsciiNames
+pub mod FirstTokens
+pub mod FoundElements
+pub mod Operations
+pub mod Parts
