@@ -3,8 +3,10 @@ ghost use Rattle.std.specs.Prelude.{◌≡◌, ◌<◌};
 
 use crate::run::capc;
 use crate::status::Status;
+use cc_base::name::Name;
 use cc_base::steps::Steps;
 use cc_io::{MemSink, MemSource};
+use cc_module::verdict::check_module;
 use std::alloc::{AllocError, Global};
 use std::marker::Brand;
 use std::sync::ledger::{Blank, Ledger};
@@ -85,16 +87,17 @@ fn replies(alloc: Global, verdict: &[u8]) -> Result<Vec<u8>, AllocError> {
 #[test]
 fn verdicts(rt: HostRuntime) -> Result<(), Fail> {
     let alloc = rt.alloc();
-    let cases: [(&[u8], &[u8]); 25] = [
+    let cases: [(&[u8], &[u8]); 37] = [
         (b"", b"ok"),
         (b" \t\r\n", b"ok"),
         (b"def id = fun (x: Unit) => x\n", b"ok"),
-        (b"def id=fun(x:Unit)=>x\n", b"ok"),
+        (b"def id=fun(x:Unit)=>x // the same\n", b"ok"),
         (b"def get = fun (x: Unit) => out\n", b"ok"),
         (
             b"def pick = fun (out: Console) => fun (f: (x: Unit) -> Console) => out\n",
             b"ok",
         ),
+        (b"\ndef \xc3\xa9_1 = fun (\xc3\xa8: Unit) => \xc3\xa8\n", b"ok"),
         // A name that stands for nothing, also the definition's own.
         (b"def id = fun (x: Unit) => y\n", b"E20 1:1"),
         (b"def id = fun (x: Unit) => id\n", b"E20 1:1"),
@@ -109,22 +112,34 @@ fn verdicts(rt: HostRuntime) -> Result<(), Fail> {
             b"def a: (x: Unit) -> Unit = fun (x: Unit) => x\n",
             b"E20 1:1",
         ),
-        (b"def a = fun (x: Unit) => x(x)\n", b"E20 1:1"),
+        (b"def rec a: Unit = fun (x: Unit) => x\n", b"E20 1:1"),
+        (b"import m.d\n", b"E20 1:1"),
+        (b"def a = fun (x: Unit^{out}) => x\n", b"E20 1:1"),
+        (b"def a = fun (x: Int) => x\n", b"E20 1:1"),
         (b"def a = fun (x: Unit) => val y = x; y\n", b"E20 1:1"),
-        (b"def a = fun (x: Unit) => val y: Unit = x; y\n", b"E20 1:1"),
+        (b"def a = unbox {a} b\n", b"E20 1:1"),
+        (b"def a = (a)(b)\n", b"E20 1:1"),
         // No UTF-8.
-        (b"def a = \xff\n", b"E20 1:1"),
+        (b"def a = \xff\n", b"E01 1:9"),
+        // No token.
+        (b"def a = \"x\n", b"E02 1:9"),
+        (b"def _a = fun (x: Unit) => x\n", b"E02 1:5"),
+        (b"def a = 9223372036854775808\n", b"E02 1:9"),
         // No grammar.
         (b"def k = fun (x: Unit) x\n", b"E03 1:23"),
         (b"x\n", b"E03 1:1"),
         (b"def\n", b"E03 2:1"),
         (b"def a = fun (x: Unit) =>\n", b"E03 2:1"),
         (b"def a = fun (x: Unit) => x y\n", b"E03 1:28"),
-        (b"def a = x\n", b"E03 1:9"),
+        (b"def rec = fun (x: Unit) => x\n", b"E03 1:9"),
         (b"def if = fun (x: Unit) => x\n", b"E03 1:5"),
-        (b"def a == fun (x: Unit) => x\n", b"E03 1:8"),
-        (b"\ndef \xc3\xa9 = fun (x: Unit) => x\n", b"E03 2:5"),
-        (b"def a = fun (\xc3\xa9: Unit) => x\n", b"E03 1:14"),
+        (b"def a == fun (x: Unit) => x\n", b"E03 1:7"),
+        (b"12ab\n", b"E03 1:1"),
+        (b"def a = 12ab\n", b"E03 1:11"),
+        (b"def a = a<:b\n", b"E03 1:10"),
+        (b"def a = x.foo\n", b"E03 1:11"),
+        (b"def a = x.print()\n", b"E03 1:17"),
+        (b"def a = x.read(1)\n", b"E03 1:16"),
     ];
     for (text, verdict) in cases {
         let lines = text.iter().filter(|byte| **byte == b'\n').count();
@@ -145,6 +160,47 @@ fn verdicts(rt: HostRuntime) -> Result<(), Fail> {
         );
         assert_eq!(rt; ended.steps, 0);
     }
+    Ok(())
+}
+
+/// So many of the one byte between the two texts.
+fn around(alloc: Global, front: &[u8], byte: u8, length: usize, back: &[u8]) -> Result<Vec<u8>, AllocError> {
+    let mut text = Vec::from_slice(alloc, front)?;
+    for _i in 0..length {
+        text.push(byte)?;
+    }
+    text.extend_from_slice(back)?;
+    Ok(text)
+}
+
+/// The verdict of a text as it is written, beside a console `out`.
+fn verdict_of(alloc: Global, text: &[u8]) -> Result<String, Fail> {
+    let device = Name::read(alloc, "out")?;
+    let verdict = check_module(alloc, text, &device)?;
+    Ok(format!(in alloc; "{verdict}")?)
+}
+
+#[test]
+fn limits_of_texts(rt: HostRuntime) -> Result<(), Fail> {
+    let alloc = rt.alloc();
+    let closed = around(alloc, b"5", b')', 99, b"")?;
+    let low = around(alloc, b"def a = ", b'(', 99, closed.as_slice())?;
+    assert_eq!(rt; verdict_of(alloc, &low)?.as_str(), "E20 1:1");
+    let high = around(alloc, b"def a = ", b'(', 100, b"5")?;
+    assert_eq!(rt; verdict_of(alloc, &high)?.as_str(), "E04 1:108");
+    // The earlier of two refusals counts, and a written type is measured too.
+    let wrong_before = around(alloc, b"def a = x y", b'(', 100, b"")?;
+    assert_eq!(rt; verdict_of(alloc, &wrong_before)?.as_str(), "E03 1:11");
+    let wrong_behind = around(alloc, b"def a = ", b'(', 100, b"]")?;
+    assert_eq!(rt; verdict_of(alloc, &wrong_behind)?.as_str(), "E04 1:108");
+    let high_type = around(alloc, b"def a: ", b'(', 100, b"Int")?;
+    assert_eq!(rt; verdict_of(alloc, &high_type)?.as_str(), "E04 1:107");
+    let string = around(alloc, b"def a = \"", b'x', 200, b"\"")?;
+    assert_eq!(rt; verdict_of(alloc, &string)?.as_str(), "E20 1:1");
+    let longer = around(alloc, b"def a = \"", b'x', 201, b"\"")?;
+    assert_eq!(rt; verdict_of(alloc, &longer)?.as_str(), "E02 1:9");
+    // A comment that no line feed ends.
+    assert_eq!(rt; verdict_of(alloc, b"def id = fun (x: Unit) => x // x")?.as_str(), "ok");
     Ok(())
 }
 
@@ -266,7 +322,7 @@ fn filled(alloc: Global, byte: u8, length: usize) -> Result<Vec<u8>, AllocError>
 #[test]
 fn limits(rt: HostRuntime) -> Result<(), Fail> {
     let alloc = rt.alloc();
-    let mut text = filled(alloc, b' ', 4095)?;
+    let mut text = filled(alloc, b' ', 65_535)?;
     text.push(b'\n')?;
     let most = run::<Brand>(
         alloc,
@@ -277,11 +333,11 @@ fn limits(rt: HostRuntime) -> Result<(), Fail> {
         Blank::new(1),
     )?;
     assert_eq!(rt; most.status, Status::Clean);
-    let longer = filled(alloc, b'\n', 4097)?;
+    let longer = filled(alloc, b'\n', 65_537)?;
     let beyond = run::<Brand>(
         alloc,
         b"",
-        &job_of(alloc, 4097, &longer)?,
+        &job_of(alloc, 65_537, &longer)?,
         EASY,
         EASY,
         Blank::new(1),

@@ -10,7 +10,7 @@ use Rattle.cc_job.specs.declared.job.JobError.TheVariants.{BadJob, NoMemory}
 
 -- the greatest number of bytes of a module's text
 abbrev pub text_limit : ℕ
-text_limit = 4096
+text_limit = 65536
 
 -- a line is its bytes and a line feed
 abbrev pub line : List ℕ → List ℕ

@@ -9,7 +9,7 @@ use cc_base::text::Text;
 use std::alloc::{AllocError, Global};
 
 /// The greatest number of bytes of a module's text.
-pub const TEXT_LIMIT: usize = 4096;
+pub const TEXT_LIMIT: usize = 65_536;
 
 /// A job: a console is declared, a module is put, and it is checked.
 #[derive(Drop)]
