@@ -10,7 +10,7 @@ mod Reaches
 mod LongestForms
 mod Blanks
 mod Spelling
-mod CuttingLaws
+pub mod CuttingLaws
 mod TextSlices
 mod FoundTokens
 mod CuttingSteps

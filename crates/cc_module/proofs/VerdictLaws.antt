@@ -7,12 +7,11 @@ use Rattle.std.proofs.lemmas.Str.{IsUtf8-from_is_utf8, is_utf8-from_IsUtf8}
 use Rattle.cc_base.specs.declared.place.Place.{Place}
 use Rattle.cc_base.specs.declared.code.Code.{Code}
 use Rattle.cc_base.specs.declared.code.Code.TheVariants.{E01, E02}
-use Rattle.cc_lex.specs.Lexemes.{PlacedLexeme}
 use Rattle.cc_lex.specs.Lexical.{SpannedLexeme, Extent, ToTheEnd, UpTo, start, place_past, without_spans, IsCut, IsRefusedAs, HasTokens}
 use Rattle.cc_lex.specs.Cutting.{Cutting, cut}
 use Rattle.cc_lex.proofs.CuttingLaws.{cut-is, IsCut-cut}
-use Rattle.cc_grammar.specs.Reads.{ModuleReading, Reads}
 use Rattle.cc_grammar.specs.Reading.{reading_of}
+use Rattle.cc_grammar.proofs.Readings.{tokens_read_as_they_are, tokens_have_one_reading}
 use Rattle.cc_module.specs.declared.verdict.ModuleVerdict.{ModuleVerdict}
 use Rattle.cc_module.specs.Verdict.{refused_at, reading_verdict, HasVerdict, no_tokens, reads, extent_verdict, cut_verdict, verdict_of, ATextHasOneVerdict}
 
@@ -54,18 +53,11 @@ refused_is device text E01 place h =
 refused_is device text E02 place h = sym (verdict_of-cut device text h.1.0 (UpTo place) h.0 h.1.1)
 refused_is device text _ place h = absurd h
 
-pub reads_so : (tokens : List PlacedLexeme) (end : Place) → Reads tokens end (reading_of tokens end)
-reads_so = ?
-
-reads_once :
-    (tokens : List PlacedLexeme) (end : Place) (a b : ModuleReading) → Reads tokens end a → Reads tokens end b → a ≡ b
-reads_once = ?
-
 HasVerdict-is : (device text : List ℕ) (verdict : ModuleVerdict) → HasVerdict device text verdict → verdict ≡ verdict_of device text
 HasVerdict-is device text verdict (no_tokens diag refused) = refused_is device text diag.code diag.place refused
 HasVerdict-is device text verdict (reads tokens reading has read) =
     let end = place_past start (chars text) in
-    let same = reads_once (without_spans tokens) end reading (reading_of (without_spans tokens) end) read (reads_so (without_spans tokens) end) in
+    let same = tokens_have_one_reading (without_spans tokens) end reading (reading_of (without_spans tokens) end) read (tokens_read_as_they_are (without_spans tokens) end) in
     ap (reading_verdict device) same ∙ sym (verdict_of-cut device text tokens ToTheEnd has.0 has.1)
 
 has_by_extent :
@@ -74,7 +66,7 @@ has_by_extent :
     → HasVerdict device text (extent_verdict device (place_past start (chars text)) tokens extent)
 has_by_extent device text tokens ToTheEnd utf8 is_cut =
     reads tokens (reading_of (without_spans tokens) (place_past start (chars text))) (utf8, is_cut)
-    (reads_so (without_spans tokens) (place_past start (chars text)))
+    (tokens_read_as_they_are (without_spans tokens) (place_past start (chars text)))
 has_by_extent device text tokens (UpTo place) utf8 is_cut =
     no_tokens (record { code = E02; place = place }) (utf8, (tokens, is_cut))
 
