@@ -1,7 +1,7 @@
 -- The canonical derivation: of all derivations of what inference finds, the one in which each comparison goes by its two
 -- trees, and a term's type is widened only where it was compared, exposed or avoided. It is a tree for any input; what does
 -- not match has a node that is no instance of its rule.
-use Rattle.std.specs.Prelude.{ℕ, zero, suc, nat_eq, Bool, true, false, List, [], ◌∷◌, length, Option, Some, None}
+use Rattle.std.specs.Prelude.{ℕ, zero, suc, nat_eq, List, [], ◌∷◌, length, Option, Some, None}
 use Rattle.std.specs.Prelude.{if◌then◌else◌}
 use Rattle.cc_base.specs.declared.literal.Base.{Base}
 use Rattle.cc_base.specs.declared.literal.Base.TheVariants as bases
@@ -9,7 +9,7 @@ use Rattle.cc_base.specs.declared.literal.Op.{Op}
 use Rattle.cc_capture.specs.declared.var.Var.{Var}
 use Rattle.cc_capture.specs.declared.var.Var.TheVariants.{Bound, Free}
 use Rattle.cc_capture.specs.declared.var.Elem.{Elem}
-use Rattle.cc_capture.specs.declared.var.Elem.TheVariants.{Var as Variable, Cap, Hole}
+use Rattle.cc_capture.specs.declared.var.Elem.TheVariants.{Var as Variable}
 use Rattle.cc_capture.specs.Sets.{Set, contains, empty}
 use Rattle.cc_core.specs.Shapes.{Shape, BaseShape, AnyShape, TypeVariable, FunctionShape, TypeFunctionShape, BoxShape}
 use Rattle.cc_core.specs.Shapes.{ExitShape, CapturingType, capturing}
@@ -20,7 +20,7 @@ use Rattle.cc_core.specs.Contexts.{Bind, TermEntry, TypeEntry, Context, lookup, 
 use Rattle.cc_core.specs.Substitution.{single, opened_type, replaced_type, replaced_type_by_shape}
 use Rattle.cc_core.specs.Comparison.{same_shape, same_type}
 use Rattle.cc_core.specs.Captured.{variable_set, optional_set}
-use Rattle.cc_core.specs.Typing.{base_of, base_given, base_operated, base_taken, base_answered}
+use Rattle.cc_core.specs.Typing.{base_of, base_given, base_taken, base_answered}
 use Rattle.cc_core.specs.Derivations.{ByElement, ByVariable, BySet, ByReflexivity, ByTransitivity, ByTypeVariable}
 use Rattle.cc_core.specs.Derivations.{ByTop, ByFunction, ByTypeFunction, ByBox, ByCapturing, t-var, t-lit, t-abs, t-tabs}
 use Rattle.cc_core.specs.Derivations.{t-app, t-tapp, t-box, t-unbox, t-let, t-prim, t-if, t-repeat, t-op, t-boundary}

@@ -17,7 +17,7 @@ use Rattle.cc_core.specs.Contexts.{Bind, TermEntry, TypeEntry, Context, entry_of
 use Rattle.cc_core.specs.Substitution.{opened_type, replaced_type, replaced_type_by_shape}
 use Rattle.cc_core.specs.Comparison.{same_shape, same_type}
 use Rattle.cc_core.specs.Captured.{variable_set, optional_set}
-use Rattle.cc_core.specs.Typing.{base_of, base_given, base_operated, base_taken, base_answered}
+use Rattle.cc_core.specs.Typing.{base_of, base_given, base_taken, base_answered}
 use Rattle.cc_core.specs.Derivations.{Derivation, Node, Premises, NoPremise, Premise}
 use Rattle.cc_sets.specs.Comparison.{is_any, bound_of}
 use Rattle.cc_sets.specs.Exposing.{exposed}

@@ -1,8 +1,7 @@
 -- Inference: the type of a term, what its sets have to satisfy, and the term with its omitted sets put in; or the first
 -- refusal with its place.
-use Rattle.std.specs.Prelude.{◌≡◌, ℕ, zero, suc, nat_le, Bool, true, List, [], ◌∷◌, length, map, Option, Some, None}
+use Rattle.std.specs.Prelude.{◌≡◌, ℕ, zero, nat_le, Bool, true, [], ◌∷◌, length, map, Option, Some, None}
 use Rattle.std.specs.Prelude.{if◌then◌else◌}
-use Rattle.cc_base.specs.declared.code.Code.{Code}
 use Rattle.cc_base.specs.declared.code.Code.TheVariants.{E13, E14, E17, E18}
 use Rattle.cc_base.specs.declared.literal.Base.{Base}
 use Rattle.cc_base.specs.declared.literal.Base.TheVariants as bases
@@ -11,7 +10,7 @@ use Rattle.cc_capture.specs.declared.var.Var.{Var}
 use Rattle.cc_capture.specs.declared.var.Var.TheVariants.{Bound, Free}
 use Rattle.cc_capture.specs.declared.var.Elem.TheVariants.{Cap}
 use Rattle.cc_capture.specs.Sets.{Set, empty, union}
-use Rattle.cc_core.specs.Shapes.{Shape, BaseShape, AnyShape, TypeVariable, FunctionShape, TypeFunctionShape, BoxShape}
+use Rattle.cc_core.specs.Shapes.{Shape, BaseShape, FunctionShape, TypeFunctionShape, BoxShape}
 use Rattle.cc_core.specs.Shapes.{ExitShape, CapturingType, capturing}
 use Rattle.cc_core.specs.Terms.{Note, Absent, Written, Own, Term, VariableTerm, LiteralTerm, FunctionTerm}
 use Rattle.cc_core.specs.Terms.{TypeFunctionTerm, BoxTerm, Application, TypeApplication, Unboxing, Let, Primitive}
@@ -28,7 +27,7 @@ use Rattle.cc_sets.specs.Comparison.{Demand, demanded, Comparison, Unfinished, M
 use Rattle.cc_sets.specs.Comparison.{types_compared, comparison}
 use Rattle.cc_sets.specs.Exposing.{exposed}
 use Rattle.cc_sets.specs.Avoidance.{Positive, avoided_type}
-use Rattle.cc_sets.specs.Outcomes.{Asked, IsBelow, IsCapless, Placed, placed_at, Outcome, NoAnswer, Refused, Found}
+use Rattle.cc_sets.specs.Outcomes.{IsBelow, IsCapless, Placed, placed_at, Outcome, NoAnswer, Refused, Found}
 use Rattle.cc_sets.specs.Outcomes.{finds, ◌>>=◌, ◌>>◌, found_or}
 
 -- what is found for a term: its type, and the term with its omitted sets put in

@@ -2,6 +2,7 @@ pub mod Avoidance
 pub mod CanonicalDerivations
 pub mod Comparison
 pub mod DerivationSizes
+pub mod ExampleChecks
 pub mod Examples
 pub mod Exposing
 pub mod Fillings

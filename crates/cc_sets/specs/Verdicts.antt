@@ -1,12 +1,12 @@
 -- The verdict of one definition, in the context of the devices, the imported definitions and those before it.
-use Rattle.std.specs.Prelude.{◌≡◌, ◌⊎◌, ℕ, suc, nat_lt, Bool, true, false, List, [], ◌∷◌, length, Option, Some, None}
+use Rattle.std.specs.Prelude.{◌≡◌, ◌⊎◌, ℕ, suc, nat_lt, Bool, List, [], ◌∷◌, length, Option, Some, None}
 use Rattle.std.specs.Prelude.{if◌then◌else◌}
 use Rattle.std.specs.Option.{option_and_then}
 use Rattle.cc_base.specs.declared.code.Code.{Code}
 use Rattle.cc_base.specs.declared.code.Code.TheVariants.{E14, E17}
 use Rattle.cc_base.specs.declared.place.Place.{Place}
 use Rattle.cc_capture.specs.Sets.{Set, empty}
-use Rattle.cc_core.specs.Shapes.{Shape, CapturingType, capturing}
+use Rattle.cc_core.specs.Shapes.{CapturingType, capturing}
 use Rattle.cc_core.specs.Terms.{Note, Absent, Written, Own, Term}
 use Rattle.cc_core.specs.Contexts.{Bind, TermEntry, TypeEntry, Context, entry_of}
 use Rattle.cc_core.specs.Traversal.{act_note}
@@ -14,8 +14,8 @@ use Rattle.cc_core.specs.Substitution.{filling_in, filled_type, filled_term}
 use Rattle.cc_core.specs.Places.{Places, spots}
 use Rattle.cc_sets.specs.Avoidance.{Positive, avoided_type}
 use Rattle.cc_sets.specs.Outcomes.{Placed, Outcome, NoAnswer, Refused, Found, finds, ◌>>=◌, ◌>>◌, found_or}
-use Rattle.cc_sets.specs.Fillings.{Filling, AllServed, IsLeast, FailsFirst, IsOverGlobals}
-use Rattle.cc_sets.specs.Inference.{Ways, limited, Result, noted, named_by, below, inferred, type_in}
+use Rattle.cc_sets.specs.Fillings.{Filling, AllServed, IsLeast, FailsFirst}
+use Rattle.cc_sets.specs.Inference.{Ways, limited, noted, below, inferred}
 
 -- A definition: the place of its name, the type written for it, whether its name is visible in its own right side, and the
 -- right side with its places.
