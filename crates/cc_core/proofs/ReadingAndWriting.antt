@@ -15,7 +15,8 @@ use Rattle.cc_core.specs.Reading.{read_variable, written_variable, reading, writ
 use Rattle.cc_core.specs.ReadingLaws.{of_the_term}
 use Rattle.cc_core.specs.Occurrences.{Meets, MeetsInSet, MeetsInType, MeetsInNote, MeetsInTerm, HasBinder, IsPositionBelow, bound_within}
 use Rattle.cc_core.proofs.Conditions.{gives_here, MeetsInSet-here, Meets-here, MeetsInType-here, MeetsInNote-here, MeetsInTerm-here}
-use Rattle.cc_core.proofs.Moving.{same_moves, moving_set-moving, moving-moving, moving_type-moving, moving_note-moving, moving_term-moving, moving_set-still, moving-still, moving_type-still, moving_note-still, moving_term-still}
+use Rattle.cc_core.proofs.Moving.{same_moves, moving-moving, moving-still}
+use Rattle.cc_core.proofs.Sorts.{SetSort, ShapeSort, TypeSort, NoteSort, TermSort}
 use Rattle.cc_core.proofs.Opening.{put_variable-same, put_variable-other}
 use Rattle.cc_core.proofs.Shifting.{shift, shift_type, shift_note, shift_term}
 
@@ -122,113 +123,113 @@ written_read r n d (Bound i) h =
 -- sets
 pub opened_set-read : (n : ℕ) (x : Set) → act_set (opening n) 0 (act_set (reading n) 1 x) ≡ act_set (reading (suc n)) 0 x
 opened_set-read n x =
-    moving_set-moving (put_variable (Free n)) (λ d v. read_variable n (suc d) v) 0 x
+    moving-moving (put_variable (Free n)) (λ d v. read_variable n (suc d) v) SetSort 0 x
     ∙ ap (λ f. act_set f 0 x) (same_moves (λ d v. put_variable (Free n) d (read_variable n (suc d) v)) (read_variable (suc n)) (put_read n))
 
 pub read_set-still : (n d : ℕ) (x : Set) → MeetsInSet (bound_within 0) d x → act_set (reading n) d x ≡ x
 read_set-still n d x m =
-    moving_set-still (read_variable n) d x (MeetsInSet-here (bound_within 0) _ (gives_here _ _ (λ k v h. read_still n k v h)) d x m)
+    moving-still (read_variable n) SetSort d x (MeetsInSet-here (bound_within 0) _ (gives_here _ _ (λ k v h. read_still n k v h)) d x m)
 
 pub read_set-written : (r n d : ℕ) (x : Set) → MeetsInSet (bound_within 0) d x
     → act_set (reading n) d (act_set (writing r n) d x) ≡ x
 read_set-written r n d x m =
-    moving_set-moving (read_variable n) (written_variable r n) d x
-    ∙ moving_set-still (λ k v. read_variable n k (written_variable r n k v)) d x (MeetsInSet-here (bound_within 0) _ (gives_here _ _ (λ k v h. read_written r n k v h)) d x m)
+    moving-moving (read_variable n) (written_variable r n) SetSort d x
+    ∙ moving-still (λ k v. read_variable n k (written_variable r n k v)) SetSort d x (MeetsInSet-here (bound_within 0) _ (gives_here _ _ (λ k v h. read_written r n k v h)) d x m)
 
 pub written_set-read : (r n d : ℕ) (x : Set) → MeetsInSet (of_the_term r n) d x
     → act_set (writing r n) d (act_set (reading n) d x) ≡ x
 written_set-read r n d x m =
-    moving_set-moving (written_variable r n) (read_variable n) d x
-    ∙ moving_set-still (λ k v. written_variable r n k (read_variable n k v)) d x (MeetsInSet-here (of_the_term r n) _ (gives_here _ _ (λ k v h. written_read r n k v h)) d x m)
+    moving-moving (written_variable r n) (read_variable n) SetSort d x
+    ∙ moving-still (λ k v. written_variable r n k (read_variable n k v)) SetSort d x (MeetsInSet-here (of_the_term r n) _ (gives_here _ _ (λ k v h. written_read r n k v h)) d x m)
 
 -- shapes
 pub opened-read : (n : ℕ) (x : Shape) → act (opening n) 0 (act (reading n) 1 x) ≡ act (reading (suc n)) 0 x
 opened-read n x =
     ap (act (opening n) 0) (shift (reading n) 0 x)
-    ∙ moving-moving (put_variable (Free n)) (λ d v. read_variable n (suc d) v) 0 x
+    ∙ moving-moving (put_variable (Free n)) (λ d v. read_variable n (suc d) v) ShapeSort 0 x
     ∙ ap (λ f. act f 0 x) (same_moves (λ d v. put_variable (Free n) d (read_variable n (suc d) v)) (read_variable (suc n)) (put_read n))
 
 pub read-still : (n d : ℕ) (x : Shape) → Meets (bound_within 0) d x → act (reading n) d x ≡ x
 read-still n d x m =
-    moving-still (read_variable n) d x (Meets-here (bound_within 0) _ (gives_here _ _ (λ k v h. read_still n k v h)) d x m)
+    moving-still (read_variable n) ShapeSort d x (Meets-here (bound_within 0) _ (gives_here _ _ (λ k v h. read_still n k v h)) d x m)
 
 pub read-written : (r n d : ℕ) (x : Shape) → Meets (bound_within 0) d x
     → act (reading n) d (act (writing r n) d x) ≡ x
 read-written r n d x m =
-    moving-moving (read_variable n) (written_variable r n) d x
-    ∙ moving-still (λ k v. read_variable n k (written_variable r n k v)) d x (Meets-here (bound_within 0) _ (gives_here _ _ (λ k v h. read_written r n k v h)) d x m)
+    moving-moving (read_variable n) (written_variable r n) ShapeSort d x
+    ∙ moving-still (λ k v. read_variable n k (written_variable r n k v)) ShapeSort d x (Meets-here (bound_within 0) _ (gives_here _ _ (λ k v h. read_written r n k v h)) d x m)
 
 pub written-read : (r n d : ℕ) (x : Shape) → Meets (of_the_term r n) d x
     → act (writing r n) d (act (reading n) d x) ≡ x
 written-read r n d x m =
-    moving-moving (written_variable r n) (read_variable n) d x
-    ∙ moving-still (λ k v. written_variable r n k (read_variable n k v)) d x (Meets-here (of_the_term r n) _ (gives_here _ _ (λ k v h. written_read r n k v h)) d x m)
+    moving-moving (written_variable r n) (read_variable n) ShapeSort d x
+    ∙ moving-still (λ k v. written_variable r n k (read_variable n k v)) ShapeSort d x (Meets-here (of_the_term r n) _ (gives_here _ _ (λ k v h. written_read r n k v h)) d x m)
 
 -- types
 pub opened_type-read : (n : ℕ) (x : CapturingType) → act_type (opening n) 0 (act_type (reading n) 1 x) ≡ act_type (reading (suc n)) 0 x
 opened_type-read n x =
     ap (act_type (opening n) 0) (shift_type (reading n) 0 x)
-    ∙ moving_type-moving (put_variable (Free n)) (λ d v. read_variable n (suc d) v) 0 x
+    ∙ moving-moving (put_variable (Free n)) (λ d v. read_variable n (suc d) v) TypeSort 0 x
     ∙ ap (λ f. act_type f 0 x) (same_moves (λ d v. put_variable (Free n) d (read_variable n (suc d) v)) (read_variable (suc n)) (put_read n))
 
 pub read_type-still : (n d : ℕ) (x : CapturingType) → MeetsInType (bound_within 0) d x → act_type (reading n) d x ≡ x
 read_type-still n d x m =
-    moving_type-still (read_variable n) d x (MeetsInType-here (bound_within 0) _ (gives_here _ _ (λ k v h. read_still n k v h)) d x m)
+    moving-still (read_variable n) TypeSort d x (MeetsInType-here (bound_within 0) _ (gives_here _ _ (λ k v h. read_still n k v h)) d x m)
 
 pub read_type-written : (r n d : ℕ) (x : CapturingType) → MeetsInType (bound_within 0) d x
     → act_type (reading n) d (act_type (writing r n) d x) ≡ x
 read_type-written r n d x m =
-    moving_type-moving (read_variable n) (written_variable r n) d x
-    ∙ moving_type-still (λ k v. read_variable n k (written_variable r n k v)) d x (MeetsInType-here (bound_within 0) _ (gives_here _ _ (λ k v h. read_written r n k v h)) d x m)
+    moving-moving (read_variable n) (written_variable r n) TypeSort d x
+    ∙ moving-still (λ k v. read_variable n k (written_variable r n k v)) TypeSort d x (MeetsInType-here (bound_within 0) _ (gives_here _ _ (λ k v h. read_written r n k v h)) d x m)
 
 pub written_type-read : (r n d : ℕ) (x : CapturingType) → MeetsInType (of_the_term r n) d x
     → act_type (writing r n) d (act_type (reading n) d x) ≡ x
 written_type-read r n d x m =
-    moving_type-moving (written_variable r n) (read_variable n) d x
-    ∙ moving_type-still (λ k v. written_variable r n k (read_variable n k v)) d x (MeetsInType-here (of_the_term r n) _ (gives_here _ _ (λ k v h. written_read r n k v h)) d x m)
+    moving-moving (written_variable r n) (read_variable n) TypeSort d x
+    ∙ moving-still (λ k v. written_variable r n k (read_variable n k v)) TypeSort d x (MeetsInType-here (of_the_term r n) _ (gives_here _ _ (λ k v h. written_read r n k v h)) d x m)
 
 -- notes
 pub opened_note-read : (n : ℕ) (x : Note) → act_note (opening n) 0 (act_note (reading n) 1 x) ≡ act_note (reading (suc n)) 0 x
 opened_note-read n x =
     ap (act_note (opening n) 0) (shift_note (reading n) 0 x)
-    ∙ moving_note-moving (put_variable (Free n)) (λ d v. read_variable n (suc d) v) 0 x
+    ∙ moving-moving (put_variable (Free n)) (λ d v. read_variable n (suc d) v) NoteSort 0 x
     ∙ ap (λ f. act_note f 0 x) (same_moves (λ d v. put_variable (Free n) d (read_variable n (suc d) v)) (read_variable (suc n)) (put_read n))
 
 pub read_note-still : (n d : ℕ) (x : Note) → MeetsInNote (bound_within 0) d x → act_note (reading n) d x ≡ x
 read_note-still n d x m =
-    moving_note-still (read_variable n) d x (MeetsInNote-here (bound_within 0) _ (gives_here _ _ (λ k v h. read_still n k v h)) d x m)
+    moving-still (read_variable n) NoteSort d x (MeetsInNote-here (bound_within 0) _ (gives_here _ _ (λ k v h. read_still n k v h)) d x m)
 
 pub read_note-written : (r n d : ℕ) (x : Note) → MeetsInNote (bound_within 0) d x
     → act_note (reading n) d (act_note (writing r n) d x) ≡ x
 read_note-written r n d x m =
-    moving_note-moving (read_variable n) (written_variable r n) d x
-    ∙ moving_note-still (λ k v. read_variable n k (written_variable r n k v)) d x (MeetsInNote-here (bound_within 0) _ (gives_here _ _ (λ k v h. read_written r n k v h)) d x m)
+    moving-moving (read_variable n) (written_variable r n) NoteSort d x
+    ∙ moving-still (λ k v. read_variable n k (written_variable r n k v)) NoteSort d x (MeetsInNote-here (bound_within 0) _ (gives_here _ _ (λ k v h. read_written r n k v h)) d x m)
 
 pub written_note-read : (r n d : ℕ) (x : Note) → MeetsInNote (of_the_term r n) d x
     → act_note (writing r n) d (act_note (reading n) d x) ≡ x
 written_note-read r n d x m =
-    moving_note-moving (written_variable r n) (read_variable n) d x
-    ∙ moving_note-still (λ k v. written_variable r n k (read_variable n k v)) d x (MeetsInNote-here (of_the_term r n) _ (gives_here _ _ (λ k v h. written_read r n k v h)) d x m)
+    moving-moving (written_variable r n) (read_variable n) NoteSort d x
+    ∙ moving-still (λ k v. written_variable r n k (read_variable n k v)) NoteSort d x (MeetsInNote-here (of_the_term r n) _ (gives_here _ _ (λ k v h. written_read r n k v h)) d x m)
 
 -- terms
 pub opened_term-read : (n : ℕ) (x : Term) → act_term (opening n) 0 (act_term (reading n) 1 x) ≡ act_term (reading (suc n)) 0 x
 opened_term-read n x =
     ap (act_term (opening n) 0) (shift_term (reading n) 0 x)
-    ∙ moving_term-moving (put_variable (Free n)) (λ d v. read_variable n (suc d) v) 0 x
+    ∙ moving-moving (put_variable (Free n)) (λ d v. read_variable n (suc d) v) TermSort 0 x
     ∙ ap (λ f. act_term f 0 x) (same_moves (λ d v. put_variable (Free n) d (read_variable n (suc d) v)) (read_variable (suc n)) (put_read n))
 
 pub read_term-still : (n d : ℕ) (x : Term) → MeetsInTerm (bound_within 0) d x → act_term (reading n) d x ≡ x
 read_term-still n d x m =
-    moving_term-still (read_variable n) d x (MeetsInTerm-here (bound_within 0) _ (gives_here _ _ (λ k v h. read_still n k v h)) d x m)
+    moving-still (read_variable n) TermSort d x (MeetsInTerm-here (bound_within 0) _ (gives_here _ _ (λ k v h. read_still n k v h)) d x m)
 
 pub read_term-written : (r n d : ℕ) (x : Term) → MeetsInTerm (bound_within 0) d x
     → act_term (reading n) d (act_term (writing r n) d x) ≡ x
 read_term-written r n d x m =
-    moving_term-moving (read_variable n) (written_variable r n) d x
-    ∙ moving_term-still (λ k v. read_variable n k (written_variable r n k v)) d x (MeetsInTerm-here (bound_within 0) _ (gives_here _ _ (λ k v h. read_written r n k v h)) d x m)
+    moving-moving (read_variable n) (written_variable r n) TermSort d x
+    ∙ moving-still (λ k v. read_variable n k (written_variable r n k v)) TermSort d x (MeetsInTerm-here (bound_within 0) _ (gives_here _ _ (λ k v h. read_written r n k v h)) d x m)
 
 pub written_term-read : (r n d : ℕ) (x : Term) → MeetsInTerm (of_the_term r n) d x
     → act_term (writing r n) d (act_term (reading n) d x) ≡ x
 written_term-read r n d x m =
-    moving_term-moving (written_variable r n) (read_variable n) d x
-    ∙ moving_term-still (λ k v. written_variable r n k (read_variable n k v)) d x (MeetsInTerm-here (of_the_term r n) _ (gives_here _ _ (λ k v h. written_read r n k v h)) d x m)
+    moving-moving (written_variable r n) (read_variable n) TermSort d x
+    ∙ moving-still (λ k v. written_variable r n k (read_variable n k v)) TermSort d x (MeetsInTerm-here (of_the_term r n) _ (gives_here _ _ (λ k v h. written_read r n k v h)) d x m)

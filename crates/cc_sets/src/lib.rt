@@ -2,4 +2,5 @@
 //! avoidance of variables that go out of scope. So far these are definitions, which other crates meet.
 #![tactic(auto)]
 
+pub mod example_checks;
 pub mod examples;

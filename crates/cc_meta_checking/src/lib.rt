@@ -1,0 +1,5 @@
+//! The laws of checking, apart from any code: inference has at most one answer. The functions do nothing; each has a law as
+//! its contract.
+#![tactic(auto)]
+
+pub mod inference_laws;
