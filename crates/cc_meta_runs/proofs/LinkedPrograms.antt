@@ -28,7 +28,8 @@ use Rattle.cc_core.specs.Stores.{ValueCell, DeviceCell, Store, is_device_base, H
 use Rattle.cc_core.specs.Programs.{Definition, Module, Entry, definition_named, definition_in, IsEntry}
 use Rattle.cc_core.proofs.Lookups.{lookup-newest, lookup-older, lookup-cases, lookup-more, slice_get-within}
 use Rattle.cc_core.proofs.Moving.{Member-single}
-use Rattle.cc_meta_typing.proofs.FormedContexts.{IsKindedContext, IsKindedContext-test, entry_kinded, kind_of_entry}
+use Rattle.cc_core.proofs.SubcapturingContexts.{IsKindedContext, entry_kinded, kind_of_entry}
+use Rattle.cc_meta_typing.proofs.FormedContexts.{IsKindedContext-test}
 use Rattle.cc_meta_typing.proofs.InternalConversions.{formed_type_from, internal_from, type_from}
 use Rattle.cc_meta_runs.specs.Links.{count_definitions, position_among, position_in, linked_position, linked_cell, device_cells, linked_store, linked_context, program_store, program_context, entry_position, program_start}
 use Rattle.cc_meta_runs.specs.LinkLaws.{LinkedStoresAreTyped, DefinitionsAreLinked}

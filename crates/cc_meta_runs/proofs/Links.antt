@@ -22,15 +22,16 @@ use Rattle.cc_core.specs.Captured.{is_value}
 use Rattle.cc_core.specs.Typing.{HasType}
 use Rattle.cc_core.specs.Stores.{Store, is_device_base, is_function, HasStoreTyping, none_stored, value_stored, recursive_stored, device_stored}
 use Rattle.cc_core.specs.Programs.{Import, Definition, Module, definition_named, definition_in, imported, device_entry, device_context, with_signature, import_context, definition_context, NamesDevicesOnly, OfEachModule, AreTyped, is_definable, AreDefinable, SignaturesNameDevices, ImportsAreThere, IsTypedModule}
-use Rattle.cc_core.proofs.Actions.{act_type-keeping}
 use Rattle.cc_core.proofs.Conditions.{gives_here, MeetsInType-here}
 use Rattle.cc_core.proofs.Lookups.{lookup-newest, lookup-below, lookup-older, lookup-cases, lookup-more, lookup-map, length_map}
-use Rattle.cc_core.proofs.Moving.{Member-single, moving_type-congruent, moving-identity}
+use Rattle.cc_core.proofs.Moving.{Member-single, moving-still}
+use Rattle.cc_core.proofs.Sorts.{TypeSort}
+use Rattle.cc_core.proofs.SubcapturingContexts.{kind_of_entry}
 use Rattle.cc_core.proofs.Renaming.{renaming_as_free}
 use Rattle.cc_core.proofs.CapturedActions.{is_value-act}
-use Rattle.cc_core.proofs.WellFormedness.{renamed_type-well_formed}
+use Rattle.cc_core.proofs.WellFormedness.{renamed-well_formed}
 use Rattle.cc_meta_typing.specs.ContextMaps.{mapped_entry}
-use Rattle.cc_meta_typing.proofs.FormedContexts.{IsKindedContext-test, kind_of_entry}
+use Rattle.cc_meta_typing.proofs.FormedContexts.{IsKindedContext-test}
 use Rattle.cc_meta_typing.proofs.MappedTyping.{typing_renames}
 use Rattle.cc_meta_runs.proofs.StoreTyping.{store_typed_from, store_formed}
 use Rattle.cc_meta_runs.specs.Links.{count_definitions, position_among, position_in, import_position, linked_position, linked_cell, device_cells, linked_store, linked_context}
@@ -42,11 +43,9 @@ stays_at n to still (Free p) below = ap (λ q. Free q) (still p below)
 
 kept_type : (n : ℕ) (to : ℕ → ℕ) → ((p : ℕ) → p < n → to p ≡ p) → (t : CapturingType) → MeetsInType (positions_below n) 0 t → act_type (renaming to) 0 t ≡ t
 kept_type n to still t below =
-    moving_type-congruent (λ d v. renamed_variable to v) (λ d v. v) 0 t
+    moving-still (λ d v. renamed_variable to v) TypeSort 0 t
     (MeetsInType-here (positions_below n) (on_variables (λ d v. renamed_variable to v ≡ v))
     (gives_here (λ d v. IsPositionBelow n v) (λ d v. renamed_variable to v ≡ v) (λ d v m. stays_at n to still v m)) 0 t below)
-    ∙ ap (λ a. act_type a 0 t) moving-identity
-    ∙ act_type-keeping 0 t
 
 -- an entry whose type names devices alone
 abbrev OfDevices : ℕ → Bind → Type 0
@@ -266,7 +265,7 @@ module _ (devices : List Base) (earlier : List Module) (signatures : OfEachModul
         → IsWellFormedType (definition_context own ds) type → IsWellFormedType (definition_context (linked_context devices earlier) ds) type
     signature_formed ds all type names formed =
         subst (IsWellFormedType (definition_context (linked_context devices earlier) ds)) (kept_type (length devices) to still type names)
-        (renamed_type-well_formed (definition_context own ds) (definition_context (linked_context devices earlier) ds) to type kinds_kept formed)
+        (renamed-well_formed TypeSort (definition_context own ds) (definition_context (linked_context devices earlier) ds) to type kinds_kept formed)
       where
         kinds_kept : (p : ℕ) (k : Kind) → lookup (kinds_of (definition_context own ds)) p ≡ Some k → lookup (kinds_of (definition_context (linked_context devices earlier) ds)) (to p) ≡ Some k
         kinds_kept p k e = by_entry (lookup (definition_context own ds) p) refl (sym (lookup-map kind_of (definition_context own ds) p) ∙ e)

@@ -11,7 +11,7 @@ use Rattle.cc_core.specs.WellFormed.{TermKind, TypeKind, kinds_of}
 use Rattle.cc_core.specs.Typing.{HasType}
 use Rattle.cc_core.specs.Stores.{Cell, Store, cell_at, is_device_base}
 use Rattle.cc_core.proofs.KindFacts.{IsKinded}
-use Rattle.cc_meta_typing.proofs.FormedContexts.{IsKindedContext}
+use Rattle.cc_core.proofs.SubcapturingContexts.{IsKindedContext}
 use Rattle.cc_meta_typing.proofs.FreeMaps.{lookup_cases}
 use Rattle.cc_meta_typing.proofs.InternalTyping.{HasVariable, Typed}
 use Rattle.cc_meta_typing.proofs.InternalConversions.{typed_from, type_from}
