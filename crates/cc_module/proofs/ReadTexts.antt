@@ -1,19 +1,16 @@
 -- The verdict of a text whose tokens are read, and of one that has none.
-use Rattle.std.proofs.Common.{◌≡◌, ℕ, List, [], ◌∷◌, map, refl, sym, ap, ◌∙◌, subst, Result, Ok, Err, IfOk}
+use Rattle.std.proofs.Common.{◌≡◌, ℕ, List, [], ◌∷◌, map, refl, sym, ap, ◌∙◌, subst, Result, Ok, IfOk}
 use Rattle.std.proofs.lemmas.Result.{IfOk-weaker}
 use Rattle.std.specs.Str.{chars}
 use Rattle.std.specs.declared.alloc.AllocError.{AllocError}
-use Rattle.cc_base.specs.declared.place.Place.{Place}
-use Rattle.cc_base.specs.declared.code.Diag.{Diag}
 use Rattle.cc_lex.specs.declared.token.Token.{Token}
 use Rattle.cc_lex.specs.declared.token.Tokens.{Tokens}
 use Rattle.cc_lex.specs.Lexemes.{placed_of, placed_all}
-use Rattle.cc_lex.specs.Lexical.{start, place_past, spanned_of, spanned_all, without_spans, IsRefused, HasTokens, Lexes}
+use Rattle.cc_lex.specs.Lexical.{start, place_past, spanned_of, spanned_all, without_spans, Lexes}
 use Rattle.cc_grammar.specs.Reading.{reading_of}
 use Rattle.cc_grammar.proofs.Readings.{tokens_read_as_they_are}
 use Rattle.cc_module.specs.declared.verdict.ModuleVerdict.{ModuleVerdict}
-use Rattle.cc_module.specs.declared.verdict.ModuleVerdict.TheVariants.{Refused}
-use Rattle.cc_module.specs.Verdict.{reading_verdict, HasVerdict, no_tokens, reads, verdict_of}
+use Rattle.cc_module.specs.Verdict.{reading_verdict, HasVerdict, reads, verdict_of}
 use Rattle.cc_module.proofs.VerdictLaws.{text_has_one_verdict}
 
 placed-spanned : (tokens : List Token) → map (λ t. t.placed) (map spanned_of tokens) ≡ map placed_of tokens
@@ -28,7 +25,7 @@ has_verdict_of_tokens device text tokens verdict lexed is =
     let placed = without_spans (spanned_all tokens) in
     let end = place_past start (chars text) in
     let same = is ∙ (ap (λ ts. reading_verdict device (reading_of ts tokens.end)) (sym (placed-spanned tokens.tokens.items))
-        ∙ ap (λ p. reading_verdict device (reading_of placed p)) lexed.1) in
+    ∙ ap (λ p. reading_verdict device (reading_of placed p)) lexed.1) in
     subst (λ v. HasVerdict device text v) (sym same)
     (reads (spanned_all tokens) (reading_of placed end) lexed.0 (tokens_read_as_they_are placed end))
 

@@ -7,8 +7,8 @@ use Rattle.std.proofs.lemmas.Str.{IsUtf8-from_is_utf8, is_utf8-from_IsUtf8}
 use Rattle.cc_base.specs.declared.place.Place.{Place}
 use Rattle.cc_base.specs.declared.code.Code.{Code}
 use Rattle.cc_base.specs.declared.code.Code.TheVariants.{E01, E02}
-use Rattle.cc_lex.specs.Lexical.{SpannedLexeme, Extent, ToTheEnd, UpTo, start, place_past, without_spans, IsCut, IsRefusedAs, HasTokens}
-use Rattle.cc_lex.specs.Cutting.{Cutting, cut}
+use Rattle.cc_lex.specs.Lexical.{SpannedLexeme, Extent, ToTheEnd, UpTo, start, place_past, without_spans, IsCut, IsRefusedAs}
+use Rattle.cc_lex.specs.Cutting.{cut}
 use Rattle.cc_lex.proofs.CuttingLaws.{cut-is, IsCut-cut}
 use Rattle.cc_grammar.specs.Reading.{reading_of}
 use Rattle.cc_grammar.proofs.Readings.{tokens_read_as_they_are, tokens_have_one_reading}

@@ -1,4 +1,3 @@
-use Rattle.std.proofs.Common.{Ok}
 use Rattle.cc_module.specs.Verdict.{no_tokens}
 use Rattle.cc_module.proofs.ReadTexts.{verdict_of_tokens, the_verdict_is}
 use Rattle.cc_module.proofs.VerdictLaws.{text_has_one_verdict}
