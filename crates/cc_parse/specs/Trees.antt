@@ -1,6 +1,7 @@
 -- The syntax that a tree of the program stands for.
-use Rattle.std.specs.Prelude.{List, map, Option, Some, None}
+use Rattle.std.specs.Prelude.{List, Vec, map, Option, Some, None}
 use Rattle.std.specs.Option.{option_map}
+use Rattle.std.specs.declared.alloc.Global.{Global}
 use Rattle.cc_base.specs.declared.literal.Import.{Import}
 use Rattle.cc_base.specs.declared.literal.Op.{Op}
 use Rattle.cc_base.specs.declared.place.Place.{Place}
@@ -24,6 +25,10 @@ element_syntax element = record { at = element.at; name = element.name }
 
 abbrev pub elements_syntax : List ElemTree → List ElementSyntax
 elements_syntax elements = map element_syntax elements
+
+-- the set of an unboxing, if it has one
+abbrev pub captures_syntax : Option (Vec ElemTree Global) → Option (List ElementSyntax)
+captures_syntax captures = option_map (λ elements. elements_syntax elements.items) captures
 
 abbrev pub set_syntax : SetTree → SetSyntax
 set_syntax sets.Absent = AbsentSet
@@ -76,7 +81,7 @@ abbrev mutual
       OperatorExpr at operator (expr_form_syntax left_at left) (expr_form_syntax right_at right)
   expr_form_syntax at (exprs.Boxed' p content_at content) = BoxExpr at (expr_form_syntax content_at content)
   expr_form_syntax at (exprs.Unbox' captures p content_at content) =
-      UnboxExpr at (option_map (λ elements. elements_syntax elements.items) captures) (expr_form_syntax content_at content)
+      UnboxExpr at (captures_syntax captures) (expr_form_syntax content_at content)
   expr_form_syntax at (exprs.App' p function_at function q argument_at argument) =
       CallExpr at (expr_form_syntax function_at function) (expr_form_syntax argument_at argument)
   expr_form_syntax at (exprs.TApp' p function_at function argument) =

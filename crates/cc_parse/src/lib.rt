@@ -2,5 +2,6 @@
 #![tactic(auto)]
 
 mod pieces;
+mod sets;
 mod stop;
 pub mod tree;
