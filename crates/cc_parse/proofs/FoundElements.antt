@@ -1,12 +1,13 @@
 -- What is found of a set's elements behind those that are read already.
-use Rattle.std.proofs.Common.{◌≡◌, ℕ, List, [], ◌∷◌, ◌++◌, map, refl, sym, ap, ◌∙◌, append_assoc, arith, ◌<◌, ◌-◌, length, get_or, take, drop, Option}
+use Rattle.std.proofs.Common.{◌≡◌, ℕ, List, [], ◌∷◌, ◌++◌, map, refl, sym, ap, ◌∙◌, append_assoc, ◌≤◌, length, get_or, Option}
 use Rattle.cc_base.specs.declared.place.Place.{Place}
-use Rattle.std.proofs.lemmas.List.{map-append, take_rest}
+use Rattle.std.proofs.lemmas.List.{map-append}
 use Rattle.cc_lex.specs.Lexemes.{Lexeme, PlacedLexeme, lexeme_of, placed_of, placed_all}
 use Rattle.cc_lex.specs.declared.token.Token.{Token}
 use Rattle.cc_grammar.specs.Syntax.{ElementSyntax}
 use Rattle.cc_grammar.specs.Reading.{Found, Got, Wrong, High, ◌>>=◌, SetState, Behind, AtNext, Ends, Takes, Separates, Misfits, set_step, elements_at}
 use Rattle.cc_parse.specs.declared.tree.ElemTree.{ElemTree}
+use Rattle.cc_parse.proofs.FirstTokens.{others, placed-split}
 use Rattle.cc_parse.specs.Trees.{element_syntax, elements_syntax}
 
 -- the elements that are found, behind these
@@ -33,21 +34,16 @@ elements_at-takes : (state : SetState) (spare : ℕ) (token : PlacedLexeme) (res
 unfolding elements_at
 elements_at-takes state spare token rest name h = rw (h, elements_at) refl
 
--- a list that is not empty is its first and the others
-split_first : {A : Type 0} (xs : List A) (x : A) → 0 < length xs → x ≡ get_or xs 0 x → xs ≡ x ∷ take (length xs - 1) (drop 1 xs)
-split_first [] x h e = absurd (omega arith)
-split_first (y ∷ ys) x h e = simp (take_rest (y ∷ ys) 1) (ap (λ z. z ∷ ys) (sym e))
-
 module _ (before after : List ElemTree) (state : SetState) (spare : ℕ) (left : List Token) (token : Token) (name : Option (List ℕ)) (whole : Found (List ElementSyntax)) where
   -- an element is read: it goes behind those that are read already
-  pub takes_next : 0 < length left → token ≡ get_or left 0 token → set_step state (lexeme_of token.kind) ≡ Takes name → after ≡ before ++ element_at token.at name ∷ [] → behind (elements_syntax before) (elements_at state spare (placed_all left)) ≡ whole
-      → behind (elements_syntax after) (elements_at Behind spare (placed_all (take (length left - 1) (drop 1 left)))) ≡ whole
+  pub takes_next : 1 ≤ length left → token ≡ get_or left 0 token → set_step state (lexeme_of token.kind) ≡ Takes name → after ≡ before ++ element_at token.at name ∷ [] → behind (elements_syntax before) (elements_at state spare (placed_all left)) ≡ whole
+      → behind (elements_syntax after) (elements_at Behind spare (placed_all (others left))) ≡ whole
   takes_next some first step now_is until_now =
-      let rest = placed_all (take (length left - 1) (drop 1 left)) in
+      let rest = placed_all (others left) in
       let one = element_at token.at name in
       ap (λ es. behind (elements_syntax es) (elements_at Behind spare rest)) now_is
       ∙ ap (λ es. behind es (elements_at Behind spare rest)) (map-append element_syntax before (one ∷ []))
       ∙ behind-more (elements_syntax before) (element_syntax one) (elements_at Behind spare rest)
       ∙ ap (λ found. behind (elements_syntax before) found) (sym (elements_at-takes state spare (placed_of token) rest name step))
-      ∙ ap (λ ts. behind (elements_syntax before) (elements_at state spare (placed_all ts))) (sym (split_first left token some first))
+      ∙ ap (λ ts. behind (elements_syntax before) (elements_at state spare ts)) (sym (placed-split left token some first))
       ∙ until_now

@@ -1,1 +1,3 @@
+pub mod FirstTokens
 pub mod FoundElements
+pub mod Parts

@@ -5,3 +5,4 @@ mod pieces;
 mod sets;
 mod stop;
 pub mod tree;
+mod types;

@@ -2,7 +2,7 @@
 
 ghost use Rattle.std.specs.Prelude.{◌≡◌, nat_eq};
 ghost use Rattle.cc_lex.specs.Lexemes.{lexeme_of, placed_all};
-ghost use Rattle.cc_grammar.specs.Tests.{word_number, symbol_number, is_word, is_symbol};
+ghost use Rattle.cc_grammar.specs.Tests.{word_number, symbol_number, is_word, is_symbol, begins_word, begins_symbol};
 ghost use Rattle.cc_grammar.specs.Reading.{word_at, symbol_at, name_at, placed_name_at};
 ghost use Rattle.cc_parse.specs.Agreement.{Agrees};
 
@@ -38,6 +38,26 @@ pub fn is_symbol(symbol: Symbol, kind: &TokenKind) -> bool
     match kind {
         TokenKind::Symbol(other) => symbol_number(symbol) == symbol_number(*other),
         _ => false,
+    }
+}
+
+/// Whether the first token is this word.
+pub fn begins_word(word: Word, tokens: &[Token]) -> bool
+    ensures { result ≡ begins_word word (placed_all tokens.now) }
+{
+    match tokens {
+        [token, ..] => is_word(word, &token.kind),
+        [] => false,
+    }
+}
+
+/// Whether the first token is this symbol.
+pub fn begins_symbol(symbol: Symbol, tokens: &[Token]) -> bool
+    ensures { result ≡ begins_symbol symbol (placed_all tokens.now) }
+{
+    match tokens {
+        [token, ..] => is_symbol(symbol, &token.kind),
+        [] => false,
     }
 }
 
