@@ -1,3 +1,5 @@
+pub mod AsciiNames
 pub mod FirstTokens
 pub mod FoundElements
+pub mod Operations
 pub mod Parts

@@ -1,5 +1,5 @@
 -- The cases of the program's dispatchers, as the definitions of reading name them.
-use Rattle.cc_grammar.specs.Reading.{ShapeStart, ExitStart, BoxStart, ParenStart, TypeFunctionStart, ShapeHead, WholeShape, StartsShape, NoShape, SetState, AtFirst, AtNext, Behind, SetStep, Ends, Takes, Separates, Misfits, CaretStep, Omits, Opens, Fails}
+use Rattle.cc_grammar.specs.Reading.{Link, OperatorLink, CallLink, TypeCallLink, DotLink, ExprStart, RuleStart, FunStart, ParenRule, ValRule, IfRule, BoundaryRule, BoxRule, UnboxRule, ExitRule, RepeatRule, ExprHead, WholeExpr, StartsExpr, NoExpr, ShapeStart, ExitStart, BoxStart, ParenStart, TypeFunctionStart, ShapeHead, WholeShape, StartsShape, NoShape, SetState, AtFirst, AtNext, Behind, SetStep, Ends, Takes, Separates, Misfits, CaretStep, Omits, Opens, Fails}
 use Rattle.cc_parse.specs.declared.sets.SetState.{SetState as DeclaredSetState}
 use Rattle.cc_parse.specs.declared.sets.SetState.TheVariants as states
 use Rattle.cc_parse.specs.declared.sets.SetStep.{SetStep as DeclaredSetStep}
@@ -10,7 +10,13 @@ use Rattle.cc_parse.specs.declared.types.ShapeStart.{ShapeStart as DeclaredShape
 use Rattle.cc_parse.specs.declared.types.ShapeStart.TheVariants as starts
 use Rattle.cc_parse.specs.declared.types.ShapeHead.{ShapeHead as DeclaredShapeHead}
 use Rattle.cc_parse.specs.declared.types.ShapeHead.TheVariants as heads
-use Rattle.cc_parse.specs.Trees.{shape_syntax}
+use Rattle.cc_parse.specs.declared.heads.ExprStart.{ExprStart as DeclaredExprStart}
+use Rattle.cc_parse.specs.declared.heads.ExprStart.TheVariants as begins
+use Rattle.cc_parse.specs.declared.heads.ExprHead.{ExprHead as DeclaredExprHead}
+use Rattle.cc_parse.specs.declared.heads.ExprHead.TheVariants as fronts
+use Rattle.cc_parse.specs.declared.levels.Link.{Link as DeclaredLink}
+use Rattle.cc_parse.specs.declared.levels.Link.TheVariants as links
+use Rattle.cc_parse.specs.Trees.{shape_syntax, expr_syntax}
 
 abbrev pub set_state : DeclaredSetState → SetState
 set_state states.First = AtFirst
@@ -38,3 +44,25 @@ abbrev pub shape_head_of : DeclaredShapeHead → ShapeHead
 shape_head_of (heads.Whole shape) = WholeShape (shape_syntax shape)
 shape_head_of (heads.Starts start) = StartsShape (shape_start start)
 shape_head_of heads.Misfit = NoShape
+
+abbrev pub expr_start : DeclaredExprStart → ExprStart
+expr_start begins.Paren = RuleStart ParenRule
+expr_start begins.Val = RuleStart ValRule
+expr_start begins.Fun = FunStart
+expr_start begins.If = RuleStart IfRule
+expr_start begins.Boundary = RuleStart BoundaryRule
+expr_start begins.Box = RuleStart BoxRule
+expr_start begins.Unbox = RuleStart UnboxRule
+expr_start begins.Exit = RuleStart ExitRule
+expr_start begins.Repeat = RuleStart RepeatRule
+
+abbrev pub expr_head_of : DeclaredExprHead → ExprHead
+expr_head_of (fronts.Whole expr) = WholeExpr (expr_syntax expr)
+expr_head_of (fronts.Starts start) = StartsExpr (expr_start start)
+expr_head_of fronts.Misfit = NoExpr
+
+abbrev pub link_syntax : DeclaredLink → Link
+link_syntax (links.Operator operator) = OperatorLink operator
+link_syntax links.Call = CallLink
+link_syntax links.TypeCall = TypeCallLink
+link_syntax links.Dot = DotLink

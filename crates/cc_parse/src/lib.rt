@@ -1,6 +1,8 @@
 //! The syntax tree of a module's tokens, or the place where no module goes on.
 #![tactic(auto)]
 
+mod heads;
+mod levels;
 mod pieces;
 mod sets;
 mod stop;
