@@ -1,6 +1,7 @@
 //! The syntax tree of a module's tokens, or the place where no module goes on.
 #![tactic(auto)]
 
+mod exprs;
 mod heads;
 mod levels;
 mod pieces;
