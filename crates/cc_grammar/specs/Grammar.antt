@@ -1,5 +1,6 @@
--- The grammar of modules, in its generating direction: the terminals of each tree, and what the terminals alone do not say.
-use Rattle.std.specs.Prelude.{◌≡◌, ℕ, ◌+◌, ◌≤◌, ⊤, codes, Bool, true, false, List, [], ◌∷◌, ◌++◌, Option, Some, None, IsTrue, if◌then◌else◌}
+-- The grammar of modules, in its generating direction: the terminals of each tree, and what the terminals alone do not
+-- say.
+use Rattle.std.specs.Prelude.{◌≡◌, ℕ, ◌+◌, ◌≤◌, ⊤, codes, Bool, true, false, List, [], ◌∷◌, ◌++◌, Option, Some, None, if◌then◌else◌}
 use Rattle.std.specs.List.{flat_map}
 use Rattle.cc_base.specs.declared.place.Place.{Place}
 use Rattle.cc_base.specs.declared.literal.Base.{Base}
@@ -253,7 +254,8 @@ operator_level operators.Add = 2
 operator_level operators.Sub = 2
 operator_level operators.Mul = 3
 
--- How tight the left operand is at least: operators group to the left, but a comparison has no comparison as an operand.
+-- How tight the left operand is at least: operators group to the left, but a comparison has no comparison as an
+-- operand.
 abbrev pub left_level : Operator → ℕ
 left_level operators.Less = 2
 left_level operators.Equal = 2
@@ -261,8 +263,8 @@ left_level operators.Add = 2
 left_level operators.Sub = 2
 left_level operators.Mul = 3
 
--- How tight an expression is: 0 for `val`, `fun`, `if` and `boundary`, which go on as far as they can, then the operators,
--- 4 for `box` and `unbox`, and 5 for all that is an operand anywhere.
+-- How tight an expression is: 0 for `val`, `fun`, `if` and `boundary`, which go on as far as they can, then the
+-- operators, 4 for `box` and `unbox`, and 5 for all that is an operand anywhere.
 abbrev pub level : ExprSyntax → ℕ
 level (ValExpr at name written right body) = 0
 level (FunExpr at parameter takes body) = 0
@@ -326,8 +328,8 @@ abbrev pub AreLowDefs : List DefSyntax → Type 0
 AreLowDefs [] = ⊤
 AreLowDefs (def ∷ defs) = IsLowDef def × AreLowDefs defs
 
--- The tokens are those of this module: they spell its terminals, at the places that its trees name, and its operands and
--- sets stand where they may.
+-- The tokens are those of this module: they spell its terminals, at the places that its trees name, and its operands
+-- and sets stand where they may.
 pub record IsModule (tokens : List PlacedLexeme) (it : ModuleSyntax) : Type 0 where
   pub grammatical : AreDefs it.defs
   pub spelled : Spell tokens (module_terminals it)

@@ -3,4 +3,5 @@ pub mod Grammar
 pub mod Reads
 pub mod Tests
 pub mod Reading
+pub mod Laws
 pub mod Examples

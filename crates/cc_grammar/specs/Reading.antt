@@ -6,7 +6,7 @@ use Rattle.cc_base.specs.declared.literal.Base.TheVariants as bases
 use Rattle.cc_base.specs.declared.literal.Operator.{Operator}
 use Rattle.cc_base.specs.declared.literal.Operator.TheVariants as operators
 use Rattle.cc_base.specs.declared.literal.Op.{Op}
-use Rattle.cc_base.specs.Literals.{Literal, UnitLiteral, TruthLiteral, NumberLiteral, TextLiteral}
+use Rattle.cc_base.specs.Literals.{UnitLiteral, TruthLiteral, NumberLiteral, TextLiteral}
 use Rattle.cc_lex.specs.declared.token.Word.{Word}
 use Rattle.cc_lex.specs.declared.token.Word.TheVariants as words
 use Rattle.cc_lex.specs.declared.token.Symbol.{Symbol}
@@ -17,8 +17,8 @@ use Rattle.cc_grammar.specs.Grammar.{level, operator_level, left_level, takes_ar
 use Rattle.cc_grammar.specs.Reads.{place_of, ModuleReading, TreeOf, SyntaxError, TooHigh}
 use Rattle.cc_grammar.specs.Tests.{is_word, is_symbol, begins_symbol, begins_word, name_of, operation_of}
 
--- What a reader finds: a tree with the height that it leaves of the room, and the tokens behind it; or the tokens from the
--- one on with which no tree, or no tree within the room, goes on.
+-- What a reader finds: a tree with the height that it leaves of the room, and the tokens behind it; or the tokens from
+-- the one on with which no tree, or no tree within the room, goes on.
 pub data Found (A : Type 0) : Type 0 where
   Got : (value : A) (spare : ℕ) (rest : List PlacedLexeme) → Found A
   Wrong : (rest : List PlacedLexeme) → Found A
@@ -51,8 +51,8 @@ Value (ExprPart least) = ExprSyntax
 abbrev pub Readers : Type 0
 Readers = (kind : Kind) → Reader (Value kind)
 
--- What a production is made of: words, symbols, names, names whose place the tree keeps, perhaps the set of an unboxing,
--- perhaps `: T`, and parts.
+-- What a production is made of: words, symbols, names, names whose place the tree keeps, perhaps the set of an
+-- unboxing, perhaps `: T`, and parts.
 pub data Piece : Type 0 where
   AWord : (word : Word) → Piece
   ASymbol : (symbol : Symbol) → Piece
@@ -146,7 +146,9 @@ elements_at state spare [] = Wrong []
 elements_at state spare (token ∷ tokens) =
     elim (set_step state token.lexeme) [
       | Ends ↦ Got [] spare tokens
-      | Takes name ↦ elements_at Behind spare tokens >>= λ more left rest. Got (record { at = token.at; name = name } ∷ more) left rest
+      | Takes name ↦
+          elements_at Behind spare tokens >>= λ more left rest.
+          Got (record { at = token.at; name = name } ∷ more) left rest
       | Separates ↦ elements_at AtNext spare tokens
       | Misfits ↦ Wrong (token ∷ tokens)
     ]
@@ -244,7 +246,8 @@ shape_tree ExitShapeRule at (opening, (gives, (close, end))) = ExitShape at give
 shape_tree BoxShapeRule at (opening, (content, (close, end))) = BoxShape at content
 shape_tree InnerRule at (inner, (close, end)) = ParenthesizedShape at inner
 shape_tree (NamedInnerRule place name) at (close, end) = ParenthesizedShape at (NamedShape place name)
-shape_tree (FunctionShapeRule parameter) at (colon, (takes, (close, (arrow, (gives, end))))) = FunctionShape at parameter takes gives
+shape_tree (FunctionShapeRule parameter) at (colon, (takes, (close, (arrow, (gives, end))))) =
+    FunctionShape at parameter takes gives
 shape_tree TypeFunctionShapeRule at (parameter, (below, (bound, (close, (arrow, (gives, end)))))) =
     TypeFunctionShape at parameter bound gives
 
@@ -311,7 +314,8 @@ shape_over room parts [] = Wrong []
 shape_over room parts (token ∷ tokens) =
     elim (shape_head token.at token.lexeme) [
       | WholeShape shape ↦ Got shape room tokens
-      | StartsShape start ↦ (elim room [ zero ↦ High (token ∷ tokens) | suc below ↦ shape_start_at parts below token.at start tokens ])
+      | StartsShape start ↦
+          (elim room [ zero ↦ High (token ∷ tokens) | suc below ↦ shape_start_at parts below token.at start tokens ])
       | NoShape ↦ Wrong (token ∷ tokens)
     ]
 
@@ -385,7 +389,8 @@ expr_tree IfRule at (opening, (gives, (close, (test, (then', (positive, (else', 
 expr_tree BoundaryRule at (opening, (gives, (close, (exit, (arrow, (body, end)))))) = BoundaryExpr at gives exit body
 expr_tree BoxRule at (content, end) = BoxExpr at content
 expr_tree UnboxRule at (captures, (content, end)) = UnboxExpr at captures content
-expr_tree ExitRule at (opening, (gives, (close, (paren, (exit, (comma, (value, (end, all)))))))) = ExitExpr at gives exit value
+expr_tree ExitRule at (opening, (gives, (close, (paren, (exit, (comma, (value, (end, all)))))))) =
+    ExitExpr at gives exit value
 expr_tree RepeatRule at (opening, (count, (comma, (function, (close, end))))) = RepeatExpr at count function
 
 -- how tight the expression is
@@ -524,7 +529,8 @@ link_tree (OperatorRule operator) expr (right, end) = OperatorExpr (expr_place e
 link_tree CallRule expr (argument, (close, end)) = CallExpr (expr_place expr) expr argument
 link_tree TypeCallRule expr (argument, (close, end)) = TypeCallExpr (expr_place expr) expr argument
 link_tree (AskRule operation) expr (opening, (close, end)) = AskExpr (expr_place expr) operation expr
-link_tree (TellRule operation) expr (opening, (argument, (close, end))) = TellExpr (expr_place expr) operation expr argument
+link_tree (TellRule operation) expr (opening, (argument, (close, end))) =
+    TellExpr (expr_place expr) operation expr argument
 
 -- the construct of this rule, from behind its front on
 unfoldable pub link_rule_at : Readers → ℕ → ExprSyntax → LinkRule → Reader ExprSyntax
@@ -572,8 +578,8 @@ abbrev pub behind_first : List PlacedLexeme → List PlacedLexeme
 behind_first [] = []
 behind_first (token ∷ tokens) = tokens
 
--- An expression with all that goes on it. Each link takes a level, so that the links are no more than the spare room: with
--- as many steps as there is spare room all are read.
+-- An expression with all that goes on it. Each link takes a level, so that the links are no more than the spare room:
+-- with as many steps as there is spare room all are read.
 unfoldable pub links_at : Readers → ℕ → ℕ → ExprSyntax → ℕ → Reader ExprSyntax
 links_at parts least zero expr spare tokens =
     elim (next_link least expr tokens) [ None ↦ Got expr spare tokens | Some link ↦ High tokens ]
@@ -583,7 +589,9 @@ links_at parts least (suc steps) expr spare tokens =
       | Some link ↦
           (elim spare [
             | zero ↦ High tokens
-            | suc left ↦ link_at parts left expr link (behind_first tokens) >>= λ more less rest. links_at parts least steps more less rest
+            | suc left ↦
+                link_at parts left expr link (behind_first tokens) >>= λ more less rest.
+                links_at parts least steps more less rest
           ])
     ]
 
@@ -597,7 +605,9 @@ expr_over room parts least (token ∷ tokens) =
           (if nat_le least (start_level start)
           then (elim room [
             | zero ↦ High (token ∷ tokens)
-            | suc below ↦ expr_start_at parts below token.at start tokens >>= λ expr spare rest. links_at parts least spare expr spare rest
+            | suc below ↦
+                expr_start_at parts below token.at start tokens >>= λ expr spare rest.
+                links_at parts least spare expr spare rest
           ])
           else Wrong (token ∷ tokens))
       | NoExpr ↦ Wrong (token ∷ tokens)
@@ -643,7 +653,9 @@ imports_at steps [] = Got [] top_room []
 imports_at zero (token ∷ tokens) = Got [] top_room (token ∷ tokens)
 imports_at (suc steps) (token ∷ tokens) =
     if is_word words.Import token.lexeme
-    then (import_at tokens >>= λ first spare rest. imports_at steps rest >>= λ more left behind. Got (first ∷ more) left behind)
+    then
+    (import_at tokens >>= λ first spare rest.
+    imports_at steps rest >>= λ more left behind. Got (first ∷ more) left behind)
     else Got [] top_room (token ∷ tokens)
 
 -- a definition, and one that is its own
@@ -654,7 +666,8 @@ pub data DefRule : Type 0 where
 abbrev pub def_pieces : DefRule → List Piece
 def_pieces PlainRule = APlacedName ∷ Written ∷ ASymbol symbols.Equals ∷ Part (ExprPart 0) ∷ []
 def_pieces OwnRule =
-    AWord words.Rec ∷ APlacedName ∷ ASymbol symbols.Colon ∷ Part TypePart ∷ ASymbol symbols.Equals ∷ Part (ExprPart 0) ∷ []
+    AWord words.Rec ∷ APlacedName ∷ ASymbol symbols.Colon ∷ Part TypePart ∷ ASymbol symbols.Equals ∷
+    Part (ExprPart 0) ∷ []
 
 abbrev pub def_tree : (rule : DefRule) → Parts (def_pieces rule) → DefSyntax
 def_tree PlainRule (name, (written, (equals, (right, end)))) =
@@ -678,7 +691,9 @@ defs_at steps [] = Got [] top_room []
 defs_at zero (token ∷ tokens) = Wrong (token ∷ tokens)
 defs_at (suc steps) (token ∷ tokens) =
     if is_word words.Def token.lexeme
-    then (def_at tokens >>= λ first spare rest. defs_at steps rest >>= λ more left behind. Got (first ∷ more) left behind)
+    then
+    (def_at tokens >>= λ first spare rest.
+    defs_at steps rest >>= λ more left behind. Got (first ∷ more) left behind)
     else Wrong (token ∷ tokens)
 
 -- a module; each import and each definition takes a token, so that there are no more of them than tokens

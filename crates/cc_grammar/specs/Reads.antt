@@ -13,7 +13,8 @@ Begins front = (more : List PlacedLexeme) × (it : ModuleSyntax) × IsModule (fr
 abbrev pub BeginsLow : List PlacedLexeme → Type 0
 BeginsLow front = (more : List PlacedLexeme) × (it : ModuleSyntax) × IsModule (front ++ more) it × IsLow it
 
--- No module, of any height, goes on behind the front with the next token; or, where there is none, the front is no module.
+-- No module, of any height, goes on behind the front with the next token; or, where there is none, the front is no
+-- module.
 abbrev pub NoneGoesOn : List PlacedLexeme → List PlacedLexeme → Type 0
 NoneGoesOn front [] = (it : ModuleSyntax) → IsModule front it → ⊥
 NoneGoesOn front (next ∷ after) = Begins (front ++ next ∷ []) → ⊥

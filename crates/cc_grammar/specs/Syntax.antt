@@ -1,5 +1,6 @@
--- The syntax trees of a module as plain data. Each node keeps the place of its first token; names are lists of code points.
-use Rattle.std.specs.Prelude.{ℕ, zero, ◌+◌, max, Bool, List, Option, Some, None}
+-- The syntax trees of a module as plain data. Each node keeps the place of its first token; a name is its list of code
+-- points.
+use Rattle.std.specs.Prelude.{ℕ, ◌+◌, max, Bool, List, Option, Some, None}
 use Rattle.cc_base.specs.declared.place.Place.{Place}
 use Rattle.cc_base.specs.declared.literal.Base.{Base}
 use Rattle.cc_base.specs.declared.literal.Operator.{Operator}
@@ -76,8 +77,8 @@ pub record ModuleSyntax : Type 0 where
   pub imports : List ImportSyntax
   pub defs : List DefSyntax
 
--- The height of a tree: a leaf has height 1, and any other construct, a pair of parentheses included, is one higher than
--- its highest part. The parts are the expressions, types and shapes in it; a set has no height.
+-- The height of a tree: a leaf has height 1, and any other construct, a pair of parentheses included, is one higher
+-- than its highest part. The parts are the expressions, types and shapes in it; a set has no height.
 abbrev mutual
   pub type_height : TypeSyntax → ℕ
   type_height (CapturingType at shape set) = shape_height shape

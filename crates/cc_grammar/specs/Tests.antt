@@ -1,5 +1,5 @@
 -- Tests of tokens: which word or symbol each is.
-use Rattle.std.specs.Prelude.{ℕ, Bool, true, false, nat_eq, List, [], ◌∷◌, Option, Some, None, codes, if◌then◌else◌}
+use Rattle.std.specs.Prelude.{ℕ, Bool, false, nat_eq, List, [], ◌∷◌, Option, Some, None, codes, if◌then◌else◌}
 use Rattle.std.specs.Str.{bytes_eq}
 use Rattle.cc_base.specs.declared.literal.Op.{Op}
 use Rattle.cc_base.specs.declared.literal.Op.TheVariants as ops

@@ -21,6 +21,21 @@ pub fn texts()
     ensures imports_come_first { example.ImportsComeFirst }
     ensures no_import_behind_a_definition { example.NoImportBehindADefinition }
     ensures shapes_in_parentheses { example.ShapesInParentheses }
+    ensures arrow_is_wanted { example.ArrowIsWanted }
+    ensures names_follow_rec { example.NamesFollowRec }
+    ensures comma_wants_an_element { example.CommaWantsAnElement }
+    ensures box_takes_calls { example.BoxTakesCalls }
+    ensures box_takes_no_product { example.BoxTakesNoProduct }
     ensures hundred_parentheses_are_too_high { example.HundredParenthesesAreTooHigh }
     ensures ninety_nine_parentheses_are_not { example.NinetyNineParenthesesAreNot }
+{}
+
+/// Heights, and which trees are expressions.
+#[tactic(auto, using(crate::proofs::WorkedTexts::worked))]
+pub fn trees()
+    ensures heights_count_parentheses { example.HeightsCountParentheses }
+    ensures sets_have_no_height { example.SetsHaveNoHeight }
+    ensures types_have_the_height_of_their_shapes { example.TypesHaveTheHeightOfTheirShapes }
+    ensures sums_are_no_factors { example.SumsAreNoFactors }
+    ensures sums_in_parentheses_are_factors { example.SumsInParenthesesAreFactors }
 {}
