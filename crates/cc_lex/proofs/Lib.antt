@@ -1,4 +1,20 @@
-mod Words
-mod Spelling
+mod Booleans
+mod Constructors
+mod Prefixes
+mod WordTexts
+mod WordsOrNames
+mod NumberTexts
+mod QuotedTexts
 mod Fronts
-pub mod CuttingLaws
+mod Reaches
+mod LongestForms
+mod Blanks
+mod Spelling
+mod CuttingLaws
+mod TextSlices
+mod FoundTokens
+mod CuttingSteps
+mod LexAnswers
+pub mod AnswerLaws
+pub mod TokenLaws
+mod WorkedTexts

@@ -1,153 +1,210 @@
--- What characters can spell: the kind is theirs alone, and it begins with a letter or is a symbol.
-use Rattle.std.proofs.Common.{◌≡◌, ℕ, Bool, true, false, cond, ◌&&◌, ◌||◌, not, List, [], ◌∷◌, refl, sym, ap, ◌∙◌, arith, codes, Option, Some, None, ◌⊎◌, inl, inr}
-use Rattle.std.specs.List.{list_all, list_any}
-use Rattle.std.specs.Str.{bytes_eq}
-use Rattle.std.specs.Char.{is_ascii_alphabetic, is_ascii_alphanumeric}
-use Rattle.std.proofs.lemmas.Slice.Eq.{bytes_eq-Decides}
+-- What characters of a form spell, and of which form what is spelled is.
+use Rattle.std.proofs.Common.{◌≡◌, ℕ, suc, ◌-◌, ◌<◌, ◌≤◌, Bool, true, false, cond, ◌&&◌, not, nat_le, List, [], ◌∷◌, ◌++◌, length, refl, sym, ap, ◌∙◌, arith, Option, Some, None, option_map, ℤ, pos, length-append}
+use Rattle.std.specs.List.{list_all}
+use Rattle.std.specs.Str.Parse.{digits_value}
 use Rattle.std.proofs.lemmas.Bool.Decides.{nat_tests}
-use Rattle.cc_base.specs.Names.{is_reserved, first_passes}
-use Rattle.cc_base.specs.declared.name.TheConstants.{RESERVED_WORDS}
+use Rattle.std.proofs.lemmas.List.{take_at}
+use Rattle.unicode_ident.specs.Ident.{is_xid_start, is_xid_continue}
+use Rattle.unicode_ident.proofs.Computing.{unicode_ident}
+use Rattle.cc_base.specs.Names.{first_passes, is_reserved, reserved_words, IsName}
 use Rattle.cc_lex.specs.declared.token.Word.{Word}
-use Rattle.cc_lex.specs.declared.token.Word.TheVariants.{Def, Fun, Val, Unit as UnitWord, Console, Unbuilt}
-use Rattle.cc_lex.specs.declared.token.Symbol.{Symbol}
-use Rattle.cc_lex.specs.declared.token.Symbol.TheVariants.{Colon, Equals, Open, Close, DoubleArrow, Arrow, Semicolon}
-use Rattle.cc_lex.specs.declared.token.TokenKind.{TokenKind}
-use Rattle.cc_lex.specs.declared.token.TokenKind.TheVariants as kinds
-use Rattle.cc_lex.specs.Lexical.{Spells, SpellsWord, symbol_text, is_white}
-use Rattle.cc_lex.specs.Cutting.{is_lettered, word_of, word_kind, short_symbol, long_symbol, symbol_kind}
-use Rattle.cc_lex.proofs.Words.{both, if_true, if_false}
+use Rattle.cc_lex.specs.declared.token.Word.TheVariants as words
+use Rattle.cc_lex.specs.declared.form.Form.{Form}
+use Rattle.cc_lex.specs.declared.form.Form.TheVariants as forms
+use Rattle.cc_lex.specs.Lexemes.{Lexeme, NameLexeme, NumberLexeme, TextLexeme, WordLexeme, SymbolLexeme}
+use Rattle.cc_lex.specs.Forms.{word_text, IsDigits, IsWord, IsString, IsOfForm, greatest_number, IsTooGreat, Spells}
+use Rattle.cc_lex.specs.Cutting.{word_of, number_of, inside, word_or_name, spelled_by}
+use Rattle.cc_lex.proofs.Booleans.{both, opposite, if_true, if_false, not_true}
+use Rattle.cc_lex.proofs.Constructors.{some_is}
+use Rattle.cc_lex.proofs.WordsOrNames.{word_of-some, name_of-none}
 
-module _ {W : Type 0} (text_of : W → List ℕ) where
-  abbrev are_lettered : List W → Bool
-  are_lettered [] = true
-  are_lettered (w ∷ ws) = is_lettered (text_of w) && are_lettered ws
+-- numbers
 
-same-lettered : (w cs : List ℕ) (b : Bool) → bytes_eq w cs ≡ b → is_lettered w ≡ true → (b ≡ false → is_lettered cs ≡ true) → is_lettered cs ≡ true
-same-lettered w cs true e h k = let same = (bytes_eq-Decides w cs).0 e in rw (← same) h
-same-lettered w cs false e h k = k refl
+number-within : (v : ℕ) (cs : List ℕ) (number : ℤ) (b : Bool) → nat_le v greatest_number ≡ b → cond b (Some (pos v)) None ≡ Some number → (v ≤ greatest_number) × (number ≡ pos v)
+number-within v cs number true e h = ((let k = e in grind (arith, nat_tests)), sym (some_is (pos v) number h))
+number-within v cs number false e h = cc
 
-or_false : (a b : Bool) → (a || b) ≡ true → a ≡ false → b ≡ true
-or_false true b h e = cc
-or_false false b h e = h
+number-beyond : (v : ℕ) (b : Bool) → nat_le v greatest_number ≡ b → cond b (Some (pos v)) None ≡ None → greatest_number < v
+number-beyond v true e h = cc
+number-beyond v false e h = (let k = e in grind (arith, nat_tests))
 
-lettered-among : {W : Type 0} (text_of : W → List ℕ) (ws : List W) (cs : List ℕ) → are_lettered text_of ws ≡ true → list_any (λ word. bytes_eq (text_of word) cs) ws ≡ true → is_lettered cs ≡ true
-lettered-among text_of [] cs h k = cc
-lettered-among text_of (w ∷ ws) cs h k =
-    let each = both (is_lettered (text_of w)) (are_lettered text_of ws) h in
-    same-lettered (text_of w) cs (bytes_eq (text_of w) cs) refl each.0 (λ e. lettered-among text_of ws cs each.1 (or_false _ _ k e))
+number_of-some : (cs : List ℕ) (number : ℤ) → number_of cs ≡ Some number → (digits_value 10 cs ≤ greatest_number) × (number ≡ pos (digits_value 10 cs))
+unfolding number_of
+number_of-some cs number h = number-within (digits_value 10 cs) cs number (nat_le (digits_value 10 cs) greatest_number) refl h
 
-pub lettered-reserved : (cs : List ℕ) → is_reserved cs ≡ true → is_lettered cs ≡ true
-unfolding is_reserved
-lettered-reserved cs h = lettered-among (λ word. word.now) RESERVED_WORDS cs refl h
+number_of-none : (cs : List ℕ) → number_of cs ≡ None → greatest_number < digits_value 10 cs
+unfolding number_of
+number_of-none cs h = number-beyond (digits_value 10 cs) (nat_le (digits_value 10 cs) greatest_number) refl h
 
-pub reserved-used : (w : Word) (cs : List ℕ) → SpellsWord w cs → is_reserved cs ≡ true
-unfolding is_reserved
-reserved-used Def cs e = ap is_reserved e
-reserved-used Fun cs e = ap is_reserved e
-reserved-used Val cs e = ap is_reserved e
-reserved-used UnitWord cs e = ap is_reserved e
-reserved-used Console cs e = ap is_reserved e
-reserved-used Unbuilt cs h = h.0
+number_of-within : (cs : List ℕ) → digits_value 10 cs ≤ greatest_number → number_of cs ≡ Some (pos (digits_value 10 cs))
+unfolding number_of
+number_of-within cs h =
+    let v = digits_value 10 cs in
+    let test : nat_le v greatest_number ≡ true = grind (arith, nat_tests) in
+    if_true (Some (pos v)) None test
 
--- the last choice, where no test passes
-last_choice : (a b c d e : Bool) → (a || b || c || d || e) ≡ false → cond a Def (cond b Fun (cond c Val (cond d UnitWord (cond e Console Unbuilt)))) ≡ Unbuilt
-last_choice true b c d e h = cc
-last_choice false true c d e h = cc
-last_choice false false true d e h = cc
-last_choice false false false true e h = cc
-last_choice false false false false true h = cc
-last_choice false false false false false h = refl
+pub number_of-beyond : (cs : List ℕ) → greatest_number < digits_value 10 cs → number_of cs ≡ None
+unfolding number_of
+number_of-beyond cs h =
+    let v = digits_value 10 cs in
+    let test : nat_le v greatest_number ≡ false = grind (arith, nat_tests) in
+    if_false (Some (pos v)) None test
 
-word_of-used : (w : Word) (cs : List ℕ) → SpellsWord w cs → word_of cs ≡ w
-word_of-used Def cs e = ap word_of e
-word_of-used Fun cs e = ap word_of e
-word_of-used Val cs e = ap word_of e
-word_of-used UnitWord cs e = ap word_of e
-word_of-used Console cs e = ap word_of e
-word_of-used Unbuilt cs h = last_choice (bytes_eq cs (codes "def")) (bytes_eq cs (codes "fun")) (bytes_eq cs (codes "val")) (bytes_eq cs (codes "Unit")) (bytes_eq cs (codes "Console")) h.1
+digits-spell : (cs : List ℕ) (o : Option ℤ) (lexeme : Lexeme) → IsDigits cs → number_of cs ≡ o → option_map NumberLexeme o ≡ Some lexeme → Spells lexeme cs
+digits-spell cs None lexeme h e k = cc
+digits-spell cs (Some number) lexeme h e k =
+    let value = number_of-some cs number e in
+    let spelled : Spells (NumberLexeme number) cs = (h, value.0, value.1) in
+    rw (← some_is (NumberLexeme number) lexeme k) spelled
 
--- the symbol that characters spell
-abbrev pub symbol_of : List ℕ → Option Symbol
-symbol_of [] = None
-symbol_of (c ∷ []) = short_symbol c
-symbol_of (c ∷ d ∷ cs) = long_symbol c (d ∷ cs)
+digits-too_great : (cs : List ℕ) (o : Option ℤ) → IsDigits cs → number_of cs ≡ o → option_map NumberLexeme o ≡ None → IsTooGreat cs
+digits-too_great cs None h e k = (h, number_of-none cs e)
+digits-too_great cs (Some number) h e k = cc
 
-pub symbol_of-text : (s : Symbol) → symbol_of (symbol_text s) ≡ Some s
-symbol_of-text Colon = refl
-symbol_of-text Equals = refl
-symbol_of-text Open = refl
-symbol_of-text Close = refl
-symbol_of-text DoubleArrow = refl
-symbol_of-text Arrow = refl
-symbol_of-text Semicolon = refl
+-- words and names
 
-pub symbol-begins : (s : Symbol) → first_passes is_ascii_alphabetic (symbol_text s) ≡ false
-symbol-begins Colon = refl
-symbol-begins Equals = refl
-symbol-begins Open = refl
-symbol-begins Close = refl
-symbol-begins DoubleArrow = refl
-symbol-begins Arrow = refl
-symbol-begins Semicolon = refl
+word-spells : (cs : List ℕ) (o : Option Word) → IsWord cs → word_of cs ≡ o → Spells (word_or_name cs o) cs
+word-spells cs None h e = (name_of-none cs h e, refl)
+word-spells cs (Some word) h e = word_of-some cs word e
 
--- the kind of the token that characters spell, where they spell one
-abbrev pub kind_of : List ℕ → TokenKind
-kind_of cs = cond (first_passes is_ascii_alphabetic cs) (word_kind cs) (symbol_kind (symbol_of cs))
+word_of-text : (word : Word) → word_of (word_text word) ≡ Some word
+unfolding word_of
+word_of-text words.Import = refl
+word_of-text words.Def = refl
+word_of-text words.Rec = refl
+word_of-text words.Fun = refl
+word_of-text words.Val = refl
+word_of-text words.If = refl
+word_of-text words.Then = refl
+word_of-text words.Else = refl
+word_of-text words.Box = refl
+word_of-text words.Unbox = refl
+word_of-text words.Boundary = refl
+word_of-text words.Exit = refl
+word_of-text words.Repeat = refl
+word_of-text words.True = refl
+word_of-text words.False = refl
+word_of-text words.Unit = refl
+word_of-text words.Cap = refl
+word_of-text words.UnitType = refl
+word_of-text words.BoolType = refl
+word_of-text words.IntType = refl
+word_of-text words.StrType = refl
+word_of-text words.AnyType = refl
+word_of-text words.ConsoleType = refl
+word_of-text words.FileType = refl
+word_of-text words.CounterType = refl
+word_of-text words.ExitType = refl
+word_of-text words.BoxType = refl
 
-not_true : (b : Bool) → not b ≡ true → b ≡ false
-not_true true h = cc
-not_true false h = refl
+is_word-text : (word : Word) → IsWord (word_text word)
+unfolding unicode_ident
+is_word-text words.Import = (refl, refl)
+is_word-text words.Def = (refl, refl)
+is_word-text words.Rec = (refl, refl)
+is_word-text words.Fun = (refl, refl)
+is_word-text words.Val = (refl, refl)
+is_word-text words.If = (refl, refl)
+is_word-text words.Then = (refl, refl)
+is_word-text words.Else = (refl, refl)
+is_word-text words.Box = (refl, refl)
+is_word-text words.Unbox = (refl, refl)
+is_word-text words.Boundary = (refl, refl)
+is_word-text words.Exit = (refl, refl)
+is_word-text words.Repeat = (refl, refl)
+is_word-text words.True = (refl, refl)
+is_word-text words.False = (refl, refl)
+is_word-text words.Unit = (refl, refl)
+is_word-text words.Cap = (refl, refl)
+is_word-text words.UnitType = (refl, refl)
+is_word-text words.BoolType = (refl, refl)
+is_word-text words.IntType = (refl, refl)
+is_word-text words.StrType = (refl, refl)
+is_word-text words.AnyType = (refl, refl)
+is_word-text words.ConsoleType = (refl, refl)
+is_word-text words.FileType = (refl, refl)
+is_word-text words.CounterType = (refl, refl)
+is_word-text words.ExitType = (refl, refl)
+is_word-text words.BoxType = (refl, refl)
 
--- what is spelled is a symbol, or a letter with letters and digits
-pub spelled : (kind : TokenKind) (cs : List ℕ) → Spells kind cs → (is_lettered cs ≡ true) ⊎ ((s : Symbol) × (kind ≡ kinds.Symbol s) × (cs ≡ symbol_text s))
-spelled (kinds.Name name) cs h = inl (both (is_lettered cs) (not (is_reserved cs)) h.0).0
-spelled (kinds.Word word) cs h = inl (lettered-reserved cs (reserved-used word cs h))
-spelled (kinds.Symbol s) cs h = inr (s, refl, h)
-spelled kinds.Stray cs h = absurd h
+is_reserved-text : (word : Word) → is_reserved (word_text word) ≡ true
+unfolding is_reserved reserved_words
+is_reserved-text words.Import = refl
+is_reserved-text words.Def = refl
+is_reserved-text words.Rec = refl
+is_reserved-text words.Fun = refl
+is_reserved-text words.Val = refl
+is_reserved-text words.If = refl
+is_reserved-text words.Then = refl
+is_reserved-text words.Else = refl
+is_reserved-text words.Box = refl
+is_reserved-text words.Unbox = refl
+is_reserved-text words.Boundary = refl
+is_reserved-text words.Exit = refl
+is_reserved-text words.Repeat = refl
+is_reserved-text words.True = refl
+is_reserved-text words.False = refl
+is_reserved-text words.Unit = refl
+is_reserved-text words.Cap = refl
+is_reserved-text words.UnitType = refl
+is_reserved-text words.BoolType = refl
+is_reserved-text words.IntType = refl
+is_reserved-text words.StrType = refl
+is_reserved-text words.AnyType = refl
+is_reserved-text words.ConsoleType = refl
+is_reserved-text words.FileType = refl
+is_reserved-text words.CounterType = refl
+is_reserved-text words.ExitType = refl
+is_reserved-text words.BoxType = refl
 
--- the kind of what begins with a letter
-lettered-kind : (cs : List ℕ) → is_lettered cs ≡ true → kind_of cs ≡ word_kind cs
-lettered-kind cs h = if_true (word_kind cs) (symbol_kind (symbol_of cs)) (both (first_passes is_ascii_alphabetic cs) (list_all is_ascii_alphanumeric cs) h).0
+name-no_word : (cs : List ℕ) (o : Option Word) → IsName cs → word_of cs ≡ o → o ≡ None
+name-no_word cs None h e = refl
+name-no_word cs (Some word) h e =
+    let free = not_true (is_reserved cs) (both (first_passes is_xid_start cs && list_all is_xid_continue cs) (not (is_reserved cs)) h).1 in
+    absurd (opposite (is_reserved cs) (ap is_reserved (word_of-some cs word e) ∙ is_reserved-text word) free)
 
-pub kind_of-spelled : (kind : TokenKind) (cs : List ℕ) → Spells kind cs → kind_of cs ≡ kind
-kind_of-spelled (kinds.Name name) cs h =
-    let parts = both (is_lettered cs) (not (is_reserved cs)) h.0 in
-    let free = not_true (is_reserved cs) parts.1 in
-    lettered-kind cs parts.0 ∙ (if_false (kinds.Word (word_of cs)) (kinds.Name cs) free ∙ ap kinds.Name (sym h.1))
-kind_of-spelled (kinds.Word word) cs h =
-    let reserved = reserved-used word cs h in
-    lettered-kind cs (lettered-reserved cs reserved) ∙ (if_true (kinds.Word (word_of cs)) (kinds.Name cs) reserved ∙ ap kinds.Word (word_of-used word cs h))
-kind_of-spelled (kinds.Symbol s) cs h =
-    ap kind_of h ∙ (if_false (word_kind (symbol_text s)) (symbol_kind (symbol_of (symbol_text s))) (symbol-begins s) ∙ ap symbol_kind (symbol_of-text s))
-kind_of-spelled kinds.Stray cs h = absurd h
+-- strings
 
-opposite : (b : Bool) → b ≡ true → b ≡ false → ⊥
-opposite b h k = cc
+inside-string : (text cs : List ℕ) → cs ≡ 34 ∷ text ++ 34 ∷ [] → inside cs ≡ text
+inside-string text cs e =
+    let count = length-append text (34 ∷ []) in
+    let exact : length text ≡ suc (length (text ++ 34 ∷ [])) - 2 = omega arith in
+    ap inside e ∙ take_at text (34 ∷ []) (suc (length (text ++ 34 ∷ [])) - 2) exact
 
-none_is_some : (s : Symbol) → None ≡ Some s → ⊥
-none_is_some s h = cc
+string-spells : (cs text : List ℕ) → IsString text cs → Spells (TextLexeme (inside cs)) cs
+string-spells cs text h = rw (inside-string text cs h.0) h
 
--- no characters spell nothing
-pub nothing-spelled : (kind : TokenKind) → Spells kind [] → ⊥
-nothing-spelled kind s =
-    elim (spelled kind [] s) as (λ _. ⊥) [ inl w ↦ opposite false w refl | inr w ↦ none_is_some w.0 (ap symbol_of w.2 ∙ symbol_of-text w.0) ]
+-- all forms
 
-symbol-black : (s : Symbol) → first_passes is_white (symbol_text s) ≡ false
-symbol-black Colon = refl
-symbol-black Equals = refl
-symbol-black Open = refl
-symbol-black Close = refl
-symbol-black DoubleArrow = refl
-symbol-black Arrow = refl
-symbol-black Semicolon = refl
+-- what characters of a form spell is spelled by them
+pub spelled-spells : (form : Form) (cs : List ℕ) (lexeme : Lexeme) → IsOfForm form cs → spelled_by form cs ≡ Some lexeme → Spells lexeme cs
+spelled-spells forms.Digits cs lexeme h e = digits-spell cs (number_of cs) lexeme h refl e
+spelled-spells forms.Word cs lexeme h e = rw (← some_is (word_or_name cs (word_of cs)) lexeme e) (word-spells cs (word_of cs) h refl)
+spelled-spells forms.Text cs lexeme h e = rw (← some_is (TextLexeme (inside cs)) lexeme e) (string-spells cs h.0 h.1)
+spelled-spells (forms.Symbol symbol) cs lexeme h e = rw (← some_is (SymbolLexeme symbol) lexeme e) h
 
-letter-black : (c : ℕ) → is_ascii_alphabetic c ≡ true → is_white c ≡ false
-letter-black c h = grind (arith, nat_tests)
+-- characters of a form that spell nothing are a number that is too great
+pub spelled-none : (form : Form) (cs : List ℕ) → IsOfForm form cs → spelled_by form cs ≡ None → IsTooGreat cs
+spelled-none forms.Digits cs h e = digits-too_great cs (number_of cs) h refl e
+spelled-none forms.Word cs h e = cc
+spelled-none forms.Text cs h e = cc
+spelled-none (forms.Symbol symbol) cs h e = cc
 
--- no token begins with white space
-pub spelled-black : (kind : TokenKind) (c : ℕ) (cs : List ℕ) → Spells kind (c ∷ cs) → is_white c ≡ false
-spelled-black kind c cs s =
-    elim (spelled kind (c ∷ cs) s) as (λ _. is_white c ≡ false) [
-      | inl w ↦ letter-black c (both (is_ascii_alphabetic c) (list_all is_ascii_alphanumeric (c ∷ cs)) w).0
-      | inr w ↦ ap (first_passes is_white) w.2 ∙ symbol-black w.0
-    ]
+-- the form of the characters that spell a token
+abbrev pub IsSpelled : Lexeme → List ℕ → Type 0
+IsSpelled lexeme cs = (form : Form) × IsOfForm form cs × (spelled_by form cs ≡ Some lexeme)
+
+name-spelled : (name cs : List ℕ) → IsName cs → name ≡ cs → IsSpelled (NameLexeme name) cs
+name-spelled name cs h e =
+    let parts = both (first_passes is_xid_start cs && list_all is_xid_continue cs) (not (is_reserved cs)) h in
+    let none = name-no_word cs (word_of cs) h refl in
+    (forms.Word, both (first_passes is_xid_start cs) (list_all is_xid_continue cs) parts.0, ap (λ o. Some (word_or_name cs o)) none ∙ ap (λ x. Some (NameLexeme x)) (sym e))
+
+pub spells-spelled : (lexeme : Lexeme) (cs : List ℕ) → Spells lexeme cs → IsSpelled lexeme cs
+spells-spelled (NameLexeme name) cs s = name-spelled name cs s.0 s.1
+spells-spelled (NumberLexeme number) cs s =
+    (forms.Digits, s.0, ap (option_map NumberLexeme) (number_of-within cs s.1) ∙ ap (λ x. Some (NumberLexeme x)) (sym s.2))
+spells-spelled (TextLexeme text) cs s = (forms.Text, (text, s), ap (λ x. Some (TextLexeme x)) (inside-string text cs s.0))
+spells-spelled (WordLexeme word) cs s =
+    (forms.Word, rw s (is_word-text word), rw s (ap (λ o. Some (word_or_name (word_text word) o)) (word_of-text word)))
+spells-spelled (SymbolLexeme symbol) cs s = (forms.Symbol symbol, s, refl)

@@ -1,92 +1,184 @@
--- The tokens of a text, found from its front on.
-use Rattle.std.specs.Prelude.{Bool, ◌≡◌, ℕ, zero, suc, ◌==◌, ◌&&◌, List, [], ◌∷◌, take, Option, Some, None, codes, if◌then◌else◌}
+-- The tokens of a text, found from its front on, as the program goes. `Forms` and `Lexical` say what they are.
+use Rattle.std.specs.Prelude.{ℕ, zero, suc, ◌+◌, ◌-◌, ◌==◌, ◌&&◌, not, nat_le, ℤ, pos, List, [], ◌∷◌, length, take, drop, Option, Some, None, find, option_map, Result, Ok, Err, encode_utf8, ◌≡◌, if◌then◌else◌}
 use Rattle.std.specs.Str.{bytes_eq}
-use Rattle.std.specs.Char.{is_ascii_alphabetic, is_ascii_alphanumeric}
-use Rattle.std.specs.List.{list_all, prefix_len}
+use Rattle.std.specs.Str.Parse.{digits_value}
+use Rattle.std.specs.Char.{is_ascii_digit}
+use Rattle.std.specs.List.{prefix_len}
+use Rattle.unicode_ident.specs.Ident.{is_xid_start, is_xid_continue}
 use Rattle.cc_base.specs.declared.place.Place.{Place}
-use Rattle.cc_base.specs.Names.{first_passes, is_reserved}
+use Rattle.cc_base.specs.declared.code.Code.TheVariants.{E02}
+use Rattle.cc_base.specs.declared.code.Diag.{Diag}
+use Rattle.cc_base.specs.Names.{first_passes}
 use Rattle.cc_lex.specs.declared.token.Word.{Word}
-use Rattle.cc_lex.specs.declared.token.Word.TheVariants.{Def, Fun, Val, Unit as UnitWord, Console, Unbuilt}
+use Rattle.cc_lex.specs.declared.token.Word.TheVariants as words
 use Rattle.cc_lex.specs.declared.token.Symbol.{Symbol}
-use Rattle.cc_lex.specs.declared.token.Symbol.TheVariants.{Colon, Equals, Open, Close, DoubleArrow, Arrow, Semicolon}
-use Rattle.cc_lex.specs.declared.token.TokenKind.{TokenKind}
-use Rattle.cc_lex.specs.declared.token.TokenKind.TheVariants as kinds
+use Rattle.cc_lex.specs.declared.token.Symbol.TheVariants as symbols
+use Rattle.cc_lex.specs.declared.form.Form.{Form}
+use Rattle.cc_lex.specs.declared.form.Form.TheVariants as forms
 use Rattle.cc_lex.specs.declared.token.Token.{Token}
-use Rattle.cc_lex.specs.Lexical.{is_white, place_after, IsText}
+use Rattle.cc_lex.specs.declared.token.Tokens.{Tokens}
+use Rattle.cc_lex.specs.declared.error.LexError.{LexError}
+use Rattle.cc_lex.specs.declared.error.LexError.TheVariants.{Refused, NoMemory}
+use Rattle.cc_lex.specs.Lexemes.{Lexeme, NameLexeme, NumberLexeme, TextLexeme, WordLexeme, SymbolLexeme}
+use Rattle.cc_lex.specs.Forms.{word_text, stands_in_string, greatest_number}
+use Rattle.cc_lex.specs.Lexical.{place_after, is_white, SpannedLexeme, spanned_of, spanned_all, spelled_at, Extent, ToTheEnd, UpTo}
 
--- a letter, then letters and digits
-abbrev pub is_lettered : List ℕ → Bool
-is_lettered cs = first_passes is_ascii_alphabetic cs && list_all is_ascii_alphanumeric cs
+-- all reserved words
+abbrev pub all_words : List Word
+all_words =
+    words.Import ∷ words.Def ∷ words.Rec ∷ words.Fun ∷ words.Val ∷
+    words.If ∷ words.Then ∷ words.Else ∷ words.Box ∷ words.Unbox ∷
+    words.Boundary ∷ words.Exit ∷ words.Repeat ∷ words.True ∷ words.False ∷
+    words.Unit ∷ words.Cap ∷ words.UnitType ∷ words.BoolType ∷ words.IntType ∷
+    words.StrType ∷ words.AnyType ∷ words.ConsoleType ∷ words.FileType ∷ words.CounterType ∷
+    words.ExitType ∷ words.BoxType ∷
+    []
 
--- the word that reserved letters spell
-abbrev pub word_of : List ℕ → Word
-word_of cs =
-    if bytes_eq cs (codes "def") then Def
-    else if bytes_eq cs (codes "fun") then Fun
-    else if bytes_eq cs (codes "val") then Val
-    else if bytes_eq cs (codes "Unit") then UnitWord
-    else if bytes_eq cs (codes "Console") then Console
-    else Unbuilt
+-- the reserved word with these letters
+unfoldable pub word_of : List ℕ → Option Word
+word_of cs = find (λ word. bytes_eq (word_text word) cs) all_words
 
--- what a letter with letters and digits spells: a reserved word or a name
-abbrev pub word_kind : List ℕ → TokenKind
-word_kind cs = if is_reserved cs then kinds.Word (word_of cs) else kinds.Name cs
-
--- the symbol that a character spells by itself: 58 is ':', 61 is '=', 40 and 41 are '(' and ')', and 59 is ';'
-abbrev pub short_symbol : ℕ → Option Symbol
+-- the symbol that a character is by itself
+unfoldable pub short_symbol : ℕ → Option Symbol
 short_symbol c =
-    if c == 58 then Some Colon
-    else if c == 61 then Some Equals
-    else if c == 40 then Some Open
-    else if c == 41 then Some Close
-    else if c == 59 then Some Semicolon
+    if c == 40 then Some symbols.Open
+    else if c == 41 then Some symbols.Close
+    else if c == 91 then Some symbols.OpenBracket
+    else if c == 93 then Some symbols.CloseBracket
+    else if c == 123 then Some symbols.OpenBrace
+    else if c == 125 then Some symbols.CloseBrace
+    else if c == 44 then Some symbols.Comma
+    else if c == 58 then Some symbols.Colon
+    else if c == 59 then Some symbols.Semicolon
+    else if c == 46 then Some symbols.Dot
+    else if c == 94 then Some symbols.Caret
+    else if c == 63 then Some symbols.Question
+    else if c == 61 then Some symbols.Equals
+    else if c == 60 then Some symbols.Less
+    else if c == 43 then Some symbols.Plus
+    else if c == 45 then Some symbols.Minus
+    else if c == 42 then Some symbols.Star
     else None
 
--- the symbol that a character spells with the next one: 61 is '=', 45 is '-', and 62 is '>'
+-- the symbol that two characters are
+unfoldable pub pair_symbol : ℕ → ℕ → Option Symbol
+pair_symbol c d =
+    if c == 61 then (if d == 61 then Some symbols.DoubleEquals else if d == 62 then Some symbols.DoubleArrow else None)
+    else if c == 45 then (if d == 62 then Some symbols.Arrow else None)
+    else if c == 60 then (if d == 58 then Some symbols.Below else None)
+    else None
+
+-- the symbol that a character is with the next one
 abbrev pub long_symbol : ℕ → List ℕ → Option Symbol
 long_symbol c [] = None
-long_symbol c (d ∷ cs) =
-    if d == 62 then (if c == 61 then Some DoubleArrow else if c == 45 then Some Arrow else None)
+long_symbol c (d ∷ cs) = pair_symbol c d
+
+-- a form at the front of a text, with the count of its characters behind the first
+abbrev pub Front : Type 0
+Front = Form × ℕ
+
+-- the longer of the two symbols
+abbrev pub symbol_front : Option Symbol → Option Symbol → Option Front
+symbol_front (Some symbol) short = Some (forms.Symbol symbol, 1)
+symbol_front None (Some symbol) = Some (forms.Symbol symbol, 0)
+symbol_front None None = None
+
+-- the string behind its first quote, if it is closed
+abbrev pub string_front : List ℕ → Option Front
+string_front cs =
+    let n = prefix_len stands_in_string cs in
+    if nat_le n 200 && first_passes (λ c. c == 34) (drop n cs) then Some (forms.Text, n + 1) else None
+
+-- the longest form at the front of c ∷ cs
+unfoldable pub front_of : ℕ → List ℕ → Option Front
+front_of c cs =
+    if is_ascii_digit c then Some (forms.Digits, prefix_len is_ascii_digit cs)
+    else if is_xid_start c then Some (forms.Word, prefix_len is_xid_continue cs)
+    else if c == 34 then string_front cs
+    else symbol_front (long_symbol c cs) (short_symbol c)
+
+-- the count of characters behind the first of the white space or comment at the front of c ∷ cs
+unfoldable pub blank_of : ℕ → List ℕ → Option ℕ
+blank_of c cs =
+    if is_white c then Some 0
+    else if c == 47 && first_passes (λ d. d == 47) cs then Some (prefix_len (λ d. not (d == 10)) cs)
     else None
 
--- the kind of a token of this symbol, and a stray where there is none
-abbrev pub symbol_kind : Option Symbol → TokenKind
-symbol_kind (Some symbol) = kinds.Symbol symbol
-symbol_kind None = kinds.Stray
+-- what stands between the quotes
+abbrev pub inside : List ℕ → List ℕ
+inside cs = take (length cs - 2) (drop 1 cs)
 
--- a token at the front of a text: its kind, and the count of its characters behind the first
-abbrev pub Front : Type 0
-Front = TokenKind × ℕ
+-- the number that digits write, but for one that is too great
+unfoldable pub number_of : List ℕ → Option ℤ
+number_of cs = if nat_le (digits_value 10 cs) greatest_number then Some (pos (digits_value 10 cs)) else None
 
--- the word at the front of c ∷ cs, which goes on as long as letters and digits do
-abbrev pub front_word : ℕ → List ℕ → Front
-front_word c cs = let more = prefix_len is_ascii_alphanumeric cs in (word_kind (c ∷ take more cs), more)
+-- the word or the name with these letters
+abbrev pub word_or_name : List ℕ → Option Word → Lexeme
+word_or_name cs (Some word) = WordLexeme word
+word_or_name cs None = NameLexeme cs
 
--- the longer of the symbols that are spelled, and a stray where there is none
-abbrev pub symbol_front : Option Symbol → Option Symbol → Front
-symbol_front (Some symbol) short = (kinds.Symbol symbol, 1)
-symbol_front None short = (symbol_kind short, 0)
+-- what characters of this form spell, but for a number that is too great
+abbrev pub spelled_by : Form → List ℕ → Option Lexeme
+spelled_by forms.Digits cs = option_map NumberLexeme (number_of cs)
+spelled_by forms.Word cs = Some (word_or_name cs (word_of cs))
+spelled_by forms.Text cs = Some (TextLexeme (inside cs))
+spelled_by (forms.Symbol symbol) cs = Some (SymbolLexeme symbol)
 
--- the token at the front of c ∷ cs, where c is no white space
-unfoldable pub front_token : ℕ → List ℕ → Front
-front_token c cs = if is_ascii_alphabetic c then front_word c cs else symbol_front (long_symbol c cs) (short_symbol c)
+-- the token that a form spells, with the count of its characters behind the first
+abbrev pub spelled_front : Place → ℕ → ℕ → List ℕ → Option Front → Option (SpannedLexeme × ℕ)
+spelled_front p o c cs None = None
+spelled_front p o c cs (Some front) =
+    let ds = c ∷ take front.1 cs in
+    option_map (λ lexeme. (spelled_at p o ds lexeme, front.1)) (spelled_by front.0 ds)
 
--- the tokens of a text at place p, of which the first n characters belong to a token before
-abbrev pub cut : ℕ → Place → List ℕ → List Token
-cut n p [] = []
-cut (suc n) p (c ∷ cs) = cut n (place_after p c) cs
-cut zero p (c ∷ cs) =
-    if is_white c then cut 0 (place_after p c) cs
-    else let front = front_token c cs in record { kind = front.0; at = p } ∷ cut front.1 (place_after p c) cs
+-- the token at the front of c ∷ cs, with the count of its characters behind the first
+unfoldable pub token_of : Place → ℕ → ℕ → List ℕ → Option (SpannedLexeme × ℕ)
+token_of p o c cs = spelled_front p o c cs (front_of c cs)
 
--- the tokens of a text at place p
-abbrev pub tokens_of : Place → List ℕ → List Token
-tokens_of p text = cut 0 p text
+-- the tokens that are found, and how far they go
+pub record Cutting : Type 0 where
+  pub tokens : List SpannedLexeme
+  pub extent : Extent
 
--- each text is cut into the tokens that are found
-abbrev pub TokensAreThoseOfTheText : Type 0
-TokensAreThoseOfTheText = (p : Place) (text : List ℕ) → IsText p text (tokens_of p text)
+-- no token begins here
+abbrev pub stop : Place → Cutting
+stop p = record { tokens = []; extent = UpTo p }
 
--- no text is cut in two ways
-abbrev pub ATextHasOneListOfTokens : Type 0
-ATextHasOneListOfTokens = (p : Place) (text : List ℕ) (ts us : List Token) → IsText p text ts → IsText p text us → ts ≡ us
+-- a token, and what is found behind it
+abbrev pub behind : SpannedLexeme → Cutting → Cutting
+behind t rest = record { tokens = t ∷ rest.tokens; extent = rest.extent }
+
+-- What is found at a place where this blank or this token begins, if one does. `rest n` is what is found behind the
+-- first character, where n more belong to it.
+abbrev pub found : Place → Option ℕ → Option (SpannedLexeme × ℕ) → (ℕ → Cutting) → Cutting
+found p (Some n) token rest = rest n
+found p None (Some token) rest = behind token.0 (rest token.1)
+found p None None rest = stop p
+
+-- what is found in a text at this place and offset, of which the first n characters belong to what stands before
+abbrev pub cut : ℕ → Place → ℕ → List ℕ → Cutting
+cut n p o [] = record { tokens = []; extent = ToTheEnd }
+cut (suc n) p o (c ∷ cs) = cut n (place_after p c) (o + length (encode_utf8 c)) cs
+cut zero p o (c ∷ cs) =
+    found p (blank_of c cs) (token_of p o c cs) (λ n. cut n (place_after p c) (o + length (encode_utf8 c)) cs)
+
+-- the refusal of a text in which no token begins at this place
+abbrev pub no_token : Place → Diag
+no_token p = record { code = E02; place = p }
+
+-- The answer is the value that there is, and where there is none a refusal at this place. Of an answer for want of
+-- memory nothing is said.
+abbrev pub Finds : {X Y : Type 0} → (X → Y) → Place → Result X LexError → Option Y → Type 0
+Finds view p (Ok x) o = o ≡ Some (view x)
+Finds view p (Err (Refused diag)) o = (o ≡ None) × (diag ≡ no_token p)
+Finds view p (Err NoMemory) o = Unit {0}
+
+-- what the program holds of a token, with the count of its characters behind the first
+abbrev pub spanned_front : Token × ℕ → SpannedLexeme × ℕ
+spanned_front front = (spanned_of front.0, front.1)
+
+-- The answer has what is found. Of an answer for want of memory nothing is said.
+abbrev pub Gives : Result Tokens LexError → Cutting → Type 0
+Gives (Ok tokens) found = found ≡ record { tokens = spanned_all tokens; extent = ToTheEnd }
+Gives (Err (Refused diag)) found = (diag ≡ no_token diag.place) × (found.extent ≡ UpTo diag.place)
+Gives (Err NoMemory) found = Unit {0}

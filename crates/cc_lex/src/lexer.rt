@@ -1,21 +1,16 @@
-ghost use Rattle.std.specs.Prelude.{◌≡◌, ◌∷◌, IfOk, IsTrue};
-ghost use Rattle.std.specs.Str.{chars};
-ghost use Rattle.std.specs.String.{string_bytes};
-ghost use Rattle.std.specs.Char.{is_ascii_alphabetic, is_ascii_alphanumeric};
-ghost use Rattle.std.specs.List.{prefix_len};
-ghost use Rattle.cc_lex.specs.Lexical.{is_white, place_after, place_past, start, IsText};
-ghost use Rattle.cc_lex.specs.Cutting.{is_lettered, word_of, word_kind, short_symbol, long_symbol, symbol_kind, front_word, symbol_front, front_token, tokens_of};
+ghost use Rattle.std.specs.Prelude.{◌≡◌, ◌+◌, ◌∷◌, drop, take, length, IfOk, IsTrue, IsUtf8, encode_utf8, encode_utf8_all};
+ghost use Rattle.std.specs.Str.{chars, all_scalars};
+ghost use Rattle.std.specs.Str.Lossy.{utf8_valid_len};
+ghost use Rattle.cc_lex.specs.Lexical.{place_after, place_past, start, byte_count, Lexes};
+ghost use Rattle.cc_lex.specs.Cutting.{token_of, spanned_front, Finds, Gives, cut};
 
-use crate::token::{Symbol, Token, TokenKind, Tokens, Word};
-use cc_base::name::{Name, NameError, is_reserved};
+use crate::error::LexError;
+use crate::form::{blank_of, front_of};
+use crate::kind::{kind_of, no_token};
+use crate::token::{Token, Tokens};
+use cc_base::code::{Code, Diag};
 use cc_base::place::Place;
 use std::alloc::{AllocError, Global};
-
-fn is_white(character: char) -> bool
-    ensures { result ≡ is_white character }
-{
-    character == ' ' || character == '\t' || character == '\r' || character == '\n'
-}
 
 fn next_place(place: Place, character: char) -> Result<Place, AllocError>
     ensures { IfOk result (λ next. next ≡ place_after place character) }
@@ -32,138 +27,80 @@ fn next_place(place: Place, character: char) -> Result<Place, AllocError>
     }
 }
 
-fn word_of(text: &str) -> Word
-    ensures { result ≡ word_of text.now }
+fn next_offset(offset: u32, character: char) -> Result<u32, AllocError>
+    ensures { IfOk result (λ next. next ≡ offset + length (encode_utf8 character)) }
 {
-    if text == "def" {
-        Word::Def
-    } else if text == "fun" {
-        Word::Fun
-    } else if text == "val" {
-        Word::Val
-    } else if text == "Unit" {
-        Word::Unit
-    } else if text == "Console" {
-        Word::Console
-    } else {
-        Word::Unbuilt
+    offset
+        .checked_add(character.len_utf8() as u32)
+        .ok_or(AllocError)
+}
+
+fn offset_past(offset: u32, characters: &[char]) -> Result<u32, AllocError>
+    ensures { IfOk result (λ end. end ≡ offset + byte_count characters.now) }
+{
+    let mut end = offset;
+    for character in characters {
+        end = next_offset(end, *character)?;
+    }
+    Ok(end)
+}
+
+#[tactic(auto, unfolding(crate::specs::Cutting::token_of))]
+fn token_of(
+    alloc: Global,
+    text: &str,
+    first: char,
+    after: &[char],
+    at: Place,
+    start: u32,
+) -> Result<(Token, usize), LexError>
+    requires here { drop start text.now ≡ encode_utf8_all (first ∷ after.now) }
+    requires characters { IsTrue (all_scalars (first ∷ after.now)) }
+    ensures { Finds spanned_front at result (token_of at start first after.now) }
+{
+    let Some((form, more)) = front_of(first, after) else {
+        return Err(LexError::Refused(no_token(at)));
+    };
+    let end = offset_past(next_offset(start, first)?, &after[..more])?;
+    match kind_of(alloc, form, &text[start as usize..end as usize], at) {
+        Ok(kind) => {
+            let token = Token {
+                kind,
+                at,
+                start,
+                end,
+            };
+            Ok((token, more))
+        }
+        Err(error) => Err(error),
     }
 }
 
-fn text_of(alloc: Global, first: char, more: &[char]) -> Result<String, AllocError>
-    requires { IsTrue (is_lettered (first ∷ more.now)) }
-    ensures { IfOk result (λ text. chars (string_bytes text) ≡ first ∷ more.now) }
-{
-    let mut text = String::new(alloc);
-    text.push(first)?;
-    for character in more {
-        text.push(*character)?;
-    }
-    Ok(text)
-}
-
-#[tactic(auto, using(crate::proofs::Words::word_of_chars))]
-fn word_kind(alloc: Global, text: &str) -> Result<TokenKind, AllocError>
-    requires { IsTrue (is_lettered (chars text.now)) }
-    ensures { IfOk result (λ kind. kind ≡ word_kind (chars text.now)) }
-{
-    if is_reserved(text) {
-        return Ok(TokenKind::Word(word_of(text)));
-    }
-    match Name::read(alloc, text) {
-        Ok(name) => Ok(TokenKind::Name(name)),
-        Err(NameError::NoMemory) => Err(AllocError),
-        Err(NameError::NotAName) => unreachable!(),
-    }
-}
-
-fn alphanumeric_prefix_len(characters: &[char]) -> usize
-    ensures { result ≡ prefix_len is_ascii_alphanumeric characters.now }
-{
-    characters
-        .iter()
-        .take_while(|character| character.is_ascii_alphanumeric())
-        .count()
-}
-
-fn front_word(alloc: Global, first: char, after: &[char]) -> Result<(TokenKind, usize), AllocError>
-    requires { IsTrue (is_ascii_alphabetic first) }
-    ensures { IfOk result (λ front. front ≡ front_word first after.now) }
-{
-    let more = alphanumeric_prefix_len(after);
-    let text = text_of(alloc, first, &after[..more])?;
-    let kind = word_kind(alloc, text.as_str())?;
-    Ok((kind, more))
-}
-
-fn short_symbol(character: char) -> Option<Symbol>
-    ensures { result ≡ short_symbol character }
-{
-    match character {
-        ':' => Some(Symbol::Colon),
-        '=' => Some(Symbol::Equals),
-        '(' => Some(Symbol::Open),
-        ')' => Some(Symbol::Close),
-        ';' => Some(Symbol::Semicolon),
-        _ => None,
-    }
-}
-
-fn long_symbol(first: char, after: &[char]) -> Option<Symbol>
-    ensures { result ≡ long_symbol first after.now }
-{
-    match after.first() {
-        Some('>') if first == '=' => Some(Symbol::DoubleArrow),
-        Some('>') if first == '-' => Some(Symbol::Arrow),
-        _ => None,
-    }
-}
-
-fn symbol_kind(symbol: Option<Symbol>) -> TokenKind
-    ensures { result ≡ symbol_kind symbol }
-{
-    match symbol {
-        Some(symbol) => TokenKind::Symbol(symbol),
-        None => TokenKind::Stray,
-    }
-}
-
-fn front_symbol(first: char, after: &[char]) -> (TokenKind, usize)
-    ensures { result ≡ symbol_front (long_symbol first after.now) (short_symbol first) }
-{
-    match long_symbol(first, after) {
-        Some(symbol) => (TokenKind::Symbol(symbol), 1),
-        None => (symbol_kind(short_symbol(first)), 0),
-    }
-}
-
-#[tactic(auto, unfolding(crate::specs::Cutting::front_token))]
-fn front_token(alloc: Global, first: char, after: &[char]) -> Result<(TokenKind, usize), AllocError>
-    ensures { IfOk result (λ front. front ≡ front_token first after.now) }
-{
-    if first.is_ascii_alphabetic() {
-        front_word(alloc, first, after)
-    } else {
-        Ok(front_symbol(first, after))
-    }
-}
-
-fn cut(alloc: Global, characters: &[char]) -> Result<Tokens, AllocError>
-    ensures exact { IfOk result (λ ts. ts.tokens.items ≡ tokens_of start characters.now) }
-    ensures end { IfOk result (λ ts. ts.end ≡ place_past start characters.now) }
+fn cut(alloc: Global, text: &str, characters: &[char]) -> Result<Tokens, LexError>
+    requires { characters.now ≡ chars text.now }
+    ensures found { Gives result (cut 0 start 0 characters.now) }
+    ensures end { IfOk result (λ tokens. tokens.end ≡ place_past start characters.now) }
 {
     let mut tokens = Vec::new(alloc);
     let mut place = Place { line: 1, col: 1 };
+    let mut offset: u32 = 0;
     let mut skip: usize = 0;
     for (index, character) in characters.iter().enumerate() {
         if skip > 0 {
             skip -= 1;
-        } else if !is_white(*character) {
-            let (kind, more) = front_token(alloc, *character, &characters[index + 1..])?;
-            tokens.push(Token { kind, at: place })?;
-            skip = more;
+        } else {
+            let after = &characters[index + 1..];
+            match blank_of(*character, after) {
+                Some(more) => skip = more,
+                None => {
+                    let (token, more) = token_of(alloc, text, *character, after, place, offset)?;
+                    tokens.push(token)?;
+                    skip = more;
+                }
+            }
         }
         place = next_place(place, *character)?;
+        offset = next_offset(offset, *character)?;
     }
     Ok(Tokens { tokens, end: place })
 }
@@ -174,38 +111,69 @@ fn characters_of(alloc: Global, text: &str) -> Result<Vec<char>, AllocError>
     text.chars().collect(alloc)
 }
 
-/// The tokens of a text. Fails only for want of memory; a place past `u32::MAX` counts as that.
-pub fn lex(alloc: Global, text: &str) -> Result<Tokens, AllocError>
-    ensures tokens { IfOk result (λ ts. IsText start (chars text.now) ts.tokens.items) }
-    ensures exact { IfOk result (λ ts. ts.tokens.items ≡ tokens_of start (chars text.now)) }
-    ensures end { IfOk result (λ ts. ts.end ≡ place_past start (chars text.now)) }
+fn valid_front(bytes: &[u8]) -> &str
+    ensures { result.now ≡ take (utf8_valid_len bytes.now) bytes.now }
 {
-    let characters = characters_of(alloc, text)?;
-    cut(alloc, &characters)
+    match bytes.utf8_chunks().next() {
+        Some(chunk) => chunk.valid(),
+        None => "",
+    }
+}
+
+fn end_of(characters: &[char]) -> Result<Place, AllocError>
+    ensures { IfOk result (λ end. end ≡ place_past start characters.now) }
+{
+    let mut place = Place { line: 1, col: 1 };
+    for character in characters {
+        place = next_place(place, *character)?;
+    }
+    Ok(place)
+}
+
+/// The tokens of the bytes, or their refusal: as `E01` just past the longest front that is UTF-8, where not all of them are,
+/// and as `E02` at the first place where no token begins. `NoMemory` for want of memory; a place or an offset past
+/// `u32::MAX` counts as that.
+pub fn lex(alloc: Global, bytes: &[u8]) -> Result<Tokens, LexError>
+    ensures { Lexes bytes.now result }
+{
+    match str::from_utf8(bytes) {
+        Ok(text) => {
+            let characters = characters_of(alloc, text)?;
+            cut(alloc, text, &characters)
+        }
+        Err(_) => {
+            let front = characters_of(alloc, valid_front(bytes))?;
+            let place = end_of(&front)?;
+            Err(LexError::Refused(Diag {
+                code: Code::E01,
+                place,
+            }))
+        }
+    }
 }
 
 #[cfg(test)]
 mod tests {
     use super::*;
+    use crate::token::TokenKind;
     use std::test::Fail;
 
     fn shown_kind(alloc: Global, kind: &TokenKind) -> Result<String, AllocError> {
         match kind {
             TokenKind::Name(name) => format!(in alloc; "{name}"),
+            TokenKind::Number(number) => format!(in alloc; "#{number}"),
+            TokenKind::Text(text) => format!(in alloc; "'{text}'"),
             TokenKind::Word(word) => format!(in alloc; "<{word:?}>"),
             TokenKind::Symbol(symbol) => format!(in alloc; "<{symbol:?}>"),
-            TokenKind::Stray => format!(in alloc; "<stray>"),
         }
     }
 
-    fn shown(alloc: Global, text: &str) -> Result<String, AllocError> {
-        let tokens = lex(alloc, text)?;
+    fn shown_tokens(alloc: Global, tokens: &Tokens) -> Result<String, AllocError> {
         let mut shown = String::new(alloc);
         for token in &tokens.tokens {
             let kind = shown_kind(alloc, &token.kind)?;
-            let place = format!(in alloc; "{} ", token.at)?;
+            let place = format!(in alloc; " {} {}-{} ", token.at, token.start, token.end)?;
             shown.push_str(&kind)?;
-            shown.push(' ')?;
             shown.push_str(&place)?;
         }
         let end = format!(in alloc; "end {}", tokens.end)?;
@@ -213,31 +181,44 @@ mod tests {
         Ok(shown)
     }
 
+    fn shown(alloc: Global, bytes: &[u8]) -> Result<String, AllocError> {
+        match lex(alloc, bytes) {
+            Ok(tokens) => shown_tokens(alloc, &tokens),
+            Err(LexError::Refused(diag)) => {
+                let code = diag.code;
+                let place = diag.place;
+                format!(in alloc; "{code} {place}")
+            }
+            Err(LexError::NoMemory) => Err(AllocError),
+        }
+    }
+
     #[test]
-    fn tokens_and_places(rt: HostRuntime) -> Result<(), Fail> {
-        let cases = [
-            ("", "end 1:1"),
-            (" \t\r\n", "end 2:1"),
+    fn tokens_and_refusals(rt: HostRuntime) -> Result<(), Fail> {
+        let cases: [(&[u8], &str); 11] = [
+            (b"", "end 1:1"),
+            (b" \t\r\n// all\n", "end 3:1"),
             (
-                "def x = fun(y: Unit) => y;",
-                "<Def> 1:1 x 1:5 <Equals> 1:7 <Fun> 1:9 <Open> 1:12 y 1:13 <Colon> 1:14 <Unit> 1:16 <Close> 1:20 <DoubleArrow> 1:22 y 1:25 <Semicolon> 1:26 end 1:27",
+                b"val s = \"a b\";\r\n s",
+                "<Val> 1:1 0-3 s 1:5 4-5 <Equals> 1:7 6-7 'a b' 1:9 8-13 <Semicolon> 1:14 13-14 s 2:2 17-18 end 2:3",
+            ),
+            (b"12ab 007", "#12 1:1 0-2 ab 1:3 2-4 #7 1:6 5-8 end 1:9"),
+            (b"a<:b/ /", "E02 1:5"),
+            (
+                b"x.print()//y",
+                "x 1:1 0-1 <Dot> 1:2 1-2 print 1:3 2-7 <Open> 1:8 7-8 <Close> 1:9 8-9 end 1:13",
             ),
             (
-                "defx def5 5def",
-                "defx 1:1 def5 1:6 <stray> 1:11 <Def> 1:12 end 1:15",
+                b"\xc3\xa9_1 Box",
+                "\u{e9}_1 1:1 0-4 <BoxType> 1:5 5-8 end 1:8",
             ),
-            (
-                "=>==>-->",
-                "<DoubleArrow> 1:1 <Equals> 1:3 <DoubleArrow> 1:4 <stray> 1:6 <Arrow> 1:7 end 1:9",
-            ),
-            (
-                "val\r\n Console\n\nif x",
-                "<Val> 1:1 <Console> 2:2 <Unbuilt> 4:1 x 4:4 end 4:5",
-            ),
-            ("a\u{e9}b _", "a 1:1 <stray> 1:2 b 1:3 <stray> 1:5 end 1:6"),
+            (b"def _a", "E02 1:5"),
+            (b"1\n9223372036854775808", "E02 2:1"),
+            (b"def a = \"x", "E02 1:9"),
+            (b"def a = \xff", "E01 1:9"),
         ];
-        for (text, want) in cases {
-            assert_eq!(rt; shown(rt.alloc(), text)?.as_str(), want, "of {text:?}");
+        for (bytes, want) in cases {
+            assert_eq!(rt; shown(rt.alloc(), bytes)?.as_str(), want, "of {bytes:?}");
         }
         Ok(())
     }

@@ -1,6 +1,10 @@
 //! The tokens of a module's text, each with its place.
 #![tactic(auto)]
 
+pub mod error;
+mod form;
+mod kind;
 pub mod laws;
 pub mod lexer;
 pub mod token;
+mod words;

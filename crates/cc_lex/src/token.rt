@@ -61,6 +61,7 @@ pub enum Word {
     BoxType,
 }
 
+/// A symbol, of one character or two.
 #[derive(Clone, Copy, Debug, PartialEq, Eq)]
 pub enum Symbol {
     /// `(`

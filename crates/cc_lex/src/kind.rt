@@ -1,0 +1,78 @@
+ghost use Rattle.std.specs.Prelude.{◌≡◌, IfOk};
+ghost use Rattle.std.specs.Str.{chars};
+ghost use Rattle.cc_lex.specs.declared.form.Form.TheVariants as forms;
+ghost use Rattle.cc_lex.specs.Lexemes.{lexeme_of, TextLexeme};
+ghost use Rattle.cc_lex.specs.Forms.{IsDigits, IsWord, IsOfForm};
+ghost use Rattle.cc_lex.specs.Cutting.{number_of, inside, word_of, word_or_name, spelled_by, no_token, Finds};
+
+use crate::error::LexError;
+use crate::form::Form;
+use crate::token::TokenKind;
+use crate::words::word_of;
+use cc_base::code::{Code, Diag};
+use cc_base::name::{Name, NameError};
+use cc_base::place::Place;
+use std::alloc::{AllocError, Global};
+use std::rc::RcStr;
+
+fn number_of(text: &str) -> Option<i64>
+    requires { IsDigits (chars text.now) }
+    ensures { result ≡ number_of (chars text.now) }
+{
+    text.parse::<i64>().ok()
+}
+
+fn word_kind(alloc: Global, text: &str) -> Result<TokenKind, AllocError>
+    requires { IsWord (chars text.now) }
+    ensures { IfOk result (λ kind. lexeme_of kind ≡ word_or_name (chars text.now) (word_of (chars text.now))) }
+{
+    if let Some(word) = word_of(text) {
+        return Ok(TokenKind::Word(word));
+    }
+    match Name::read(alloc, text) {
+        Ok(name) => Ok(TokenKind::Name(name)),
+        Err(NameError::NoMemory) => Err(AllocError),
+        Err(NameError::NotAName) => unreachable!(),
+    }
+}
+
+fn inside(text: &str) -> &str
+    requires { IsOfForm forms.Text (chars text.now) }
+    ensures { chars result.now ≡ inside (chars text.now) }
+{
+    &text[1..text.len() - 1]
+}
+
+fn text_kind(alloc: Global, text: &str) -> Result<TokenKind, AllocError>
+    requires { IsOfForm forms.Text (chars text.now) }
+    ensures { IfOk result (λ kind. lexeme_of kind ≡ TextLexeme (inside (chars text.now))) }
+{
+    let text = RcStr::from_str(alloc, inside(text))?;
+    Ok(TokenKind::Text(text))
+}
+
+/// The refusal of a text in which no token begins at this place.
+pub fn no_token(place: Place) -> Diag
+    ensures { result ≡ no_token place }
+{
+    Diag {
+        code: Code::E02,
+        place,
+    }
+}
+
+/// The kind of the token that a text of this form is. A number that is too great is refused at the place.
+pub fn kind_of(alloc: Global, form: Form, text: &str, at: Place) -> Result<TokenKind, LexError>
+    requires { IsOfForm form (chars text.now) }
+    ensures { Finds lexeme_of at result (spelled_by form (chars text.now)) }
+{
+    match form {
+        Form::Digits => match number_of(text) {
+            Some(number) => Ok(TokenKind::Number(number)),
+            None => Err(LexError::Refused(no_token(at))),
+        },
+        Form::Word => Ok(word_kind(alloc, text)?),
+        Form::Text => Ok(text_kind(alloc, text)?),
+        Form::Symbol(symbol) => Ok(TokenKind::Symbol(symbol)),
+    }
+}
