@@ -5,7 +5,7 @@ use Rattle.cc_lex.specs.declared.token.Token.{Token}
 use Rattle.cc_lex.specs.Lexemes.{PlacedLexeme, lexeme_of, placed_of, placed_all}
 use Rattle.cc_parse.proofs.FirstTokens.{others, placed-nothing, placed-split}
 use Rattle.cc_base.specs.declared.place.Place.{Place}
-use Rattle.cc_grammar.specs.Syntax.{ExprSyntax, ShapeSyntax, TypeSyntax, CapturingType}
+use Rattle.cc_grammar.specs.Syntax.{ExprSyntax, ShapeSyntax, CapturingType}
 use Rattle.cc_grammar.specs.Reading.{ExprPart, ExprStart, WholeExpr, StartsExpr, NoExpr, expr_head, start_level, links_at, expr_over, nothing_at, Found, Got, Wrong, High, ◌>>=◌, ShapePart, TypePart, ShapeStart, WholeShape, StartsShape, NoShape, shape_head, shape_start_at, shape_over, shape_place, set_at, type_over, part_at}
 use Rattle.cc_parse.specs.declared.tree.ShapeForm.{ShapeForm}
 use Rattle.cc_parse.specs.declared.tree.ShapeForm.TheVariants as shapes

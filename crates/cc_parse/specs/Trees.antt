@@ -116,6 +116,9 @@ boxed_expr_syntax expr = expr_syntax expr.value
 abbrev pub import_syntax : Import → ImportSyntax
 import_syntax it = record { source = it.module; at = it.at; name = it.def; name_at = it.def_at }
 
+abbrev pub imports_syntax : Vec Import Global → List ImportSyntax
+imports_syntax imports = map import_syntax imports.items
+
 abbrev pub def_syntax : Def → DefSyntax
 def_syntax def = record {
   own = def.own;
@@ -125,5 +128,8 @@ def_syntax def = record {
   right = expr_syntax def.right;
 }
 
+abbrev pub defs_syntax : Vec Def Global → List DefSyntax
+defs_syntax defs = map def_syntax defs.items
+
 abbrev pub module_syntax : Module → ModuleSyntax
-module_syntax it = record { imports = map import_syntax it.imports.items; defs = map def_syntax it.defs.items }
+module_syntax it = record { imports = imports_syntax it.imports; defs = defs_syntax it.defs }

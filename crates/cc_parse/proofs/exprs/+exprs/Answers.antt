@@ -5,8 +5,8 @@ use Rattle.cc_grammar.specs.Reading.{WholeExpr, part_at, next_link}
 use Rattle.cc_parse.specs.Agreement.{Agrees}
 use Rattle.cc_parse.specs.Trees.{expr_syntax, boxed_expr_syntax}
 use Rattle.cc_parse.specs.Steps.{expr_start, expr_head_of, link_syntax}
-use Rattle.cc_parse.proofs.Spares.{links-none, links-high}
-use Rattle.cc_parse.proofs.LinkLoops.{links-stops, links-goes_on, links-falls}
+use Rattle.cc_grammar.proofs.Rooms.{links_at-none}
+use Rattle.cc_parse.proofs.LinkLoops.{links-high, links-stops, links-go_on, links-fall}
 use Rattle.cc_parse.proofs.Parts.{expr_found-empty, expr_found-none, expr_found-alone, expr_found-whole, expr_found-loose, expr_found-high, expr_found-starts}
 use Rattle.cc_parse.proofs.exprs.+exprs.Goals as goal
 
@@ -78,7 +78,7 @@ read_links-loop-link-smaller t c =
     let expr = boxed_expr_syntax c.loop-link.expr in
     let left = placed_all c.loop-link.left.now in
     let next = ap (λ e. next_link c.args.least (expr_syntax e) left) (sym c.deref.ensures) ∙ sym c.in-Some.ensures in
-    links-falls parts c.args.least expr c.loop-link.spare left (placed_all c.behind_first.result.now) (link_syntax c.in-Some.link) next (omega arith) c.behind_first.ensures (boxed_expr_syntax c.in_ok-more.more) c.in_ok-more.less (placed_all c.in_ok-more.rest.now) c.in_ok-more.ensures
+    links-fall parts c.args.least expr c.loop-link.spare left (placed_all c.behind_first.result.now) (link_syntax c.in-Some.link) next (omega arith) c.behind_first.ensures (boxed_expr_syntax c.in_ok-more.more) c.in_ok-more.less (placed_all c.in_ok-more.rest.now) c.in_ok-more.ensures
 
 pub read_links-loop-link-preserved : goal.read_links-loop-link-preserved
 read_links-loop-link-preserved t c =
@@ -86,7 +86,7 @@ read_links-loop-link-preserved t c =
     let expr = boxed_expr_syntax c.loop-link.expr in
     let left = placed_all c.loop-link.left.now in
     let next = ap (λ e. next_link c.args.least (expr_syntax e) left) (sym c.deref.ensures) ∙ sym c.in-Some.ensures in
-    links-goes_on parts c.args.least expr c.loop-link.spare left (placed_all c.behind_first.result.now) (link_syntax c.in-Some.link) next (omega arith) c.behind_first.ensures (boxed_expr_syntax c.in_ok-more.more) c.in_ok-more.less (placed_all c.in_ok-more.rest.now) c.in_ok-more.ensures
+    links-go_on parts c.args.least expr c.loop-link.spare left (placed_all c.behind_first.result.now) (link_syntax c.in-Some.link) next (omega arith) c.behind_first.ensures (boxed_expr_syntax c.in_ok-more.more) c.in_ok-more.less (placed_all c.in_ok-more.rest.now) c.in_ok-more.ensures
     ∙ c.loop-link.invariant
 
 pub read_links-returns : goal.read_links-returns
@@ -95,4 +95,4 @@ read_links-returns t c =
     let expr = boxed_expr_syntax c.loop-link.expr in
     let left = placed_all c.loop-link.left.now in
     let none = ap (λ e. next_link c.args.least (expr_syntax e) left) (sym c.deref.ensures) ∙ sym c.in_default.ensures in
-    sym c.loop-link.invariant ∙ links-none parts c.args.least expr c.loop-link.spare left none
+    sym c.loop-link.invariant ∙ links_at-none parts c.args.least expr c.loop-link.spare left none
