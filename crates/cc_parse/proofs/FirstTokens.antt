@@ -1,8 +1,8 @@
 -- A list that is not empty, as the program takes its first off.
-use Rattle.std.proofs.Common.{◌≡◌, ℕ, ◌<◌, ◌≤◌, ◌-◌, List, [], ◌∷◌, length, get_or, take, drop, refl, sym, ap, arith}
+use Rattle.std.proofs.Common.{◌≡◌, ◌<◌, ◌≤◌, ◌-◌, List, [], ◌∷◌, length, get_or, take, drop, refl, sym, ap, arith}
 use Rattle.std.proofs.lemmas.List.{take_rest}
 use Rattle.cc_lex.specs.declared.token.Token.{Token}
-use Rattle.cc_lex.specs.Lexemes.{PlacedLexeme, placed_of, placed_all}
+use Rattle.cc_lex.specs.Lexemes.{placed_of, placed_all}
 
 abbrev pub others : {A : Type 0} → List A → List A
 others xs = take (length xs - 1) (drop 1 xs)

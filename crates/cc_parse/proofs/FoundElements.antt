@@ -1,30 +1,16 @@
 -- What is found of a set's elements behind those that are read already.
-use Rattle.std.proofs.Common.{◌≡◌, ℕ, List, [], ◌∷◌, ◌++◌, map, refl, sym, ap, ◌∙◌, append_assoc, ◌≤◌, length, get_or, Option}
+use Rattle.std.proofs.Common.{◌≡◌, ℕ, List, [], ◌∷◌, ◌++◌, refl, sym, ap, ◌∙◌, ◌≤◌, length, get_or, Option}
 use Rattle.cc_base.specs.declared.place.Place.{Place}
 use Rattle.std.proofs.lemmas.List.{map-append}
-use Rattle.cc_lex.specs.Lexemes.{Lexeme, PlacedLexeme, lexeme_of, placed_of, placed_all}
+use Rattle.cc_lex.specs.Lexemes.{PlacedLexeme, lexeme_of, placed_of, placed_all}
 use Rattle.cc_lex.specs.declared.token.Token.{Token}
 use Rattle.cc_grammar.specs.Syntax.{ElementSyntax}
-use Rattle.cc_grammar.specs.Reading.{Found, Got, Wrong, High, ◌>>=◌, SetState, Behind, AtNext, Ends, Takes, Separates, Misfits, set_step, elements_at}
+use Rattle.cc_grammar.specs.Reading.{Found, Got, ◌>>=◌, SetState, Behind, Takes, set_step, elements_at}
 use Rattle.cc_parse.specs.declared.tree.ElemTree.{ElemTree}
+use Rattle.cc_parse.proofs.FoundLists.{behind-more}
+use Rattle.cc_parse.specs.Agreement.{behind}
 use Rattle.cc_parse.proofs.FirstTokens.{others, placed-split}
 use Rattle.cc_parse.specs.Trees.{element_syntax, elements_syntax}
-
--- the elements that are found, behind these
-abbrev pub behind : List ElementSyntax → Found (List ElementSyntax) → Found (List ElementSyntax)
-behind first (Got more spare rest) = Got (first ++ more) spare rest
-behind first (Wrong rest) = Wrong rest
-behind first (High rest) = High rest
-
-pub behind-nothing : (found : Found (List ElementSyntax)) → behind [] found ≡ found
-behind-nothing (Got more spare rest) = refl
-behind-nothing (Wrong rest) = refl
-behind-nothing (High rest) = refl
-
-behind-more : (first : List ElementSyntax) (one : ElementSyntax) (found : Found (List ElementSyntax)) → behind (first ++ one ∷ []) found ≡ behind first (found >>= λ more left rest. Got (one ∷ more) left rest)
-behind-more first one (Got more spare rest) = ap (λ all. Got all spare rest) (append_assoc first (one ∷ []) more)
-behind-more first one (Wrong rest) = refl
-behind-more first one (High rest) = refl
 
 -- the element that a token is
 abbrev pub element_at : Place → Option (List ℕ) → ElemTree

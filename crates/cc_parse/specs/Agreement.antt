@@ -1,5 +1,5 @@
 -- What a reader of the program answers, beside what the definition of its production finds.
-use Rattle.std.specs.Prelude.{◌≡◌, ℕ, ⊤, List, Result, Ok, Err}
+use Rattle.std.specs.Prelude.{◌≡◌, ℕ, ⊤, List, ◌++◌, Result, Ok, Err}
 use Rattle.std.specs.Borrow.{Bor}
 use Rattle.cc_lex.specs.declared.token.Token.{Token}
 use Rattle.cc_lex.specs.Lexemes.{placed_all}
@@ -14,3 +14,9 @@ Agrees view (Ok read) found = found ≡ Got (view read.0) read.1 (placed_all rea
 Agrees view (Err (stops.Wrong rest)) found = found ≡ Wrong (placed_all rest.now)
 Agrees view (Err (stops.High rest)) found = found ≡ High (placed_all rest.now)
 Agrees view (Err stops.NoMemory) found = ⊤
+
+-- the list that is found, behind this one
+abbrev pub behind : {A : Type 0} → List A → Found (List A) → Found (List A)
+behind first (Got more spare rest) = Got (first ++ more) spare rest
+behind first (Wrong rest) = Wrong rest
+behind first (High rest) = High rest

@@ -1,3 +1,4 @@
 pub mod Trees
 pub mod Agreement
 pub mod Steps
+pub mod Answers

@@ -1,5 +1,8 @@
 -- The cases of the program's dispatchers, as the definitions of reading name them.
-use Rattle.cc_grammar.specs.Reading.{Link, OperatorLink, CallLink, TypeCallLink, DotLink, ExprStart, RuleStart, FunStart, ParenRule, ValRule, IfRule, BoundaryRule, BoxRule, UnboxRule, ExitRule, RepeatRule, ExprHead, WholeExpr, StartsExpr, NoExpr, ShapeStart, ExitStart, BoxStart, ParenStart, TypeFunctionStart, ShapeHead, WholeShape, StartsShape, NoShape, SetState, AtFirst, AtNext, Behind, SetStep, Ends, Takes, Separates, Misfits, CaretStep, Omits, Opens, Fails}
+use Rattle.cc_grammar.specs.Reading.{Reader, ◌>>=◌, part_at, expr_start_at, links_at, Link, OperatorLink, CallLink, TypeCallLink, DotLink, ExprStart, RuleStart, FunStart, ParenRule, ValRule, IfRule, BoundaryRule, BoxRule, UnboxRule, ExitRule, RepeatRule, ExprHead, WholeExpr, StartsExpr, NoExpr, ShapeStart, ExitStart, BoxStart, ParenStart, TypeFunctionStart, ShapeHead, WholeShape, StartsShape, NoShape, SetState, AtFirst, AtNext, Behind, SetStep, Ends, Takes, Separates, Misfits, CaretStep, Omits, Opens, Fails}
+use Rattle.std.specs.Prelude.{ℕ}
+use Rattle.cc_base.specs.declared.place.Place.{Place}
+use Rattle.cc_grammar.specs.Syntax.{ExprSyntax}
 use Rattle.cc_parse.specs.declared.sets.SetState.{SetState as DeclaredSetState}
 use Rattle.cc_parse.specs.declared.sets.SetState.TheVariants as states
 use Rattle.cc_parse.specs.declared.sets.SetStep.{SetStep as DeclaredSetStep}
@@ -66,3 +69,9 @@ link_syntax (links.Operator operator) = OperatorLink operator
 link_syntax links.Call = CallLink
 link_syntax links.TypeCall = TypeCallLink
 link_syntax links.Dot = DotLink
+
+-- an expression from behind its first token on, with all that goes on it
+unfoldable pub started_at : ℕ → ℕ → Place → ExprStart → Reader ExprSyntax
+started_at room least at start tokens =
+    expr_start_at (part_at room) room at start tokens >>= λ expr spare rest.
+    links_at (part_at room) least spare expr spare rest

@@ -1,5 +1,5 @@
 -- The syntax that a tree of the program stands for.
-use Rattle.std.specs.Prelude.{List, Vec, map, Option, Some, None}
+use Rattle.std.specs.Prelude.{Box, List, Vec, map, Option, Some, None}
 use Rattle.std.specs.Option.{option_map}
 use Rattle.std.specs.declared.alloc.Global.{Global}
 use Rattle.cc_base.specs.declared.literal.Import.{Import}
@@ -58,6 +58,12 @@ shape_syntax shape = shape_form_syntax shape.at shape.form
 abbrev pub type_syntax : TypeTree → TypeSyntax
 type_syntax type = CapturingType type.at (shape_syntax type.shape) (set_syntax type.set)
 
+abbrev pub boxed_shape_syntax : Box ShapeTree Global → ShapeSyntax
+boxed_shape_syntax shape = shape_syntax shape.value
+
+abbrev pub boxed_type_syntax : Box TypeTree Global → TypeSyntax
+boxed_type_syntax type = type_syntax type.value
+
 -- the operation on a receiver, with its argument if it has one
 abbrev pub operation_syntax : Place → Op → ExprSyntax → Option ExprSyntax → ExprSyntax
 operation_syntax at operation receiver None = AskExpr at operation receiver
@@ -104,8 +110,14 @@ abbrev mutual
 abbrev pub expr_syntax : ExprTree → ExprSyntax
 expr_syntax expr = expr_form_syntax expr.at expr.form
 
+abbrev pub boxed_expr_syntax : Box ExprTree Global → ExprSyntax
+boxed_expr_syntax expr = expr_syntax expr.value
+
 abbrev pub import_syntax : Import → ImportSyntax
 import_syntax it = record { source = it.module; at = it.at; name = it.def; name_at = it.def_at }
+
+abbrev pub imports_syntax : Vec Import Global → List ImportSyntax
+imports_syntax imports = map import_syntax imports.items
 
 abbrev pub def_syntax : Def → DefSyntax
 def_syntax def = record {
@@ -116,5 +128,8 @@ def_syntax def = record {
   right = expr_syntax def.right;
 }
 
+abbrev pub defs_syntax : Vec Def Global → List DefSyntax
+defs_syntax defs = map def_syntax defs.items
+
 abbrev pub module_syntax : Module → ModuleSyntax
-module_syntax it = record { imports = map import_syntax it.imports.items; defs = map def_syntax it.defs.items }
+module_syntax it = record { imports = imports_syntax it.imports; defs = defs_syntax it.defs }

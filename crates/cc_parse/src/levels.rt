@@ -1,6 +1,6 @@
 //! How tight expressions are, and what goes on them.
 
-ghost use Rattle.std.specs.Prelude.{◌≡◌, option_map};
+ghost use Rattle.std.specs.Prelude.{◌≡◌, ◌+◌, option_map};
 ghost use Rattle.cc_lex.specs.Lexemes.{lexeme_of, placed_all, SymbolLexeme};
 ghost use Rattle.cc_grammar.specs.Grammar.{operator_level, left_level, level};
 ghost use Rattle.cc_grammar.specs.Reading.{link_of, link_level, link_left, goes_on, next_link, behind_first};
@@ -20,7 +20,8 @@ pub enum Link {
     Dot,
 }
 
-pub fn operator_level(operator: Operator) -> u32
+/// How tightly the operator binds.
+fn operator_level(operator: Operator) -> u32
     ensures { result ≡ operator_level operator }
 {
     match operator {
@@ -30,6 +31,18 @@ pub fn operator_level(operator: Operator) -> u32
     }
 }
 
+/// How tight the right operand is at least.
+pub fn right_level(operator: Operator) -> u32
+    ensures { result ≡ 1 + operator_level operator }
+{
+    match operator {
+        Operator::Less | Operator::Equal => 2,
+        Operator::Add | Operator::Sub => 3,
+        Operator::Mul => 4,
+    }
+}
+
+/// How tight the left operand is at least.
 fn left_level(operator: Operator) -> u32
     ensures { result ≡ left_level operator }
 {

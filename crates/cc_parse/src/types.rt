@@ -1,6 +1,6 @@
 //! Readers of shapes and types.
 
-ghost use Rattle.std.specs.Prelude.{◌≡◌, IfOk};
+ghost use Rattle.std.specs.Prelude.{◌≡◌, IfOk, option_map};
 ghost use Rattle.cc_lex.specs.Lexemes.{lexeme_of, WordLexeme, SymbolLexeme, placed_all};
 ghost use Rattle.cc_grammar.specs.Reading.{
   shape_head,
@@ -17,13 +17,14 @@ ghost use Rattle.cc_grammar.specs.Reading.{
   named_at,
   paren_at,
   shape_start_at,
+  written_at,
 };
 ghost use Rattle.cc_grammar.specs.Tests.{begins_symbol};
 ghost use Rattle.cc_parse.specs.Agreement.{Agrees};
-ghost use Rattle.cc_parse.specs.Trees.{shape_syntax, type_syntax};
+ghost use Rattle.cc_parse.specs.Trees.{shape_syntax, boxed_shape_syntax, type_syntax, boxed_type_syntax};
 ghost use Rattle.cc_parse.specs.Steps.{shape_start, shape_head_of};
 
-use crate::pieces::{begins_symbol, read_name, read_symbol};
+use crate::pieces::{begins_symbol, is_symbol, read_name, read_symbol};
 use crate::sets::read_set;
 use crate::stop::{Reading, Stop};
 use crate::tree::{ShapeForm, ShapeTree, TypeTree};
@@ -270,7 +271,7 @@ fn read_shape_start(
 
 /// A shape with so many levels below it at most.
 #[cycle(types)]
-pub fn read_shape(alloc: Global, room: u32, tokens: &[Token]) -> Reading<'_, ShapeTree>
+fn read_shape(alloc: Global, room: u32, tokens: &[Token]) -> Reading<'_, ShapeTree>
     ensures { Agrees shape_syntax result (part_at room ShapePart (placed_all tokens.now)) }
 {
     match tokens {
@@ -287,11 +288,58 @@ pub fn read_shape(alloc: Global, room: u32, tokens: &[Token]) -> Reading<'_, Sha
 /// A type: a shape, perhaps with a set.
 #[cycle(types)]
 #[tactic(auto, using(crate::proofs::Parts::type_parts))]
-pub fn read_type(alloc: Global, room: u32, tokens: &[Token]) -> Reading<'_, TypeTree>
+fn read_type(alloc: Global, room: u32, tokens: &[Token]) -> Reading<'_, TypeTree>
     ensures { Agrees type_syntax result (part_at room TypePart (placed_all tokens.now)) }
 {
     let (shape, spare, rest) = read_shape(alloc, room, tokens)?;
     let (set, spare, rest) = read_set(alloc, spare, rest)?;
     let at = shape.at;
     Ok((TypeTree { at, shape, set }, spare, rest))
+}
+
+/// A shape, in a box.
+pub fn read_boxed_shape(alloc: Global, room: u32, tokens: &[Token]) -> Reading<'_, Box<ShapeTree>>
+    ensures { Agrees boxed_shape_syntax result (part_at room ShapePart (placed_all tokens.now)) }
+{
+    let (shape, spare, rest) = read_shape(alloc, room, tokens)?;
+    let shape = Box::new(alloc, shape)?;
+    Ok((shape, spare, rest))
+}
+
+/// A type, in a box.
+pub fn read_boxed_type(alloc: Global, room: u32, tokens: &[Token]) -> Reading<'_, Box<TypeTree>>
+    ensures { Agrees boxed_type_syntax result (part_at room TypePart (placed_all tokens.now)) }
+{
+    let (tree, spare, rest) = read_type(alloc, room, tokens)?;
+    let tree = Box::new(alloc, tree)?;
+    Ok((tree, spare, rest))
+}
+
+/// Perhaps `: T`, with the type in a box.
+#[tactic(auto, unfolding(cc_grammar::specs::Reading::written_at))]
+pub fn read_boxed_written(
+    alloc: Global,
+    room: u32,
+    spare: u32,
+    tokens: &[Token],
+) -> Reading<'_, Option<Box<TypeTree>>>
+    ensures { Agrees (option_map boxed_type_syntax) result (written_at (part_at room) spare (placed_all tokens.now)) }
+{
+    match tokens {
+        [token, rest @ ..] if is_symbol(Symbol::Colon, &token.kind) => {
+            let (written, part, rest) = read_boxed_type(alloc, room, rest)?;
+            Ok((Some(written), spare.min(part), rest))
+        }
+        _ => Ok((None, spare, tokens)),
+    }
+}
+
+/// The type out of its box, if there is one.
+pub fn unboxed(written: Option<Box<TypeTree>>) -> Option<TypeTree>
+    ensures { result ≡ option_map (λ tree. tree.value) written }
+{
+    match written {
+        Some(tree) => Some(Box::into_inner(tree)),
+        None => None,
+    }
 }

@@ -1,5 +1,3 @@
-use Rattle.std.proofs.Common.{ap, ◌∙◌}
-use Rattle.std.specs.Str.{bytes_eq}
 use Rattle.cc_parse.proofs.AsciiNames.{bytes_eq-ascii}
 use Rattle.cc_parse.proofs.heads.is_text.Goals as goal
 

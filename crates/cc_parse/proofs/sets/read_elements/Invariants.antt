@@ -3,7 +3,7 @@ use Rattle.cc_lex.specs.Lexemes.{placed_all}
 use Rattle.cc_grammar.specs.Reading.{AtFirst, elements_at}
 use Rattle.cc_parse.specs.Trees.{elements_syntax}
 use Rattle.cc_parse.specs.Steps.{set_state}
-use Rattle.cc_parse.proofs.FoundElements.{behind}
+use Rattle.cc_parse.specs.Agreement.{behind}
 use Rattle.cc_parse.proofs.sets.read_elements.Given as goal
 
 -- the elements so far, and those that are left, are those of the whole
