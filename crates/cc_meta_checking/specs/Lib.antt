@@ -1,1 +1,2 @@
+pub mod FillingLaws
 pub mod InferenceLaws

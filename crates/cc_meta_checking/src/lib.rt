@@ -2,4 +2,5 @@
 //! its contract.
 #![tactic(auto)]
 
+pub mod filling_laws;
 pub mod inference_laws;
