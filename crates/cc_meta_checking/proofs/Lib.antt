@@ -1,3 +1,6 @@
+pub mod FilledSubtyping
+pub mod FilledSyntax
+pub mod FilledTyping
 pub mod Findings
 pub mod FoundFindings
 pub mod FoundTypes
