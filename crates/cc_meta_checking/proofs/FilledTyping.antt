@@ -70,13 +70,13 @@ tabs_at g n is bound gives e body formed h =
 
 module _ (base : Context) (root : ℕ) (within : root ≤ length base) (f : Filling) (over : IsOverGlobals root f)
     (terms : (p : ℕ) → p < root → lookup (kinds_of base) p ≡ Some TermKind) where
-  fill_empty : filled_set f empty ≡ empty
+  pub fill_empty : filled_set f empty ≡ empty
   fill_empty = flat_image-empty (filled_element f)
 
-  fill_variable : (v : Var) → filled_set f (variable_set v) ≡ variable_set v
+  pub fill_variable : (v : Var) → filled_set f (variable_set v) ≡ variable_set v
   fill_variable v = flat_image-of_single (filled_element f) (Variable v)
 
-  read_fill : (sort : Sort) (n : ℕ) (x : Syntax sort) → acted sort (reading n) 0 (acted sort (filling_in f) 0 x) ≡ acted sort (filling_in f) 0 (acted sort (reading n) 0 x)
+  pub read_fill : (sort : Sort) (n : ℕ) (x : Syntax sort) → acted sort (reading n) 0 (acted sort (filling_in f) 0 x) ≡ acted sort (filling_in f) 0 (acted sort (reading n) 0 x)
   read_fill sort n x = sym (filled-moved root f over (read_variable n) (reading_leaves root f over n) sort 0 x)
 
   body_read : (n : ℕ) (t : Term) → opened_term n (act_term (reading n) 1 (act_term (filling_in f) 1 t)) ≡ read_term (suc n) (filled_term f t)
@@ -108,16 +108,16 @@ module _ (base : Context) (root : ℕ) (within : root ≤ length base) (f : Fill
         by_element (Hole j) k = tt
 
     -- what is well formed is so when it is filled
-    fill_kinded : (sort : Sort) (x : Syntax sort) → HasKinds sort (kinds_of g) [] x → HasKinds sort (kinds_of filled_g) [] (acted sort (filling_in f) 0 x)
+    pub fill_kinded : (sort : Sort) (x : Syntax sort) → HasKinds sort (kinds_of g) [] x → HasKinds sort (kinds_of filled_g) [] (acted sort (filling_in f) 0 x)
     fill_kinded sort x k =
         subst (λ ks. HasKinds sort ks [] (acted sort (filling_in f) 0 x)) (sym (kinds-filled f g))
         (HasKinds-act sort (filling_in f) (kinds_of g) [] (kinds_of g) [] (KeepsKinds-filling_in f (kinds_of g) [] hole_kinded) [] x k)
 
-    fill_formed : (t : CapturingType) → IsKindedType (kinds_of g) [] t → IsWellFormedType filled_g (capturing (filled f t.shape) (filled_set f t.set))
+    pub fill_formed : (t : CapturingType) → IsKindedType (kinds_of g) [] t → IsWellFormedType filled_g (capturing (filled f t.shape) (filled_set f t.set))
     fill_formed t k = let p = fill_kinded TypeSort t k in formed_type_from filled_g (filled f t.shape) (filled_set f t.set) p.0 p.1
 
     -- a variable, as it is declared and widened
-    value : {v : Var} {s : Shape} {d : Set} → Has g v s d → HasTyping filled_g (VariableTerm v) (filled f s) (variable_set v)
+    pub value : {v : Var} {s : Shape} {d : Set} → Has g v s d → HasTyping filled_g (VariableTerm v) (filled f s) (variable_set v)
     value {v} {s} {d} h =
         subst (λ w. HasTyping filled_g (VariableTerm w) (filled f s) (variable_set w)) (sym h.is) (t-var (lookup-filled f g h.position s d h.there))
 
@@ -126,11 +126,11 @@ module _ (base : Context) (root : ℕ) (within : root ≤ length base) (f : Fill
         t-sub (value h) (subcaptures_reflexive filled_g (variable_set v)) below
         (formed_type_from filled_g x (variable_set v) k (subst (λ ks. IsKindedSet ks [] (variable_set v)) (sym (kinds-filled f g)) (variable_set_kinded h)))
 
-    head : {v : Var} {s : Shape} {d : Set} → Has g v s d → (x : Shape) → exposed g s ≡ x → HasTyping filled_g (VariableTerm v) (filled f x) (variable_set v)
+    pub head : {v : Var} {s : Shape} {d : Set} → Has g v s d → (x : Shape) → exposed g s ≡ x → HasTyping filled_g (VariableTerm v) (filled f x) (variable_set v)
     head {v} {s} {d} h x e =
         wider h (filled f x) (subtypes_filled root f over (subst (Subtypes g s) e (exposed_above g s))) (fill_kinded ShapeSort x (has_exposed formed h e))
 
-    of_shape : (v : Var) (x : Shape) (ds : List Demand) → Operand g v x ds → Serves f (below_all ds) → IsKinded (kinds_of g) [] x → HasTyping filled_g (VariableTerm (in_context g v)) (filled f x) (variable_set (in_context g v))
+    pub of_shape : (v : Var) (x : Shape) (ds : List Demand) → Operand g v x ds → Serves f (below_all ds) → IsKinded (kinds_of g) [] x → HasTyping filled_g (VariableTerm (in_context g v)) (filled f x) (variable_set (in_context g v))
     of_shape v x ds o s k = wider o.has (filled f x) (shapes_below root f over g o.shape x ds o.demands s) (fill_kinded ShapeSort x k)
 
     given : {v : Var} {s : Shape} {d : Set} → Has g v s d → (t : CapturingType) (ds : List Demand) → TypesHaveDemands g (capturing s (variable_set v)) t ds → Serves f (below_all ds) → IsKindedType (kinds_of g) [] t
@@ -140,15 +140,15 @@ module _ (base : Context) (root : ℕ) (within : root ≤ length base) (f : Fill
         t-sub (value h) (subst (λ x. SubcapturesSet filled_g x (filled_set f t.set)) (fill_variable v) below.0) below.1 (fill_formed t k)
 
     -- a term that was compared with a type
-    compared : (x : Term) (t u : CapturingType) (ds : List Demand) → HasTyping filled_g x (filled f t.shape) (filled_set f t.set) → TypesHaveDemands g t u ds → Serves f (below_all ds) → IsKindedType (kinds_of g) [] u
+    pub compared : (x : Term) (t u : CapturingType) (ds : List Demand) → HasTyping filled_g x (filled f t.shape) (filled_set f t.set) → TypesHaveDemands g t u ds → Serves f (below_all ds) → IsKindedType (kinds_of g) [] u
         → HasTyping filled_g x (filled f u.shape) (filled_set f u.set)
     compared x t u ds h b served k =
         let below = types_below root f over g t u ds b served in t-sub h below.0 below.1 (fill_formed u k)
 
-    read_written : (c : Set) → IsKindedSet (kinds_of g) [] c → read_set n (filled_set f (written_in (length base) g c)) ≡ filled_set f c
+    pub read_written : (c : Set) → IsKindedSet (kinds_of g) [] c → read_set n (filled_set f (written_in (length base) g c)) ≡ filled_set f c
     read_written c k = read_fill SetSort n (written_in (length base) g c) ∙ ap (filled_set f) (read_set-written (length base) n 0 c (closed_in_set g c k))
 
-    noted_typed : {note : Note} {t : CapturingType} {m : Named} {ps : List Asked} → Notes (length base) g note t m ps → IsKindedNote (kinds_of base) passed note → IsKindedType (kinds_of g) [] t → Serves f ps
+    pub noted_typed : {note : Note} {t : CapturingType} {m : Named} {ps : List Asked} → Notes (length base) g note t m ps → IsKindedNote (kinds_of base) passed note → IsKindedType (kinds_of g) [] t → Serves f ps
         → (x : Term) → HasTyping filled_g x (filled f t.shape) (filled_set f t.set)
         → HasTyping filled_g x (filled f m.type.shape) (filled_set f m.type.set) × IsNoteOf (act_note (reading n) 0 (act_note (filling_in f) 0 m.note)) (filled f m.type.shape) (filled_set f m.type.set)
     noted_typed notes-absent k kt s x h = (h, tt)
@@ -171,7 +171,7 @@ module _ (base : Context) (root : ℕ) (within : root ≤ length base) (f : Fill
     put_set-filled : (v : Var) (c : Set) → act_set (putting v) 0 (act_set (filling_in f) 1 c) ≡ filled_set f (act_set (putting v) 0 c)
     put_set-filled v c = sym (filled-moved root f over (put_variable v) (opening_leaves root f over v) SetSort 0 c)
 
-    row_function : (takes : Shape) (c : Set) (r : Result) → IsKindedType (kinds_of g) [] (type_in g (capturing takes c))
+    pub row_function : (takes : Shape) (c : Set) (r : Result) → IsKindedType (kinds_of g) [] (type_in g (capturing takes c))
         → HasTyping (filled_context f (entry_of (type_in g (capturing takes c)) ∷ g)) (read_term (suc n) (filled_term f r.completed)) (filled f r.type.shape) (filled_set f r.type.set)
         → HasTyping filled_g (read_term n (filled_term f (FunctionTerm takes c r.completed))) (filled f (function_found g takes c r).type.shape) (filled_set f (function_found g takes c r).type.set)
     row_function takes c r k h =
@@ -186,7 +186,7 @@ module _ (base : Context) (root : ℕ) (within : root ≤ length base) (f : Fill
         (fill_formed (type_in g (capturing takes c)) k)
         (subst (λ x. HasTyping (filled_context f (entry_of (type_in g (capturing takes c)) ∷ g)) x (filled f r.type.shape) (filled_set f r.type.set)) (sym (body_read n r.completed)) h))
 
-    row_type_function : (bound : Shape) (r : Result) → IsKinded (kinds_of g) [] (shape_in g bound)
+    pub row_type_function : (bound : Shape) (r : Result) → IsKinded (kinds_of g) [] (shape_in g bound)
         → HasTyping (filled_context f (TypeEntry (shape_in g bound) ∷ g)) (read_term (suc n) (filled_term f r.completed)) (filled f r.type.shape) (filled_set f r.type.set)
         → HasTyping filled_g (read_term n (filled_term f (TypeFunctionTerm bound r.completed))) (filled f (type_function_found g bound r).type.shape) (filled_set f (type_function_found g bound r).type.set)
     row_type_function bound r k h =
@@ -200,7 +200,7 @@ module _ (base : Context) (root : ℕ) (within : root ≤ length base) (f : Fill
         (IsKinded-test (kinds_of filled_g) [] (filled f (shape_in g bound)) (fill_kinded ShapeSort (shape_in g bound) k))
         (subst (λ x. HasTyping (filled_context f (TypeEntry (shape_in g bound) ∷ g)) x (filled f r.type.shape) (filled_set f r.type.set)) (sym (body_read n r.completed)) h))
 
-    row_application : {v w : Var} {s s' : Shape} {d d' : Set} (takes gives : Shape) (c e : Set) (ds : List Demand)
+    pub row_application : {v w : Var} {s s' : Shape} {d d' : Set} (takes gives : Shape) (c e : Set) (ds : List Demand)
         → Has g v s d → exposed g s ≡ FunctionShape takes c gives e → Has g w s' d'
         → TypesHaveDemands g (capturing s' (variable_set w)) (capturing takes c) ds → Serves f (below_all ds)
         → HasTyping filled_g (Application v w) (filled f (act (putting w) 0 gives)) (filled_set f (act_set (putting w) 0 e))
@@ -209,7 +209,7 @@ module _ (base : Context) (root : ℕ) (within : root ≤ length base) (f : Fill
         typing_as refl (put-filled w gives) (put_set-filled w e)
         (t-app (head h (FunctionShape takes c gives e) x) (given h' (capturing takes c) ds b served (k.0, k.1)))
 
-    row_type_application : {v : Var} {s : Shape} {d : Set} (y bound gives : Shape) (e : Set) (ds : List Demand)
+    pub row_type_application : {v : Var} {s : Shape} {d : Set} (y bound gives : Shape) (e : Set) (ds : List Demand)
         → Has g v s d → exposed g s ≡ TypeFunctionShape bound gives e → HasDemands g (shape_in g y) bound ds → Serves f (below_all ds) → IsKinded (kinds_of g) [] (shape_in g y)
         → HasTyping filled_g (TypeApplication v (act (reading n) 0 (filled f y))) (filled f (act (putting_shape (shape_in g y)) 0 gives)) (filled_set f (act_set (putting_shape (shape_in g y)) 0 e))
     row_type_application {v} y bound gives e ds h x b served k =
@@ -219,12 +219,12 @@ module _ (base : Context) (root : ℕ) (within : root ≤ length base) (f : Fill
         (t-tapp (head h (TypeFunctionShape bound gives e) x) (shapes_below root f over g (shape_in g y) bound ds b served)
         (IsKinded-test (kinds_of filled_g) [] (filled f (shape_in g y)) (fill_kinded ShapeSort (shape_in g y) k)))
 
-    row_box : {v : Var} {s : Shape} {d : Set} → Has g v s d → HasTyping filled_g (BoxTerm v) (filled f (BoxShape s (variable_set v))) (filled_set f empty)
+    pub row_box : {v : Var} {s : Shape} {d : Set} → Has g v s d → HasTyping filled_g (BoxTerm v) (filled f (BoxShape s (variable_set v))) (filled_set f empty)
     row_box {v} {s} h =
         typing_as refl (ap (BoxShape (filled f s)) (sym (fill_variable v))) (sym fill_empty)
         (t-box (value h) (λ m. let clash = Member-single Cap (Variable v) m in cc))
 
-    row_unboxing : {v : Var} {s : Shape} {d : Set} (content : Shape) (c set : Set) (written : Set) → Has g v s d → exposed g s ≡ BoxShape content c
+    pub row_unboxing : {v : Var} {s : Shape} {d : Set} (content : Shape) (c set : Set) (written : Set) → Has g v s d → exposed g s ≡ BoxShape content c
         → SubcapturesSet filled_g (filled_set f c) (filled_set f set) → HasNoCap (filled_set f set) → IsKindedSet (kinds_of g) [] set → written ≡ filled_set f set
         → HasTyping filled_g (Unboxing (Some written) v) (filled f content) (filled_set f set)
     row_unboxing {v} {s} content c set written h x below none k is =
@@ -236,7 +236,7 @@ module _ (base : Context) (root : ℕ) (within : root ≤ length base) (f : Fill
         (transitive (subtypes_filled root f over (subst (Subtypes g s) x (exposed_above g s))) (box below reflexive)) (kc.0, kc.1))
         (IsKindedSet-test (kinds_of filled_g) [] (filled_set f set) kc.1) none)
 
-    row_let : (note : Note) (x body : Term) (t u v : CapturingType) → IsKindedType (kinds_of g) [] t → IsKindedType (kinds_of (entry_of t ∷ g)) [] u → avoided_type Positive n t.set u ≡ Some v
+    pub row_let : (note : Note) (x body : Term) (t u v : CapturingType) → IsKindedType (kinds_of g) [] t → IsKindedType (kinds_of (entry_of t ∷ g)) [] u → avoided_type Positive n t.set u ≡ Some v
         → HasTyping filled_g x (filled f t.shape) (filled_set f t.set) → IsNoteOf note (filled f t.shape) (filled_set f t.set)
         → IsWellFormedType (filled_context f (entry_of t ∷ g)) (capturing (filled f v.shape) (filled_set f v.set))
         → HasTyping (filled_context f (entry_of t ∷ g)) (read_term (suc n) (filled_term f body)) (filled f u.shape) (filled_set f u.set)
@@ -250,7 +250,7 @@ module _ (base : Context) (root : ℕ) (within : root ≤ length base) (f : Fill
         (sym (ap (λ k. opened_term k (act_term (reading n) 1 (act_term (filling_in f) 1 body))) (length-filled f g) ∙ body_read n body)) wide)
         (fresh_in filled_g [] (filled f v.shape) kv.0) (fresh_in_set filled_g [] (filled_set f v.set) kv.1)
 
-    row_choice : (v : Var) (x : Shape) (c : Set) (t u : Term) (type : CapturingType) (ds : List Demand) → Operand g v (BaseShape bases.Bool) ds → Serves f (below_all ds)
+    pub row_choice : (v : Var) (x : Shape) (c : Set) (t u : Term) (type : CapturingType) (ds : List Demand) → Operand g v (BaseShape bases.Bool) ds → Serves f (below_all ds)
         → x ≡ filled f type.shape → c ≡ filled_set f type.set
         → HasTyping filled_g t (filled f type.shape) (filled_set f type.set) → HasTyping filled_g u (filled f type.shape) (filled_set f type.set)
         → HasTyping filled_g (Conditional (Written x c) (in_context g v) t u) (filled f type.shape) (filled_set f type.set)
@@ -258,7 +258,7 @@ module _ (base : Context) (root : ℕ) (within : root ≤ length base) (f : Fill
         typing_as (ap (λ y. Conditional (Written y (filled_set f type.set)) (in_context g v) t u) (sym p) ∙ ap (λ y. Conditional (Written x y) (in_context g v) t u) (sym q)) refl refl
         (t-if (of_shape v (BaseShape bases.Bool) ds o s tt) a b)
 
-    row_boundary : (x : Shape) (r : Result) (ds : List Demand) → IsKinded (kinds_of g) [] (shape_in g x)
+    pub row_boundary : (x : Shape) (r : Result) (ds : List Demand) → IsKinded (kinds_of g) [] (shape_in g x)
         → IsWellFormedType (filled_context f (exit_entry (shape_in g x) ∷ g)) (capturing (filled f (shape_in g x)) (filled_set f empty))
         → HasTyping (filled_context f (exit_entry (shape_in g x) ∷ g)) (read_term (suc n) (filled_term f r.completed)) (filled f r.type.shape) (filled_set f r.type.set)
         → TypesHaveDemands (exit_entry (shape_in g x) ∷ g) r.type (capturing (shape_in g x) empty) ds → Serves f (below_all ds)
@@ -274,7 +274,7 @@ module _ (base : Context) (root : ℕ) (within : root ≤ length base) (f : Fill
         (subst (λ y. HasTyping (TermEntry (ExitShape (filled f (shape_in g x))) (single Cap) ∷ filled_g) y (filled f (shape_in g x)) empty)
         (sym (ap (λ m. opened_term m (act_term (reading n) 1 (act_term (filling_in f) 1 r.completed))) (length-filled f g) ∙ body_read n r.completed)) wide'))
 
-    row_exit : {v w : Var} {s s' : Shape} {d d' : Set} (x takes : Shape) (c : Set) (ds : List Demand)
+    pub row_exit : {v w : Var} {s s' : Shape} {d d' : Set} (x takes : Shape) (c : Set) (ds : List Demand)
         → Has g v s d → exposed g s ≡ ExitShape takes → Has g w s' d' → TypesHaveDemands g (capturing s' (variable_set w)) (capturing takes empty) ds → Serves f (below_all ds)
         → IsKindedType (kinds_of g) [] (type_in g (capturing x c))
         → HasTyping filled_g (Leave (act (reading n) 0 (filled f x)) (act_set (reading n) 0 (filled_set f c)) v w) (filled f (shape_in g x)) (filled_set f (set_in g c))

@@ -1,5 +1,7 @@
+pub mod CheckedDefinitions
 pub mod FilledSubtyping
 pub mod FilledSyntax
+pub mod FilledTerms
 pub mod FilledTyping
 pub mod Findings
 pub mod FoundFindings
@@ -7,3 +9,4 @@ pub mod FoundTypes
 pub mod LeastFillings
 pub mod OneOutcome
 pub mod ReadingKinds
+pub mod Signatures

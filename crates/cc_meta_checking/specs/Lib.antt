@@ -1,2 +1,3 @@
+pub mod CheckingLaws
 pub mod FillingLaws
 pub mod InferenceLaws

@@ -2,5 +2,6 @@
 //! its contract.
 #![tactic(auto)]
 
+pub mod checking_laws;
 pub mod filling_laws;
 pub mod inference_laws;
