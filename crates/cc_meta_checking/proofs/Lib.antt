@@ -8,5 +8,6 @@ pub mod FoundFindings
 pub mod FoundTypes
 pub mod LeastFillings
 pub mod OneOutcome
+pub mod OneVerdict
 pub mod ReadingKinds
 pub mod Signatures

@@ -6,8 +6,13 @@ use Rattle.cc_core.specs.Occurrences.{MeetsInNote, without_holes, HasNoHoleInTyp
 use Rattle.cc_core.specs.WellFormed.{Kind, TermKind, kinds_of, is_well_formed_term, IsWellFormedContext, IsWellFormedNote}
 use Rattle.cc_core.specs.WellFormed.{IsWellFormedType}
 use Rattle.cc_core.specs.Typing.{HasType}
-use Rattle.cc_sets.specs.Verdicts.{Definition, Accepted, IsAccepted, HasVerdict}
-use Rattle.cc_meta_checking.specs.FillingLaws.{AreGlobals}
+use Rattle.cc_base.specs.declared.code.Code.{Code}
+use Rattle.cc_base.specs.declared.place.Place.{Place}
+use Rattle.cc_sets.specs.Outcomes.{Placed, Refused, Found}
+use Rattle.cc_sets.specs.Fillings.{Filling, IsLeast, IsOverGlobals, FailsFirst}
+use Rattle.cc_sets.specs.Verdicts.{Definition, Checking, Accepted, Verdict, IsAccepted, IsChecked, HasVerdict}
+use Rattle.cc_sets.specs.Verdicts.{HasAlgorithmicType}
+use Rattle.cc_meta_checking.specs.FillingLaws.{AreGlobals, AreFit}
 
 -- the kinds of what a definition's right side may name: the globals, and its own name where it is recursive
 abbrev pub visible_kinds : Bool → Context → List Kind
@@ -53,3 +58,26 @@ AcceptedDefinitionsHaveNoHole =
     (devices : ℕ) (globals : Context) (definition : Definition) (accepted : Accepted) → Fits globals definition
     → HasVerdict devices globals definition (IsAccepted accepted)
     → HasNoHoleInTerm accepted.filled × HasNoHoleInType accepted.type
+
+-- a definition has at most one verdict
+abbrev pub VerdictsAreUnique : Type 0
+VerdictsAreUnique =
+    (devices : ℕ) (globals : Context) (definition : Definition) (first second : Verdict)
+    → HasVerdict devices globals definition first → HasVerdict devices globals definition second → first ≡ second
+
+-- what is refused while it is inferred or compared has no algorithmic type under any filling
+abbrev pub RefusalsOfInferenceAreFinal : Type 0
+RefusalsOfInferenceAreFinal =
+    (devices : ℕ) (globals : Context) (definition : Definition) (code : Code) (at : Place) (filling : Filling)
+    → IsChecked devices globals definition (Refused code at)
+    → HasAlgorithmicType devices globals definition filling → ⊥
+
+-- Where what is asked is fit for a filling and the least filling does not serve it, the definition has no algorithmic type
+-- under any filling over the globals.
+abbrev pub FailedDemandsAreFinal : Type 0
+FailedDemandsAreFinal =
+    (devices : ℕ) (globals : Context) (definition : Definition) (found : Checking) (asked : List Placed)
+    (code : Code) (at : Place) (least filling : Filling)
+    → IsChecked devices globals definition (Found found asked) → AreFit globals asked
+    → IsLeast (length globals) asked least → FailsFirst least asked code at → IsOverGlobals (length globals) filling
+    → HasAlgorithmicType devices globals definition filling → ⊥

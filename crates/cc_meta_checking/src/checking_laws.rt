@@ -7,3 +7,10 @@ pub fn accepted_definitions()
     ensures over_devices { law.SignaturesAreOverDevices }
     ensures no_hole { law.AcceptedDefinitionsHaveNoHole }
 {}
+
+/// A definition has at most one verdict, and what is refused has no algorithmic type under any filling.
+pub fn verdicts()
+    ensures unique { law.VerdictsAreUnique }
+    ensures refused { law.RefusalsOfInferenceAreFinal }
+    ensures failed { law.FailedDemandsAreFinal }
+{}

@@ -1,0 +1,5 @@
+use Rattle.cc_meta_checking.proofs.OneVerdict.{one_verdict, refused_is_final, failed_is_final}
+use Rattle.cc_meta_checking.proofs.checking_laws.verdicts.Goals as goal
+
+pub returns : goal.returns
+returns c = record { unique = one_verdict; refused = refused_is_final; failed = failed_is_final }
