@@ -11,3 +11,4 @@ pub mod OneOutcome
 pub mod OneVerdict
 pub mod ReadingKinds
 pub mod Signatures
+pub mod WorkedVerdicts

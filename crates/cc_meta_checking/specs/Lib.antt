@@ -1,3 +1,4 @@
 pub mod CheckingLaws
+pub mod ExampleVerdicts
 pub mod FillingLaws
 pub mod InferenceLaws

@@ -3,5 +3,6 @@
 #![tactic(auto)]
 
 pub mod checking_laws;
+pub mod example_verdicts;
 pub mod filling_laws;
 pub mod inference_laws;
