@@ -4,6 +4,7 @@ pub mod FilledSyntax
 pub mod FilledTerms
 pub mod FilledTyping
 pub mod Findings
+pub mod FitDemands
 pub mod FoundFindings
 pub mod FoundTypes
 pub mod LeastFillings
@@ -11,4 +12,6 @@ pub mod OneOutcome
 pub mod OneVerdict
 pub mod ReadingKinds
 pub mod Signatures
+pub mod TameFindings
+pub mod Tameness
 pub mod WorkedVerdicts

@@ -26,7 +26,7 @@ use Rattle.cc_meta_checking.specs.FillingLaws.{AreGlobals}
 use Rattle.cc_meta_checking.specs.CheckingLaws.{oldest}
 
 -- avoiding puts in no hole
-avoided_set_closed : (sign : Sign) (p : ℕ) (d c : Set) → HasNoHoleInSet d → HasNoHoleInSet c → HasNoHoleInSet (avoided_set sign p d c)
+pub avoided_set_closed : (sign : Sign) (p : ℕ) (d c : Set) → HasNoHoleInSet d → HasNoHoleInSet c → HasNoHoleInSet (avoided_set sign p d c)
 avoided_set_closed Negative p d c kd kc = λ e m. kc e ((Member-remove e (Variable (Free p)) c).0 m).1
 avoided_set_closed Positive p d c kd kc = by_test (has_position p c)
   where
@@ -35,7 +35,7 @@ avoided_set_closed Positive p d c kd kc = by_test (has_position p c)
         elim ((Member-union e (remove (Variable (Free p)) c) d).0 m) as (λ _. IsNoHole e) [ inl l ↦ kc e ((Member-remove e (Variable (Free p)) c).0 l).1 | inr r ↦ kd e r ]
     by_test false = kc
 
-avoided_closed : (sign : Sign) (p : ℕ) (d : Set) → HasNoHoleInSet d → (depth : ℕ) (s r : Shape) → Meets without_holes depth s → avoided sign p d s ≡ Some r → Meets without_holes depth r
+pub avoided_closed : (sign : Sign) (p : ℕ) (d : Set) → HasNoHoleInSet d → (depth : ℕ) (s r : Shape) → Meets without_holes depth s → avoided sign p d s ≡ Some r → Meets without_holes depth r
 avoided_closed sign p d kd depth (BaseShape b) r m e = let is : BaseShape b ≡ r = cc in subst (Meets without_holes depth) is m
 avoided_closed sign p d kd depth AnyShape r m e = let is : AnyShape ≡ r = cc in subst (Meets without_holes depth) is m
 avoided_closed sign p d kd depth (TypeVariable v) r m e = let is : TypeVariable v ≡ r = cc in subst (Meets without_holes depth) is m

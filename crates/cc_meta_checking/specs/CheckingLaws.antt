@@ -12,6 +12,7 @@ use Rattle.cc_sets.specs.Outcomes.{Placed, Refused, Found}
 use Rattle.cc_sets.specs.Fillings.{Filling, IsLeast, IsOverGlobals, FailsFirst}
 use Rattle.cc_sets.specs.Verdicts.{Definition, Checking, Accepted, Verdict, IsAccepted, IsChecked, HasVerdict}
 use Rattle.cc_sets.specs.Verdicts.{HasAlgorithmicType}
+use Rattle.cc_meta_checking.specs.Holes.{HolesAreOfParameters}
 use Rattle.cc_meta_checking.specs.FillingLaws.{AreGlobals, AreFit}
 
 -- the kinds of what a definition's right side may name: the globals, and its own name where it is recursive
@@ -72,12 +73,19 @@ RefusalsOfInferenceAreFinal =
     → IsChecked devices globals definition (Refused code at)
     → HasAlgorithmicType devices globals definition filling → ⊥
 
--- Where what is asked is fit for a filling and the least filling does not serve it, the definition has no algorithmic type
--- under any filling over the globals.
+-- All that is asked of a definition whose holes are of parameters is fit for a filling.
+abbrev pub WhatIsAskedIsFit : Type 0
+WhatIsAskedIsFit =
+    (devices : ℕ) (globals : Context) (definition : Definition) (found : Checking) (asked : List Placed)
+    → Fits globals definition → HolesAreOfParameters definition.right
+    → IsChecked devices globals definition (Found found asked) → AreFit globals asked
+
+-- So where the least filling does not serve all that is asked, there is no algorithmic type under any filling.
 abbrev pub FailedDemandsAreFinal : Type 0
 FailedDemandsAreFinal =
     (devices : ℕ) (globals : Context) (definition : Definition) (found : Checking) (asked : List Placed)
     (code : Code) (at : Place) (least filling : Filling)
-    → IsChecked devices globals definition (Found found asked) → AreFit globals asked
+    → Fits globals definition → HolesAreOfParameters definition.right
+    → IsChecked devices globals definition (Found found asked)
     → IsLeast (length globals) asked least → FailsFirst least asked code at → IsOverGlobals (length globals) filling
     → HasAlgorithmicType devices globals definition filling → ⊥

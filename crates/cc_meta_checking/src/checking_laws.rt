@@ -12,5 +12,6 @@ pub fn accepted_definitions()
 pub fn verdicts()
     ensures unique { law.VerdictsAreUnique }
     ensures refused { law.RefusalsOfInferenceAreFinal }
+    ensures fit { law.WhatIsAskedIsFit }
     ensures failed { law.FailedDemandsAreFinal }
 {}
