@@ -29,12 +29,12 @@ use Rattle.cc_meta_checking.proofs.Tameness.{Tame, TameContext, closed_tame, clo
 use Rattle.cc_meta_checking.proofs.TameFindings.{AskedFits, AllAskedFit, asked_both, demands_asked, notes_tame, tame}
 use Rattle.cc_meta_checking.proofs.OneVerdict.{failed_is_final}
 
-globals_tame : (g : Context) → AreGlobals g → TameContext g
+pub globals_tame : (g : Context) → AreGlobals g → TameContext g
 globals_tame [] a = tt
 globals_tame (TermEntry s c ∷ g) a = ((closed_tame s (closed_from 0 s a.0), inl a.1), globals_tame g a.2)
 globals_tame (TypeEntry b ∷ g) a = absurd a
 
-note_has_none : (n : Note) → MeetsInNote without_holes 0 n → NoteHasNoHole n
+pub note_has_none : (n : Note) → MeetsInNote without_holes 0 n → NoteHasNoHole n
 note_has_none Absent m = tt
 note_has_none (Written s c) m = m
 note_has_none (Own s) m = m

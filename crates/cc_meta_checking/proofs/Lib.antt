@@ -1,3 +1,4 @@
+pub mod AlikeSignatures
 pub mod CheckedDefinitions
 pub mod FilledSubtyping
 pub mod FilledSyntax

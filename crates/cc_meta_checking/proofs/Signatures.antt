@@ -62,7 +62,7 @@ avoided_type_closed p d kd t r m e =
     let parts = avoided_type_parts Positive p d t r e in
     (avoided_closed Positive p d kd 0 t.shape r.shape m.0 parts.0, subst HasNoHoleInSet parts.1 (avoided_set_closed Positive p d t.set kd m.1))
 
-and_then_parts : {A B : Type 0} (next : A → Option B) (o : Option A) (b : B) → option_and_then next o ≡ Some b → (a : A) × (o ≡ Some a) × (next a ≡ Some b)
+pub and_then_parts : {A B : Type 0} (next : A → Option B) (o : Option A) (b : B) → option_and_then next o ≡ Some b → (a : A) × (o ≡ Some a) × (next a ≡ Some b)
 and_then_parts next (Some a) b e = (a, refl, e)
 and_then_parts next None b e = cc
 

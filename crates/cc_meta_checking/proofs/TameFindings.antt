@@ -112,7 +112,7 @@ head_tame : {g : Context} {v : Var} {s : Shape} {d : Set} (x : Shape) → TameCo
 head_tame {g} {v} {s} x t h e = subst Tame e (exposed_tame g s t (has_tame t h))
 
 -- avoiding keeps types tame
-closed_to : (d : ℕ) (s : Shape) → Closed s → Meets without_holes d s
+pub closed_to : (d : ℕ) (s : Shape) → Closed s → Meets without_holes d s
 closed_to d (BaseShape b) k = tt
 closed_to d AnyShape k = tt
 closed_to d (TypeVariable v) k = tt

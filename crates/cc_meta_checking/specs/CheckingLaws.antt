@@ -10,7 +10,7 @@ use Rattle.cc_base.specs.declared.code.Code.{Code}
 use Rattle.cc_base.specs.declared.place.Place.{Place}
 use Rattle.cc_sets.specs.Outcomes.{Placed, Refused, Found}
 use Rattle.cc_sets.specs.Fillings.{Filling, IsLeast, IsOverGlobals, FailsFirst}
-use Rattle.cc_sets.specs.Verdicts.{Definition, Checking, Accepted, Verdict, IsAccepted, IsChecked, HasVerdict}
+use Rattle.cc_sets.specs.Verdicts.{Definition, Checking, Accepted, Verdict, IsAccepted, IsRefused, IsChecked, HasVerdict}
 use Rattle.cc_sets.specs.Verdicts.{HasAlgorithmicType}
 use Rattle.cc_meta_checking.specs.Holes.{HolesAreOfParameters}
 use Rattle.cc_meta_checking.specs.FillingLaws.{AreGlobals, AreFit}
@@ -88,4 +88,12 @@ FailedDemandsAreFinal =
     → Fits globals definition → HolesAreOfParameters definition.right
     → IsChecked devices globals definition (Found found asked)
     → IsLeast (length globals) asked least → FailsFirst least asked code at → IsOverGlobals (length globals) filling
+    → HasAlgorithmicType devices globals definition filling → ⊥
+
+-- A refused definition has no algorithmic type under any filling over the globals, whatever the code.
+abbrev pub RefusedDefinitionsHaveNoType : Type 0
+RefusedDefinitionsHaveNoType =
+    (devices : ℕ) (globals : Context) (definition : Definition) (code : Code) (at : Place) (filling : Filling)
+    → Fits globals definition → HolesAreOfParameters definition.right
+    → HasVerdict devices globals definition (IsRefused code at) → IsOverGlobals (length globals) filling
     → HasAlgorithmicType devices globals definition filling → ⊥

@@ -14,4 +14,5 @@ pub fn verdicts()
     ensures refused { law.RefusalsOfInferenceAreFinal }
     ensures fit { law.WhatIsAskedIsFit }
     ensures failed { law.FailedDemandsAreFinal }
+    ensures no_type { law.RefusedDefinitionsHaveNoType }
 {}
