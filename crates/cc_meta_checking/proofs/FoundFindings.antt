@@ -162,7 +162,7 @@ compared_came at (Matches ds) (list, e, q) = (ds, refl, sym q ∙ ap asked_of (s
 pub joined : {qs a b a' b' : List Asked} → qs ≡ a ++ b → a ≡ a' → b ≡ b' → qs ≡ a' ++ b'
 joined {b = b} {a' = a'} k p q = k ∙ ap (λ l. l ++ b) p ∙ ap (λ l. a' ++ l) q
 
-below_came : (n : ℕ) (at : Place) (g : Context) (l r : CapturingType) {u : Unit {0}} {qs : List Asked} → Came (below (comparison n) at g l r) u qs
+pub below_came : (n : ℕ) (at : Place) (g : Context) (l r : CapturingType) {u : Unit {0}} {qs : List Asked} → Came (below (comparison n) at g l r) u qs
     → (ds : List Demand) × TypesHaveDemands g l r ds × (qs ≡ below_all ds)
 below_came n at g l r c = let p = compared_came at _ c in (p.0, (n, p.1), p.2)
 
@@ -178,7 +178,7 @@ operand_came n at g v s c =
     let a = against_came n at g k.value.shape s k.rest in
     (a.0, record { shape = x.shape; declared = x.declared; has = x.has; demands = subst (λ (t : CapturingType). HasDemands g t.shape s a.0) x.type a.1 }, joined k.all x.none a.2)
 
-noted_came : (n root : ℕ) (at : Place) (g : Context) (note : Note) (t : CapturingType) {named : Named} {qs : List Asked} → Came (noted (comparison n) root at g note t) named qs
+pub noted_came : (n root : ℕ) (at : Place) (g : Context) (note : Note) (t : CapturingType) {named : Named} {qs : List Asked} → Came (noted (comparison n) root at g note t) named qs
     → Notes root g note t named qs
 noted_came n root at g Absent t {named} {qs} c =
     let p = finds_came c in subst (λ x. Notes root g Absent t x qs) (sym p.0) (subst (Notes root g Absent t _) (sym p.1) notes-absent)
@@ -193,7 +193,7 @@ noted_came n root at g (Own s) t {named} {qs} c =
     let f = finds_came k.rest in
     subst (λ y. Notes root g (Own s) t y qs) (sym f.0) (subst (Notes root g (Own s) t _) (sym (joined k.all b.2 f.1)) (notes-own b.1))
 
-avoided_came : (at : Place) (o : Option CapturingType) {t : CapturingType} {qs : List Asked} → Came (found_or E17 at o) t qs → (o ≡ Some t) × (qs ≡ [])
+pub avoided_came : (at : Place) (o : Option CapturingType) {t : CapturingType} {qs : List Asked} → Came (found_or E17 at o) t qs → (o ≡ Some t) × (qs ≡ [])
 avoided_came at (Some x) c = let p = finds_came c in (ap (λ y. Some y) (sym p.0), p.1)
 avoided_came at None (list, e, q) = cc
 

@@ -43,7 +43,7 @@ abbrev pub KeepAnswers : Comparing → Comparing → Type 0
 KeepAnswers one other = (context : Context) (left right : Shape) → Keeps (one context left right) (other context left right)
 
 module _ (one other : Comparing) (keep : KeepAnswers one other) where
-  stays_below : (at : Place) (g : Context) (left right : CapturingType) → Stays (below one at g left right) (below other at g left right)
+  pub stays_below : (at : Place) (g : Context) (left right : CapturingType) → Stays (below one at g left right) (below other at g left right)
   stays_below at g left right =
       stays_compared at _ _ (keeps_then (Matches (demanded g left.set right.set ∷ [])) _ _ (keep g left.shape right.shape))
 
@@ -59,7 +59,7 @@ module _ (one other : Comparing) (keep : KeepAnswers one other) where
   stays_argument at g None (Some v) = inr refl
   stays_argument at g None None = inr refl
 
-  stays_noted : (root : ℕ) (at : Place) (g : Context) (note : Note) (t : CapturingType) → Stays (noted one root at g note t) (noted other root at g note t)
+  pub stays_noted : (root : ℕ) (at : Place) (g : Context) (note : Note) (t : CapturingType) → Stays (noted one root at g note t) (noted other root at g note t)
   stays_noted root at g Absent t = inr refl
   stays_noted root at g (Written s c) t = stays_then (stays_below at g t _) (λ _. inr refl)
   stays_noted root at g (Own s) t = stays_then (stays_against at g t.shape _) (λ _. inr refl)
@@ -112,7 +112,7 @@ module _ (one other : Comparing) (keep : KeepAnswers one other) (passes : Captur
       stays_sized places _ _ (stays_then (inr refl) (λ l. stays_then (inr refl) (λ h. stays_then (inr refl) (λ a. stays_then (stays_below one other keep _ g _ _) (λ _. inr refl)))))
 
 -- two answers of one term that are at their ends
-same_once : {A : Type 0} {a b : Outcome A} (at : ℕ → Outcome A) (n m : ℕ) → Stays (at n) (at (n + m)) → Stays (at m) (at (n + m))
+pub same_once : {A : Type 0} {a b : Outcome A} (at : ℕ → Outcome A) (n m : ℕ) → Stays (at n) (at (n + m)) → Stays (at m) (at (n + m))
     → at n ≡ a → at m ≡ b → (a ≡ NoAnswer → ⊥) → (b ≡ NoAnswer → ⊥) → a ≡ b
 same_once at n m (inl e) s p q done done' = absurd (done (sym p ∙ e))
 same_once at n m (inr e) (inl e') p q done done' = absurd (done' (sym q ∙ e'))

@@ -34,7 +34,7 @@ at_index (deeper {g = g} b i) (suc j) k e =
     let same : suc (length g) - suc (suc j) ≡ length g - suc j = omega arith in
     ap (lookup (kind_of b ∷ kinds_of g)) same ∙ lookup-older (kind_of b) (kinds_of g) (length g - suc j) k (at_index i j k e)
 
-at_base : {base g : Context} {passed : List Kind} → Inside base g passed → (p : ℕ) (k : Kind) → lookup (kinds_of base) p ≡ Some k
+pub at_base : {base g : Context} {passed : List Kind} → Inside base g passed → (p : ℕ) (k : Kind) → lookup (kinds_of base) p ≡ Some k
     → lookup (kinds_of g) p ≡ Some k
 at_base outermost p k e = e
 at_base (deeper {g = g} b i) p k e = lookup-older (kind_of b) (kinds_of g) p k (at_base i p k e)

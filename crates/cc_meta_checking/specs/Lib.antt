@@ -1,1 +1,5 @@
+pub mod CheckingLaws
+pub mod ExampleVerdicts
+pub mod FillingLaws
+pub mod Holes
 pub mod InferenceLaws

@@ -2,4 +2,7 @@
 //! its contract.
 #![tactic(auto)]
 
+pub mod checking_laws;
+pub mod example_verdicts;
+pub mod filling_laws;
 pub mod inference_laws;
