@@ -97,7 +97,10 @@ fn verdicts(rt: HostRuntime) -> Result<(), Fail> {
             b"def pick = fun (out: Console) => fun (f: (x: Unit) -> Console) => out\n",
             b"ok",
         ),
-        (b"\ndef \xc3\xa9_1 = fun (\xc3\xa8: Unit) => \xc3\xa8\n", b"ok"),
+        (
+            b"\ndef \xc3\xa9_1 = fun (\xc3\xa8: Unit) => \xc3\xa8\n",
+            b"ok",
+        ),
         // A name that stands for nothing, also the definition's own.
         (b"def id = fun (x: Unit) => y\n", b"E20 1:1"),
         (b"def id = fun (x: Unit) => id\n", b"E20 1:1"),
@@ -164,7 +167,13 @@ fn verdicts(rt: HostRuntime) -> Result<(), Fail> {
 }
 
 /// So many of the one byte between the two texts.
-fn around(alloc: Global, front: &[u8], byte: u8, length: usize, back: &[u8]) -> Result<Vec<u8>, AllocError> {
+fn around(
+    alloc: Global,
+    front: &[u8],
+    byte: u8,
+    length: usize,
+    back: &[u8],
+) -> Result<Vec<u8>, AllocError> {
     let mut text = Vec::from_slice(alloc, front)?;
     for _i in 0..length {
         text.push(byte)?;
@@ -200,7 +209,10 @@ fn limits_of_texts(rt: HostRuntime) -> Result<(), Fail> {
     let longer = around(alloc, b"def a = \"", b'x', 201, b"\"")?;
     assert_eq!(rt; verdict_of(alloc, &longer)?.as_str(), "E02 1:9");
     // A comment that no line feed ends.
-    assert_eq!(rt; verdict_of(alloc, b"def id = fun (x: Unit) => x // x")?.as_str(), "ok");
+    assert_eq!(rt;
+        verdict_of(alloc, b"def id = fun (x: Unit) => x // x")?.as_str(),
+        "ok"
+    );
     Ok(())
 }
 

@@ -87,14 +87,18 @@ module _ (base : Context) where
       (((p, closed.0, closed.1), read_kinded i SetSort _ (captured_variables_kinded (kinds_of base) passed (TypeFunctionTerm bound r.completed) whole)), whole)
   regular (finds-box {g = g} h) i f k = ((((has_kinded f h).0, variable_set_kinded h), empty_kinded (kinds_of g) []), k)
   regular (finds-application {g = g} {w = w} {takes = takes} {gives = gives} {c = c} {e = e} h x h' b) i f k =
-      let s = has_exposed f h x in
-      (HasKinds-act TypeSort (putting (in_context g w)) (kinds_of g) (TermKind ∷ []) (kinds_of g) []
-      (KeepsKinds-moving (put_variable (in_context g w)) (kinds_of g) (TermKind ∷ []) (kinds_of g) [] (MovesKinds-putting (kinds_of g) TermKind (in_context g w) (has_kind h')))
-      [] (capturing gives e) (s.2, s.3), k)
+      let s = has_exposed f h x in (
+        HasKinds-act TypeSort (putting (in_context g w)) (kinds_of g) (TermKind ∷ []) (kinds_of g) []
+            (KeepsKinds-moving (put_variable (in_context g w)) (kinds_of g) (TermKind ∷ []) (kinds_of g) [] (MovesKinds-putting (kinds_of g) TermKind (in_context g w) (has_kind h')))
+            [] (capturing gives e) (s.2, s.3),
+        k,
+      )
   regular (finds-type_application {g = g} {x = y} {bound = bound} {gives = gives} {e = e} h x b) i f k =
-      let s = has_exposed f h x in
-      (HasKinds-act TypeSort (putting_shape (shape_in g y)) (kinds_of g) (TypeKind ∷ []) (kinds_of g) []
-      (KeepsKinds-putting_shape (kinds_of g) (shape_in g y) (read_kinded i ShapeSort y k.1)) [] (capturing gives e) (s.1, s.2), k)
+      let s = has_exposed f h x in (
+        HasKinds-act TypeSort (putting_shape (shape_in g y)) (kinds_of g) (TypeKind ∷ []) (kinds_of g) []
+            (KeepsKinds-putting_shape (kinds_of g) (shape_in g y) (read_kinded i ShapeSort y k.1)) [] (capturing gives e) (s.1, s.2),
+        k,
+      )
   regular (finds-unboxing {g = g} {set = set} h x) i f k = let s = has_exposed f h x in ((s.0, read_kinded i SetSort set k.0), k)
   regular (finds-unboxing_own {g = g} {c = c} h x) i f k = let s = has_exposed f h x in ((s.0, s.1), (written_kinded i SetSort c s.1, k.1))
   regular (finds-let {g = g} {r = r} {r' = r'} {named = named} {type = type} a n b e) i f k =
