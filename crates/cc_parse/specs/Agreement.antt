@@ -7,8 +7,8 @@ use Rattle.cc_grammar.specs.Reading.{Found, Got, Wrong, High}
 use Rattle.cc_parse.specs.declared.stop.Stop.{Stop}
 use Rattle.cc_parse.specs.declared.stop.Stop.TheVariants as stops
 
--- The answer is what is found: the tree, as the view sees it, or the tokens from the refused one on. Want of memory says
--- nothing of the tokens.
+-- The answer is what is found: the tree, as the view sees it, or the tokens from the refused one on. Want of memory
+-- says nothing of the tokens.
 abbrev pub Agrees : {A B : Type 0} → (A → B) → Result (A × ℕ × Bor (List Token)) Stop → Found B → Type 0
 Agrees view (Ok read) found = found ≡ Got (view read.0) read.1 (placed_all read.2.now)
 Agrees view (Err (stops.Wrong rest)) found = found ≡ Wrong (placed_all rest.now)

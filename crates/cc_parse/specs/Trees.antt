@@ -41,16 +41,16 @@ shape_form_syntax at (shapes.Base base) = BaseShape at base
 shape_form_syntax at shapes.Any = AnyShape at
 shape_form_syntax at (shapes.Name name) = NamedShape at name
 shape_form_syntax at (shapes.Exit' p place form) = ExitShape at (shape_form_syntax place form)
-shape_form_syntax at (shapes.Boxed' p place shape_place form set) =
-    BoxShape at (CapturingType place (shape_form_syntax shape_place form) (set_syntax set))
+shape_form_syntax at (shapes.Boxed' p content_at place form set) =
+    BoxShape at (CapturingType content_at (shape_form_syntax place form) (set_syntax set))
 shape_form_syntax at (shapes.Paren' p place form) = ParenthesizedShape at (shape_form_syntax place form)
-shape_form_syntax at (shapes.Fun' parameter p takes_at takes_shape_at takes takes_set q gives_at gives_shape_at gives gives_set) =
-    FunctionShape at parameter
-    (CapturingType takes_at (shape_form_syntax takes_shape_at takes) (set_syntax takes_set))
-    (CapturingType gives_at (shape_form_syntax gives_shape_at gives) (set_syntax gives_set))
-shape_form_syntax at (shapes.TFun' parameter p bound_at bound q gives_at gives_shape_at gives gives_set) =
-    TypeFunctionShape at parameter (shape_form_syntax bound_at bound)
-    (CapturingType gives_at (shape_form_syntax gives_shape_at gives) (set_syntax gives_set))
+shape_form_syntax at (shapes.Fun' name p takes_at takes_place takes takes_set q gives_at gives_place gives gives_set) =
+    FunctionShape at name
+    (CapturingType takes_at (shape_form_syntax takes_place takes) (set_syntax takes_set))
+    (CapturingType gives_at (shape_form_syntax gives_place gives) (set_syntax gives_set))
+shape_form_syntax at (shapes.TFun' name p bound_at bound q gives_at gives_place gives gives_set) =
+    TypeFunctionShape at name (shape_form_syntax bound_at bound)
+    (CapturingType gives_at (shape_form_syntax gives_place gives) (set_syntax gives_set))
 
 abbrev pub shape_syntax : ShapeTree → ShapeSyntax
 shape_syntax shape = shape_form_syntax shape.at shape.form
