@@ -138,9 +138,13 @@ module _ (devices : ℕ) (globals : Context) (formed : IsKindedContext globals) 
       (subst (λ g. HasTyping g (read_term (length globals) (filled_term f k.value.completed)) (filled f k2.value.type.shape) (filled_set f k2.value.type.set)) still noted.0) in
       let signs' : signature_of devices globals (filled_type f k2.value.type) ≡ Some signature = ap (λ (x : Checking). signature_under f devices globals x) (sym fin.0) ∙ signs in
       let sg = signed devices globals globals (λ q b h. h) formed formed alone (filled_type f k2.value.type) signature ktype (IsKindedType-test (kinds_of globals) [] (filled_type f k2.value.type) ktype) signs' in
-      subst (λ (x : Checking). BothTypes globals (filled_term f x.completed) (filled_type f x.type) signature × Signed devices globals globals (filled_type f x.type) signature) (sym fin.0)
-      ((has_type globals (filled_term f k.value.completed) (filled_type f k2.value.type) formed kterm ktype own,
-      has_type globals (filled_term f k.value.completed) signature formed kterm sg.kinded (t-sub own sg.above.0 sg.above.1 (IsKindedType-test (kinds_of globals) [] signature sg.kinded))), sg)
+      subst (λ (x : Checking). BothTypes globals (filled_term f x.completed) (filled_type f x.type) signature × Signed devices globals globals (filled_type f x.type) signature) (sym fin.0) (
+        (
+          has_type globals (filled_term f k.value.completed) (filled_type f k2.value.type) formed kterm ktype own,
+          has_type globals (filled_term f k.value.completed) signature formed kterm sg.kinded (t-sub own sg.above.0 sg.above.1 (IsKindedType-test (kinds_of globals) [] signature sg.kinded)),
+        ),
+        sg,
+      )
 
   -- a recursive definition, which has its signature in its context
   pub recursive_typed : (n : ℕ) (definition : Definition) (note : Note) (found : Checking) (qs : List Asked) → Came (recursive_checked (limited n) devices globals definition note) found qs → Serves f qs

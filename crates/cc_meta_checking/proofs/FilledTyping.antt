@@ -154,10 +154,11 @@ module _ (base : Context) (root : ℕ) (within : root ≤ length base) (f : Fill
     noted_typed notes-absent k kt s x h = (h, tt)
     noted_typed (notes-written {t = t} {s = w} {c = c} {ds = ds} b) k kt s x h =
         (compared x t (type_in g (capturing w c)) ds h b (serves_parts f (below_all ds) [] s).0 (read_kinded i TypeSort (capturing w c) k), (read_fill ShapeSort n w, read_fill SetSort n c))
-    noted_typed (notes-own {t = t} {s = w} {ds = ds} b) k kt s x h =
-        (t-sub h (subcaptures_reflexive filled_g (filled_set f t.set)) (shapes_below root f over g t.shape (shape_in g w) ds b (serves_parts f (below_all ds) [] s).0)
-        (fill_formed (capturing (shape_in g w) t.set) (read_kinded i ShapeSort w k, kt.1)),
-        (read_fill ShapeSort n w, read_written t.set kt.1))
+    noted_typed (notes-own {t = t} {s = w} {ds = ds} b) k kt s x h = (
+      t-sub h (subcaptures_reflexive filled_g (filled_set f t.set)) (shapes_below root f over g t.shape (shape_in g w) ds b (serves_parts f (below_all ds) [] s).0)
+          (fill_formed (capturing (shape_in g w) t.set) (read_kinded i ShapeSort w k, kt.1)),
+      (read_fill ShapeSort n w, read_written t.set kt.1),
+    )
 
     closed-filled : (s : Shape) → closed n (filled f s) ≡ act (filling_in f) 1 (closed n s)
     closed-filled s = sym (filled-moved root f over (closed_variable n) (closing_leaves root f over n more) ShapeSort 0 s) ∙ sym (shift (filling_in f) 0 (closed n s))

@@ -163,7 +163,7 @@ module _ (globals : Context) (list : List Placed) (fit : AreFit globals list) wh
         let serve = served f list (IsBelow demand) asked serves in
         let filled_right : filled_set f demand.right ≡ f n = ap (filled_set f) same ∙ flat_image-of_single (filled_element f) (Hole n) in
         let inside = comes_below k own.0.0 own.0.1 (f n) (over n)
-            (λ y l. subst (Subcaptures (filled_context f demand.context) y) filled_right (serve y (Member-filled f x y demand.left m l))) in
+        (λ y l. subst (Subcaptures (filled_context f demand.context) y) filled_right (serve y (Member-filled f x y demand.left m l))) in
         subcaptures_above inside c (λ y l. among_globals g later is y c (over n y l) (h y l))
 
   -- the least filling is below

@@ -41,9 +41,12 @@ avoided_closed sign p d kd depth AnyShape r m e = let is : AnyShape ≡ r = cc i
 avoided_closed sign p d kd depth (TypeVariable v) r m e = let is : TypeVariable v ≡ r = cc in subst (Meets without_holes depth) is m
 avoided_closed sign p d kd depth (FunctionShape t c u x) r m e =
     let parts = both_some (avoided (opposite sign) p d t) (avoided sign p d u) (λ t' u'. FunctionShape t' (avoided_set (opposite sign) p d c) u' (avoided_set sign p d x)) r e in
-    subst (Meets without_holes depth) (sym parts.4)
-    (avoided_closed (opposite sign) p d kd depth t parts.0 m.0 parts.2, avoided_set_closed (opposite sign) p d c kd m.1,
-    avoided_closed sign p d kd (suc depth) u parts.1 m.2 parts.3, avoided_set_closed sign p d x kd m.3)
+    subst (Meets without_holes depth) (sym parts.4) (
+      avoided_closed (opposite sign) p d kd depth t parts.0 m.0 parts.2,
+      avoided_set_closed (opposite sign) p d c kd m.1,
+      avoided_closed sign p d kd (suc depth) u parts.1 m.2 parts.3,
+      avoided_set_closed sign p d x kd m.3,
+    )
 avoided_closed sign p d kd depth (TypeFunctionShape b u x) r m e =
     let unfree = unless_some (is_free_in p b) (option_map (λ u'. TypeFunctionShape b u' (avoided_set sign p d x)) (avoided sign p d u)) r e in
     let parts = map_some (avoided sign p d u) (λ u'. TypeFunctionShape b u' (avoided_set sign p d x)) r unfree.1 in

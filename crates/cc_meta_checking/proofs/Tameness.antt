@@ -187,9 +187,9 @@ fit_function compare fit g t c u d (FunctionShape t' c' u' d') ds e k tg kl kr t
     (types_compared compare under (opened_type (length g) (capturing u d)) (opened_type (length g) (capturing u' d'))) ds e in
     let one = fit_types compare fit g (capturing t' c') (capturing t c) parts.0 parts.2 k tg (kr.0, kr.1) (kl.0, kl.1) (closed_tame t' cr.0) tl.0 tl.1 in
     let two = fit_types compare fit under (opened_type (length g) (capturing u d)) (opened_type (length g) (capturing u' d')) parts.1 parts.3 ((kr.0, kr.1), k) ((closed_tame t' cr.0, inl cr.1), tg)
-        (opened_kinded TypeSort g (TermEntry t' c') (capturing u d) (kl.2, kl.3)) (opened_kinded TypeSort g (TermEntry t' c') (capturing u' d') (kr.2, kr.3))
-        (act_tame (moving (put_variable (Free (length g)))) (opening_holes (length g)) 0 u tl.2) (act_closed (moving (put_variable (Free (length g)))) (opening_holes (length g)) 0 u' cr.2)
-        (inl (act_set_closed (moving (put_variable (Free (length g)))) (opening_holes (length g)) 0 d' cr.3)) in
+    (opened_kinded TypeSort g (TermEntry t' c') (capturing u d) (kl.2, kl.3)) (opened_kinded TypeSort g (TermEntry t' c') (capturing u' d') (kr.2, kr.3))
+    (act_tame (moving (put_variable (Free (length g)))) (opening_holes (length g)) 0 u tl.2) (act_closed (moving (put_variable (Free (length g)))) (opening_holes (length g)) 0 u' cr.2)
+    (inl (act_set_closed (moving (put_variable (Free (length g)))) (opening_holes (length g)) 0 d' cr.3)) in
     subst (AllFitIn g) (sym parts.4) (all_fit_both g parts.0 parts.1 one (all_fit_below g (TermEntry t' c') parts.1 two))
 fit_function compare fit g t c u d _ ds e k tg kl kr tl cr = cc
 

@@ -75,10 +75,15 @@ unfolding contains flat_image from_list union retain remove insert placed elemen
 console_given_fails h = device_not_below with_console 0 (BaseShape bases.Console) empty refl refl (h first refl)
 
 pub console_given_is_refused : ConsoleGivenIsRefused
-console_given_is_refused =
-    (Found _ asked_of_console_given, console_given_asks_three,
-    (fill_nothing, empty_is_least 1 asked_of_console_given console_given_no_holes,
-    inl (_, _, ([], _, _, refl, tt, console_given_fails, refl, refl), refl)))
+console_given_is_refused = (
+  Found _ asked_of_console_given,
+  console_given_asks_three,
+  (
+    fill_nothing,
+    empty_is_least 1 asked_of_console_given console_given_no_holes,
+    inl (_, _, ([], _, _, refl, tt, console_given_fails, refl, refl), refl),
+  ),
+)
 
 -- nothing is below anything
 nothing_below : (f : Filling) (g : Context) (c : Set) → SubcapturesSet g (filled_set f empty) c
@@ -92,10 +97,15 @@ unfolding contains flat_image from_list union retain remove insert placed elemen
 box_of_cap_fails h = h refl
 
 pub box_of_cap_is_refused : BoxOfCapIsRefused
-box_of_cap_is_refused =
-    (Found _ asked_of_box_of_cap_opened, opening_asks_for_a_set_without_cap,
-    (fill_nothing, empty_is_least 0 asked_of_box_of_cap_opened box_of_cap_no_holes,
-    inl (_, _, (_ ∷ [], _, _, refl, (nothing_below fill_nothing _ _, tt), box_of_cap_fails, refl, refl), refl)))
+box_of_cap_is_refused = (
+  Found _ asked_of_box_of_cap_opened,
+  opening_asks_for_a_set_without_cap,
+  (
+    fill_nothing,
+    empty_is_least 0 asked_of_box_of_cap_opened box_of_cap_no_holes,
+    inl (_, _, (_ ∷ [], _, _, refl, (nothing_below fill_nothing _ _, tt), box_of_cap_fails, refl, refl), refl),
+  ),
+)
 
 printing_again_no_holes : NoHoles asked_of_printing_again
 printing_again_no_holes = (empty_is_no_hole, (empty_is_no_hole, tt))
@@ -116,7 +126,12 @@ unfolding contains flat_image from_list union retain remove insert placed elemen
 printing_again_fails h = device_not_below (filled_context fill_nothing with_printing_again) 0 (BaseShape bases.Console) empty refl refl (h first refl)
 
 pub printing_again_is_refused : PrintingAgainIsRefused
-printing_again_is_refused =
-    (Found _ asked_of_printing_again, recursion_has_its_signature,
-    (fill_nothing, empty_is_least 1 asked_of_printing_again printing_again_no_holes,
-    inl (_, _, (_ ∷ [], _, _, refl, (parameter_below, tt), printing_again_fails, refl, refl), refl)))
+printing_again_is_refused = (
+  Found _ asked_of_printing_again,
+  recursion_has_its_signature,
+  (
+    fill_nothing,
+    empty_is_least 1 asked_of_printing_again printing_again_no_holes,
+    inl (_, _, (_ ∷ [], _, _, refl, (parameter_below, tt), printing_again_fails, refl, refl), refl),
+  ),
+)
