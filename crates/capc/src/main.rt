@@ -12,7 +12,7 @@ mod status;
 mod tests;
 mod words;
 
-ghost use Rattle.std.specs.Prelude.{◌≡◌, ◌<◌};
+ghost use Rattle.std.specs.Prelude.{◌≡◌, ◌≢◌, ◌↔◌, ◌<◌, []};
 
 use crate::run::capc;
 use crate::status::Status;
@@ -30,6 +30,7 @@ fn run_standard<L: Ledger>(rt: &HostRuntime, words: &[String], blank: Blank) -> 
     requires name { blank.name ≡ L.name }
     requires parts { blank.parts ≡ L.parts }
     requires some { 0 < L.parts }
+    ensures words { (result ≡ Status.BadWords) ↔ (words.now ≢ []) }
 {
     let mut source = StdSource::new(rt.reader());
     let mut sink = StdSink::new(io::writer(rt));
