@@ -8,6 +8,7 @@ pub mod Findings
 pub mod FitDemands
 pub mod FoundFindings
 pub mod FoundTypes
+pub mod InferredSizes
 pub mod LeastFillings
 pub mod OneOutcome
 pub mod OneVerdict
