@@ -8,26 +8,26 @@ use Rattle.cc_base.specs.declared.place.Place.{Place}
 use Rattle.cc_capture.specs.declared.var.Var.{Var}
 use Rattle.cc_capture.specs.Sets.{Set}
 use Rattle.cc_core.specs.Shapes.{Shape, BaseShape, AnyShape, TypeVariable, FunctionShape, TypeFunctionShape, BoxShape, ExitShape, CapturingType, capturing}
-use Rattle.cc_core.specs.Contexts.{Bind, Context, entry_of}
+use Rattle.cc_core.specs.Contexts.{Context}
 use Rattle.cc_core.specs.Terms.{Note, Absent, Written, Own}
 use Rattle.cc_core.specs.Occurrences.{MeetsInNote, without_holes}
 use Rattle.cc_core.specs.Places.{spots}
-use Rattle.cc_core.specs.Substitution.{filling_in, filled, filled_type}
+use Rattle.cc_core.specs.Substitution.{filling_in, filled_type}
 use Rattle.cc_core.specs.Traversal.{act, act_set}
 use Rattle.cc_core.specs.WellFormed.{TermKind, kinds_of, is_well_formed_term, IsWellFormedNote}
-use Rattle.cc_core.proofs.KindFacts.{IsKindedTerm, IsKindedTerm-from, IsKindedNote-from}
+use Rattle.cc_core.proofs.KindFacts.{IsKindedTerm-from, IsKindedNote-from}
 use Rattle.cc_core.proofs.Sorts.{ShapeSort}
 use Rattle.cc_core.proofs.SubcapturingContexts.{IsKindedContext, IsKindedContext-from}
 use Rattle.cc_sets.specs.Avoidance.{Sign, Positive, opposite, avoided, avoided_set, avoided_type, with_both, unless_free, is_free_in}
-use Rattle.cc_sets.specs.Outcomes.{Placed, Outcome, NoAnswer, Refused, Found}
-use Rattle.cc_sets.specs.Fillings.{Filling, AllServed, IsLeast, IsOverGlobals, FailsFirst}
+use Rattle.cc_sets.specs.Outcomes.{Placed, NoAnswer, Refused, Found}
+use Rattle.cc_sets.specs.Fillings.{Filling, IsOverGlobals}
 use Rattle.cc_sets.specs.Inference.{limited}
-use Rattle.cc_sets.specs.Verdicts.{Definition, Checking, plain_checked, recursive_checked, checked, IsChecked, declared_set, settled_or, signature_of, signature_under, signature_verdict, IsRefused, IsAccepted, HasVerdict, HasAlgorithmicType}
+use Rattle.cc_sets.specs.Verdicts.{Definition, Checking, plain_checked, recursive_checked, declared_set, settled_or, signature_of, signature_under, signature_verdict, IsRefused, HasVerdict, HasAlgorithmicType}
 use Rattle.cc_meta_typing.proofs.Avoiding.{both_some, map_some, unless_some}
 use Rattle.cc_meta_checking.specs.FillingLaws.{AreGlobals}
 use Rattle.cc_meta_checking.specs.CheckingLaws.{Fits}
-use Rattle.cc_meta_checking.specs.Holes.{NoteHasNoHole, HolesAreOfParameters}
-use Rattle.cc_meta_checking.proofs.FoundFindings.{asked_of, Came, then_came, finds_came, found_finds, noted_came, avoided_came}
+use Rattle.cc_meta_checking.specs.Holes.{HolesAreOfParameters}
+use Rattle.cc_meta_checking.proofs.FoundFindings.{asked_of, Came, then_came, finds_came, found_finds, noted_came}
 use Rattle.cc_meta_checking.proofs.ReadingKinds.{outermost}
 use Rattle.cc_meta_checking.proofs.FoundTypes.{regular}
 use Rattle.cc_meta_checking.proofs.LeastFillings.{filled-still}
@@ -71,23 +71,27 @@ avoids_alike (alike-function {t = t} {t' = t'} {u = u} {u' = u'} {c = c} {c' = c
     let parts = both_some (avoided (opposite sign) p d t) (avoided sign p d u) (λ y z. FunctionShape y (avoided_set (opposite sign) p d c) z (avoided_set sign p d x)) r e in
     let one = avoids_alike a (opposite sign) p d parts.0 parts.2 in
     let two = avoids_alike b sign p d parts.1 parts.3 in
-    let build : Shape → Shape → Shape = λ y z. FunctionShape y (avoided_set (opposite sign) p d c') z (avoided_set sign p d x') in
-    (build one.0 two.0,
-    ap (λ o. with_both o (avoided sign p d u') build) one.1 ∙ ap (λ o. with_both (Some one.0) o build) two.1,
-    subst (λ y. Alike y (build one.0 two.0)) (sym parts.4) (alike-function one.2 two.2))
+    let build : Shape → Shape → Shape = λ y z. FunctionShape y (avoided_set (opposite sign) p d c') z (avoided_set sign p d x') in (
+      build one.0 two.0,
+      ap (λ o. with_both o (avoided sign p d u') build) one.1 ∙ ap (λ o. with_both (Some one.0) o build) two.1,
+      subst (λ y. Alike y (build one.0 two.0)) (sym parts.4) (alike-function one.2 two.2),
+    )
 avoids_alike (alike-type_function {b = b} {u = u} {u' = u'} {e = x} {e' = x'} a) sign p d r e =
     let unfree = unless_some (is_free_in p b) (option_map (λ y. TypeFunctionShape b y (avoided_set sign p d x)) (avoided sign p d u)) r e in
     let parts = map_some (avoided sign p d u) (λ y. TypeFunctionShape b y (avoided_set sign p d x)) r unfree.1 in
-    let one = avoids_alike a sign p d parts.0 parts.1 in
-    (TypeFunctionShape b one.0 (avoided_set sign p d x'),
-    ap (λ t. unless_free t (option_map (λ y. TypeFunctionShape b y (avoided_set sign p d x')) (avoided sign p d u'))) unfree.0
-    ∙ ap (option_map (λ y. TypeFunctionShape b y (avoided_set sign p d x'))) one.1,
-    subst (λ y. Alike y (TypeFunctionShape b one.0 (avoided_set sign p d x'))) (sym parts.2) (alike-type_function one.2))
+    let one = avoids_alike a sign p d parts.0 parts.1 in (
+      TypeFunctionShape b one.0 (avoided_set sign p d x'),
+      ap (λ t. unless_free t (option_map (λ y. TypeFunctionShape b y (avoided_set sign p d x')) (avoided sign p d u'))) unfree.0
+          ∙ ap (option_map (λ y. TypeFunctionShape b y (avoided_set sign p d x'))) one.1,
+      subst (λ y. Alike y (TypeFunctionShape b one.0 (avoided_set sign p d x'))) (sym parts.2) (alike-type_function one.2),
+    )
 avoids_alike (alike-box {t = t} {t' = t'} {c = c} {c' = c'} a) sign p d r e =
     let parts = map_some (avoided sign p d t) (λ y. BoxShape y (avoided_set sign p d c)) r e in
-    let one = avoids_alike a sign p d parts.0 parts.1 in
-    (BoxShape one.0 (avoided_set sign p d c'), ap (option_map (λ y. BoxShape y (avoided_set sign p d c'))) one.1,
-    subst (λ y. Alike y (BoxShape one.0 (avoided_set sign p d c'))) (sym parts.2) (alike-box one.2))
+    let one = avoids_alike a sign p d parts.0 parts.1 in (
+      BoxShape one.0 (avoided_set sign p d c'),
+      ap (option_map (λ y. BoxShape y (avoided_set sign p d c'))) one.1,
+      subst (λ y. Alike y (BoxShape one.0 (avoided_set sign p d c'))) (sym parts.2) (alike-box one.2),
+    )
 avoids_alike (alike-exit {t = t}) sign p d r e =
     let unfree = unless_some (is_free_in p t) (Some (ExitShape t)) r e in
     (r, e, let is : ExitShape t ≡ r = cc in subst (λ x. Alike x x) is alike-exit)

@@ -1,29 +1,29 @@
 -- What is found for a well-formed term is well formed: its type in the context, and the completed term as the term is.
-use Rattle.std.proofs.Common.{◌≡◌, ℕ, zero, suc, List, [], ◌∷◌, ◌++◌, length, Option, Some, None, refl, sym, ap, ◌∙◌, subst}
+use Rattle.std.proofs.Common.{◌≡◌, List, [], ◌∷◌, length, Some, sym, subst}
 use Rattle.cc_capture.specs.declared.var.Var.{Var}
 use Rattle.cc_capture.specs.declared.var.Var.TheVariants.{Bound, Free}
 use Rattle.cc_capture.specs.declared.var.Elem.TheVariants.{Var as Variable, Cap}
-use Rattle.cc_capture.specs.Sets.{Set, empty, union}
+use Rattle.cc_capture.specs.Sets.{Set, union}
 use Rattle.cc_core.specs.Shapes.{Shape, BaseShape, AnyShape, TypeVariable, FunctionShape, TypeFunctionShape, BoxShape, ExitShape, CapturingType, capturing}
-use Rattle.cc_core.specs.Terms.{Note, Absent, Written, Own, Term, VariableTerm, LiteralTerm, FunctionTerm, TypeFunctionTerm, BoxTerm, Application, TypeApplication, Unboxing, Let, Primitive, Conditional, Repetition, Operation, Boundary, Leave}
-use Rattle.cc_core.specs.Contexts.{Bind, TermEntry, TypeEntry, Context, lookup, entry_of}
-use Rattle.cc_core.specs.Substitution.{single, put_variable, putting, putting_shape, replaced_type, replaced_type_by_shape}
+use Rattle.cc_core.specs.Terms.{Note, Term, FunctionTerm, TypeFunctionTerm}
+use Rattle.cc_core.specs.Contexts.{TermEntry, TypeEntry, Context, entry_of}
+use Rattle.cc_core.specs.Substitution.{put_variable, putting, putting_shape}
 use Rattle.cc_core.specs.WellFormed.{Kind, TermKind, TypeKind, kind_of, kinds_of}
-use Rattle.cc_core.specs.Captured.{variable_set, captured_variables}
+use Rattle.cc_core.specs.Captured.{variable_set}
 use Rattle.cc_core.proofs.CapturedKinds.{empty_kinded, union_kinded, captured_variables_kinded}
 use Rattle.cc_core.proofs.KindFacts.{IsOfKind, IsKindedSet, IsKinded, IsKindedType, IsKindedNote, IsKindedTerm, IsKindedSet-test, IsKindedType-from, IsKindedType-test}
 use Rattle.cc_core.proofs.KindRespecting.{MovesKinds-putting, KeepsKinds-moving, KeepsKinds-putting_shape, single_kinded}
 use Rattle.cc_core.proofs.Sorts.{SetSort, ShapeSort, TypeSort, HasKinds-act}
-use Rattle.cc_core.proofs.SubcapturingContexts.{IsKindedEntry, IsKindedContext, IsKinded-added, entry_kinded, kind_of_entry}
+use Rattle.cc_core.proofs.SubcapturingContexts.{IsKindedContext, IsKinded-added, entry_kinded, kind_of_entry}
 use Rattle.cc_sets.specs.Exposing.{followed, exposed}
 use Rattle.cc_sets.specs.Avoidance.{Positive, avoided_type}
 use Rattle.cc_sets.specs.Outcomes.{Asked}
-use Rattle.cc_sets.specs.Inference.{Result, result, in_context, set_in, shape_in, type_in, written_in, Named, captured_in}
+use Rattle.cc_sets.specs.Inference.{Result, in_context, shape_in, type_in, Named}
 use Rattle.cc_meta_typing.proofs.ExposingShapes.{others_stay, followed_kinded}
 use Rattle.cc_meta_typing.proofs.AvoidingPlaces.{scope_left}
 use Rattle.cc_meta_typing.proofs.FormedContexts.{HasKinds-closed, length-kinds_of}
-use Rattle.cc_meta_checking.proofs.Findings.{Has, its_type, Notes, notes-absent, notes-written, notes-own, Finds, finds-variable, finds-literal, finds-function, finds-type_function, finds-box, finds-application, finds-type_application, finds-unboxing, finds-unboxing_own, finds-let, finds-primitive, finds-choice, finds-choice_own, finds-repetition, finds-operation, finds-operation_alone, finds-boundary, finds-exit}
-use Rattle.cc_meta_checking.proofs.ReadingKinds.{Inside, outermost, deeper, reading_moves, read_kinded, written_kinded}
+use Rattle.cc_meta_checking.proofs.Findings.{Has, Notes, notes-absent, notes-written, notes-own, Finds, finds-variable, finds-literal, finds-function, finds-type_function, finds-box, finds-application, finds-type_application, finds-unboxing, finds-unboxing_own, finds-let, finds-primitive, finds-choice, finds-choice_own, finds-repetition, finds-operation, finds-operation_alone, finds-boundary, finds-exit}
+use Rattle.cc_meta_checking.proofs.ReadingKinds.{Inside, deeper, read_kinded, written_kinded}
 
 -- exposing keeps what is well formed
 pub exposed_kinded : (g : Context) (s : Shape) → IsKindedContext g → IsKinded (kinds_of g) [] s → IsKinded (kinds_of g) [] (exposed g s)
@@ -87,14 +87,18 @@ module _ (base : Context) where
       (((p, closed.0, closed.1), read_kinded i SetSort _ (captured_variables_kinded (kinds_of base) passed (TypeFunctionTerm bound r.completed) whole)), whole)
   regular (finds-box {g = g} h) i f k = ((((has_kinded f h).0, variable_set_kinded h), empty_kinded (kinds_of g) []), k)
   regular (finds-application {g = g} {w = w} {takes = takes} {gives = gives} {c = c} {e = e} h x h' b) i f k =
-      let s = has_exposed f h x in
-      (HasKinds-act TypeSort (putting (in_context g w)) (kinds_of g) (TermKind ∷ []) (kinds_of g) []
-      (KeepsKinds-moving (put_variable (in_context g w)) (kinds_of g) (TermKind ∷ []) (kinds_of g) [] (MovesKinds-putting (kinds_of g) TermKind (in_context g w) (has_kind h')))
-      [] (capturing gives e) (s.2, s.3), k)
+      let s = has_exposed f h x in (
+        HasKinds-act TypeSort (putting (in_context g w)) (kinds_of g) (TermKind ∷ []) (kinds_of g) []
+            (KeepsKinds-moving (put_variable (in_context g w)) (kinds_of g) (TermKind ∷ []) (kinds_of g) [] (MovesKinds-putting (kinds_of g) TermKind (in_context g w) (has_kind h')))
+            [] (capturing gives e) (s.2, s.3),
+        k,
+      )
   regular (finds-type_application {g = g} {x = y} {bound = bound} {gives = gives} {e = e} h x b) i f k =
-      let s = has_exposed f h x in
-      (HasKinds-act TypeSort (putting_shape (shape_in g y)) (kinds_of g) (TypeKind ∷ []) (kinds_of g) []
-      (KeepsKinds-putting_shape (kinds_of g) (shape_in g y) (read_kinded i ShapeSort y k.1)) [] (capturing gives e) (s.1, s.2), k)
+      let s = has_exposed f h x in (
+        HasKinds-act TypeSort (putting_shape (shape_in g y)) (kinds_of g) (TypeKind ∷ []) (kinds_of g) []
+            (KeepsKinds-putting_shape (kinds_of g) (shape_in g y) (read_kinded i ShapeSort y k.1)) [] (capturing gives e) (s.1, s.2),
+        k,
+      )
   regular (finds-unboxing {g = g} {set = set} h x) i f k = let s = has_exposed f h x in ((s.0, read_kinded i SetSort set k.0), k)
   regular (finds-unboxing_own {g = g} {c = c} h x) i f k = let s = has_exposed f h x in ((s.0, s.1), (written_kinded i SetSort c s.1, k.1))
   regular (finds-let {g = g} {r = r} {r' = r'} {named = named} {type = type} a n b e) i f k =

@@ -1,5 +1,5 @@
 -- What is inferred passed the test of its size.
-use Rattle.std.proofs.Common.{◌≡◌, ℕ, Bool, true, false, cond, List, refl, sym, ap, ◌∙◌, subst}
+use Rattle.std.proofs.Common.{◌≡◌, ℕ, Bool, true, false, cond, List, refl, ap, ◌∙◌}
 use Rattle.std.specs.Prelude.{nat_le}
 use Rattle.cc_base.specs.declared.code.Code.TheVariants.{E18}
 use Rattle.cc_base.specs.declared.place.Place.{Place}

@@ -1,4 +1,5 @@
 pub mod AlikeSignatures
+pub mod CanonicalSets
 pub mod CheckedDefinitions
 pub mod FilledSubtyping
 pub mod FilledSyntax

@@ -1,6 +1,6 @@
 -- What inference finds is tame, and what it asks is fit for a filling.
-use Rattle.std.proofs.Common.{◌≡◌, ◌⊎◌, ℕ, zero, suc, Bool, true, false, cond, List, [], ◌∷◌, ◌++◌, length, Option, Some, None, refl, sym, ap, ◌∙◌, subst, inl, inr}
-use Rattle.std.specs.Prelude.{nat_eq, not, ◌&&◌}
+use Rattle.std.proofs.Common.{◌≡◌, ℕ, zero, suc, Bool, true, false, cond, List, [], ◌∷◌, ◌++◌, length, Some, None, refl, sym, ap, ◌∙◌, subst, inl, inr}
+use Rattle.std.specs.Prelude.{nat_eq}
 use Rattle.std.specs.Option.{option_map}
 use Rattle.cc_base.specs.declared.literal.Base.TheVariants as bases
 use Rattle.cc_capture.specs.declared.var.Var.{Var}
@@ -10,29 +10,29 @@ use Rattle.cc_capture.specs.declared.var.Elem.TheVariants.{Var as Variable, Cap,
 use Rattle.cc_capture.specs.Sets.{Set, Member, empty, remove, union}
 use Rattle.cc_capture.proofs.Membership.{Member-flat_image, Member-union, Member-empty, Member-remove, same_members}
 use Rattle.cc_core.specs.Shapes.{Shape, BaseShape, AnyShape, TypeVariable, FunctionShape, TypeFunctionShape, BoxShape, ExitShape, CapturingType, capturing}
-use Rattle.cc_core.specs.Terms.{Note, Absent, Written, Own, Term, VariableTerm, LiteralTerm, FunctionTerm, TypeFunctionTerm, BoxTerm, Application, TypeApplication, Unboxing, Let, Primitive, Conditional, Repetition, Operation, Boundary, Leave}
-use Rattle.cc_core.specs.Contexts.{Bind, TermEntry, TypeEntry, Context, lookup, entry_of}
+use Rattle.cc_core.specs.Terms.{Note, Term, VariableTerm, LiteralTerm, FunctionTerm, TypeFunctionTerm, BoxTerm, Application, TypeApplication, Unboxing, Let, Primitive, Conditional, Repetition, Operation, Boundary, Leave}
+use Rattle.cc_core.specs.Contexts.{Bind, TermEntry, TypeEntry, Context, entry_of}
 use Rattle.cc_core.specs.Substitution.{single, moving, put_variable, closed_variable, putting_shape}
 use Rattle.cc_core.specs.Reading.{read_variable, written_variable}
 use Rattle.cc_core.specs.Occurrences.{IsNoHole, HasNoHole, HasNoHoleInSet, Meets, without_holes}
 use Rattle.cc_core.specs.WellFormed.{Kind, TermKind, kinds_of}
-use Rattle.cc_core.specs.Captured.{captured_variables, variable_set, without_binder, outside, is_unused_value, optional_variable_set}
+use Rattle.cc_core.specs.Captured.{captured_variables, variable_set, without_binder, outside, is_unused_value}
 use Rattle.cc_core.proofs.CapturedKinds.{empty_kinded}
-use Rattle.cc_core.proofs.KindFacts.{IsKindedSet, IsKinded, IsKindedType, IsKindedNote, IsKindedTerm}
+use Rattle.cc_core.proofs.KindFacts.{IsKinded, IsKindedType, IsKindedNote, IsKindedTerm}
 use Rattle.cc_core.specs.Traversal.{act, act_set}
 use Rattle.cc_core.proofs.KindRespecting.{single_kinded}
-use Rattle.cc_core.proofs.Moving.{Member-single, Member-single_itself}
-use Rattle.cc_core.proofs.Sorts.{SetSort, ShapeSort, TypeSort}
-use Rattle.cc_core.proofs.SubcapturingContexts.{IsKindedContext, IsKinded-added, IsKindedSet-added}
-use Rattle.cc_sets.specs.Comparison.{Demand, demanded, HasDemands, TypesHaveDemands}
+use Rattle.cc_core.proofs.Moving.{Member-single}
+use Rattle.cc_core.proofs.Sorts.{ShapeSort, TypeSort}
+use Rattle.cc_core.proofs.SubcapturingContexts.{IsKindedContext, IsKinded-added}
+use Rattle.cc_sets.specs.Comparison.{Demand, demanded, TypesHaveDemands}
 use Rattle.cc_sets.specs.Exposing.{followed, exposed}
-use Rattle.cc_sets.specs.Avoidance.{Positive, Negative, avoided, avoided_set, avoided_type, with_both, is_free_in, unless_free}
+use Rattle.cc_sets.specs.Avoidance.{Positive, Negative, avoided, avoided_set, is_free_in}
 use Rattle.cc_sets.specs.Outcomes.{Asked, IsBelow, IsCapless}
-use Rattle.cc_sets.specs.Inference.{Result, result, in_context, set_in, shape_in, type_in, written_in, Named, captured_in, exit_entry}
+use Rattle.cc_sets.specs.Inference.{Result, in_context, set_in, shape_in, type_in, written_in, Named, exit_entry}
 use Rattle.cc_meta_typing.proofs.Avoiding.{both_some, map_some, unless_some, avoided_type_parts}
 use Rattle.cc_meta_checking.specs.FillingLaws.{HasHoleAloneOrNone}
 use Rattle.cc_meta_checking.specs.Holes.{NoteHasNoHole, HolesAreOfParameters}
-use Rattle.cc_meta_checking.proofs.Findings.{Has, its_type, below_all, Operand, Notes, notes-absent, notes-written, notes-own, Finds, finds-variable, finds-literal, finds-function, finds-type_function, finds-box, finds-application, finds-type_application, finds-unboxing, finds-unboxing_own, finds-let, finds-primitive, finds-choice, finds-choice_own, finds-repetition, finds-operation, finds-operation_alone, finds-boundary, finds-exit}
+use Rattle.cc_meta_checking.proofs.Findings.{Has, below_all, Operand, Notes, notes-absent, notes-written, notes-own, Finds, finds-variable, finds-literal, finds-function, finds-type_function, finds-box, finds-application, finds-type_application, finds-unboxing, finds-unboxing_own, finds-let, finds-primitive, finds-choice, finds-choice_own, finds-repetition, finds-operation, finds-operation_alone, finds-boundary, finds-exit}
 use Rattle.cc_meta_checking.proofs.ReadingKinds.{Inside, outermost, deeper, read_kinded}
 use Rattle.cc_meta_checking.proofs.FoundTypes.{has_exposed, has_kinded, variable_set_kinded, notes_kinded, regular}
 use Rattle.cc_meta_checking.proofs.Signatures.{avoided_set_closed, avoided_closed}
@@ -124,10 +124,13 @@ closed_to d (ExitShape t) k = closed_to d t k
 removed_alone : (p : ℕ) (d c : Set) → HasNoHoleInSet d → HasHoleAloneOrNone c → HasHoleAloneOrNone (avoided_set Negative p d c)
 removed_alone p d c kd (inl k) = inl (avoided_set_closed Negative p d c kd k)
 removed_alone p d c kd (inr (h, is)) =
-    inr (h, ap (remove (Variable (Free p))) is
-    ∙ same_members (remove (Variable (Free p)) (single (Hole h))) (single (Hole h))
-    (λ e m. ((Member-remove e (Variable (Free p)) (single (Hole h))).0 m).1)
-    (λ e m. (Member-remove e (Variable (Free p)) (single (Hole h))).1 ((λ same. let clash : Hole h ≡ Variable (Free p) = sym (Member-single e (Hole h) m) ∙ same in cc), m)))
+    inr (
+      h,
+      ap (remove (Variable (Free p))) is
+          ∙ same_members (remove (Variable (Free p)) (single (Hole h))) (single (Hole h))
+          (λ e m. ((Member-remove e (Variable (Free p)) (single (Hole h))).0 m).1)
+          (λ e m. (Member-remove e (Variable (Free p)) (single (Hole h))).1 ((λ same. let clash : Hole h ≡ Variable (Free p) = sym (Member-single e (Hole h) m) ∙ same in cc), m)),
+    )
 
 avoided_tame : (p : ℕ) (d : Set) → HasNoHoleInSet d → (s r : Shape) → Tame s → avoided Positive p d s ≡ Some r → Tame r
 avoided_tame p d kd (BaseShape b) r k e = let is : BaseShape b ≡ r = cc in subst Tame is k
@@ -135,9 +138,12 @@ avoided_tame p d kd AnyShape r k e = let is : AnyShape ≡ r = cc in subst Tame 
 avoided_tame p d kd (TypeVariable v) r k e = let is : TypeVariable v ≡ r = cc in subst Tame is k
 avoided_tame p d kd (FunctionShape t c u x) r k e =
     let parts = both_some (avoided Negative p d t) (avoided Positive p d u) (λ t' u'. FunctionShape t' (avoided_set Negative p d c) u' (avoided_set Positive p d x)) r e in
-    subst Tame (sym parts.4)
-    (closed_from 0 parts.0 (avoided_closed Negative p d kd 0 t parts.0 (closed_to 0 t k.0) parts.2), removed_alone p d c kd k.1,
-    avoided_tame p d kd u parts.1 k.2 parts.3, avoided_set_closed Positive p d x kd k.3)
+    subst Tame (sym parts.4) (
+      closed_from 0 parts.0 (avoided_closed Negative p d kd 0 t parts.0 (closed_to 0 t k.0) parts.2),
+      removed_alone p d c kd k.1,
+      avoided_tame p d kd u parts.1 k.2 parts.3,
+      avoided_set_closed Positive p d x kd k.3,
+    )
 avoided_tame p d kd (TypeFunctionShape b u x) r k e =
     let unfree = unless_some (is_free_in p b) (option_map (λ u'. TypeFunctionShape b u' (avoided_set Positive p d x)) (avoided Positive p d u)) r e in
     let parts = map_some (avoided Positive p d u) (λ u'. TypeFunctionShape b u' (avoided_set Positive p d x)) r unfree.1 in
@@ -203,12 +209,14 @@ module _ (base : Context) where
       → IsKindedType (kinds_of g) [] t → IsKindedNote (kinds_of base) passed n → NoteHasNoHole n → Tame t.shape → HasNoHoleInSet t.set
       → (Tame m.type.shape × HasNoHoleInSet m.type.set) × (NoteHasNoHole m.note × AllAskedFit base ps)
   notes_tame notes-absent i k tg kt kn h ts tc = ((ts, tc), (tt, tt))
-  notes_tame {g} (notes-written {t = t} {s = s} {c = c} {ds = ds} b) i k tg kt kn h ts tc =
-      ((closed_tame (shape_in g s) (read_closed g s h.0), read_set_closed g c h.1),
-      (h, demands_asked i ds (types_fit b.0 g t (type_in g (capturing s c)) ds b.1 k tg kt (read_kinded i TypeSort (capturing s c) kn) ts (read_closed g s h.0) (inl (read_set_closed g c h.1)))))
-  notes_tame {g} (notes-own {t = t} {s = s} {ds = ds} b) i k tg kt kn h ts tc =
-      ((closed_tame (shape_in g s) (read_closed g s h), tc),
-      ((h, written_closed (length base) g t.set tc), demands_asked i ds (comparison_fits b.0 g t.shape (shape_in g s) ds b.1 k tg kt.0 (read_kinded i ShapeSort s kn) ts (read_closed g s h))))
+  notes_tame {g} (notes-written {t = t} {s = s} {c = c} {ds = ds} b) i k tg kt kn h ts tc = (
+    (closed_tame (shape_in g s) (read_closed g s h.0), read_set_closed g c h.1),
+    (h, demands_asked i ds (types_fit b.0 g t (type_in g (capturing s c)) ds b.1 k tg kt (read_kinded i TypeSort (capturing s c) kn) ts (read_closed g s h.0) (inl (read_set_closed g c h.1)))),
+  )
+  notes_tame {g} (notes-own {t = t} {s = s} {ds = ds} b) i k tg kt kn h ts tc = (
+    (closed_tame (shape_in g s) (read_closed g s h), tc),
+    ((h, written_closed (length base) g t.set tc), demands_asked i ds (comparison_fits b.0 g t.shape (shape_in g s) ds b.1 k tg kt.0 (read_kinded i ShapeSort s kn) ts (read_closed g s h))),
+  )
 
   operand_fits : {g : Context} {passed : List Kind} → Inside base g passed → IsKindedContext g → TameContext g → (v : Var) (s : Shape) (ds : List Demand) → Operand g v s ds → IsKinded (kinds_of g) [] s → Closed s
       → AllFitIn g ds
@@ -272,7 +280,9 @@ module _ (base : Context) where
       let s = head_tame (BoxShape content c) tg h x in
       let ks = has_exposed k h x in
       record {
-        shape = s.0; set = read_set_closed g set ht; completed = ht;
+        shape = s.0;
+        set = read_set_closed g set ht;
+        completed = ht;
         fits = (fit_inside i (demanded g c (set_in g set)) (record { later = []; is = refl; formed = k; left = ks.1; right = inl (read_set_closed g set ht) }), (tt, tt));
       }
   tame (finds-unboxing_own {g = g} {content = content} {c = c} h x) i k kt tg ht =
@@ -301,7 +311,9 @@ module _ (base : Context) where
       let kx = read_kinded i TypeSort (capturing x c) kt.0 in
       let type : CapturingType = type_in g (capturing x c) in
       record {
-        shape = closed_tame (shape_in g x) (read_closed g x ht.0.0); set = read_set_closed g c ht.0.1; completed = (ht.0, y.completed, z.completed);
+        shape = closed_tame (shape_in g x) (read_closed g x ht.0.0);
+        set = read_set_closed g c ht.0.1;
+        completed = (ht.0, y.completed, z.completed);
         fits =
             one_then i ds _ (operand_fits i k tg v (BaseShape bases.Bool) ds o tt tt)
             (asked_both base (qs ++ (below_all es ++ [])) _ (asked_both base qs (below_all es ++ []) y.fits (demands_asked i es (types_fit p.0 g r.type type es p.1 k tg ky kx y.shape (read_closed g x ht.0.0) (inl (read_set_closed g c ht.0.1)))))
@@ -315,7 +327,9 @@ module _ (base : Context) where
       let kx = read_kinded i ShapeSort x kt.0 in
       let both = no_hole_union r.type.set r'.type.set y.set z.set in
       record {
-        shape = closed_tame (shape_in g x) (read_closed g x ht.0); set = both; completed = ((ht.0, written_closed (length base) g (union r.type.set r'.type.set) both), y.completed, z.completed);
+        shape = closed_tame (shape_in g x) (read_closed g x ht.0);
+        set = both;
+        completed = ((ht.0, written_closed (length base) g (union r.type.set r'.type.set) both), y.completed, z.completed);
         fits =
             one_then i ds _ (operand_fits i k tg v (BaseShape bases.Bool) ds o tt tt)
             (asked_both base (qs ++ (below_all es ++ [])) _ (asked_both base qs (below_all es ++ []) y.fits (demands_asked i es (comparison_fits p.0 g r.type.shape (shape_in g x) es p.1 k tg ky.0 kx y.shape (read_closed g x ht.0))))
@@ -323,7 +337,9 @@ module _ (base : Context) where
       }
   tame (finds-repetition {g = g} {v = v} {w = w} {ds = ds} {es = es} a b) i k kt tg ht =
       record {
-        shape = tt; set = no_hole_empty; completed = tt;
+        shape = tt;
+        set = no_hole_empty;
+        completed = tt;
         fits = two_asked i ds es (operand_fits i k tg v (BaseShape bases.Int) ds a tt tt)
             (operand_fits i k tg w (FunctionShape (BaseShape bases.Int) empty (BaseShape bases.Unit) empty) es b (tt, empty_kinded (kinds_of g) [], tt, empty_kinded (kinds_of g) (TermKind ∷ [])) (tt, no_hole_empty, tt, no_hole_empty));
       }
@@ -339,7 +355,9 @@ module _ (base : Context) where
       let y = tame a inner ((kx, ke), k) kt.1 ((cx, inl cap), tg) ht.1 in
       let ky = (regular base a inner ((kx, ke), k) kt.1).0 in
       record {
-        shape = closed_tame (shape_in g x) cx; set = no_hole_empty; completed = (ht.0, y.completed);
+        shape = closed_tame (shape_in g x) cx;
+        set = no_hole_empty;
+        completed = (ht.0, y.completed);
         fits = asked_both base (qs ++ (below_all ds ++ [])) []
             (asked_both base qs (below_all ds ++ []) y.fits
             (demands_asked inner ds (types_fit p.0 (exit_entry (shape_in g x) ∷ g) r.type (capturing (shape_in g x) empty) ds p.1 ((kx, ke), k) ((cx, inl cap), tg) ky
@@ -349,6 +367,8 @@ module _ (base : Context) where
       let s = head_tame (ExitShape takes) tg h e in
       let ks = has_exposed k h e in
       record {
-        shape = closed_tame (shape_in g x) (read_closed g x ht.0); set = read_set_closed g c ht.1; completed = ht;
+        shape = closed_tame (shape_in g x) (read_closed g x ht.0);
+        set = read_set_closed g c ht.1;
+        completed = ht;
         fits = demands_asked i ds (given_fits i k tg h' (capturing takes empty) ds b (ks, empty_kinded (kinds_of g) []) s (inl no_hole_empty));
       }

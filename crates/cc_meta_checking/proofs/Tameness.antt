@@ -1,25 +1,24 @@
 -- Holes stand alone as sets of parameters, and nowhere else: what actions and comparisons make of such shapes.
-use Rattle.std.proofs.Common.{◌≡◌, ◌⊎◌, ℕ, zero, suc, Bool, true, false, cond, List, [], ◌∷◌, ◌++◌, length, Option, Some, None, refl, sym, ap, ◌∙◌, subst, inl, inr, append_assoc}
+use Rattle.std.proofs.Common.{◌≡◌, ℕ, zero, suc, Bool, true, false, cond, List, [], ◌∷◌, ◌++◌, length, Option, Some, None, refl, sym, ap, ◌∙◌, subst, inl, inr, append_assoc}
 use Rattle.cc_capture.specs.declared.var.Var.{Var}
 use Rattle.cc_capture.specs.declared.var.Var.TheVariants.{Bound, Free}
 use Rattle.cc_capture.specs.declared.var.Elem.{Elem}
 use Rattle.cc_capture.specs.declared.var.Elem.TheVariants.{Var as Variable, Cap, Hole}
-use Rattle.cc_capture.specs.Sets.{Set, Member, empty}
+use Rattle.cc_capture.specs.Sets.{Set}
 use Rattle.cc_capture.proofs.Membership.{Member-flat_image}
 use Rattle.cc_core.specs.Shapes.{Shape, BaseShape, AnyShape, TypeVariable, FunctionShape, TypeFunctionShape, BoxShape, ExitShape, CapturingType, capturing}
 use Rattle.cc_core.specs.Contexts.{Bind, TermEntry, TypeEntry, Context, lookup}
 use Rattle.cc_core.specs.Traversal.{Action, act, act_set}
-use Rattle.cc_core.specs.Substitution.{single, moved_element, moving, put_variable, putting_shape, opened, opened_set, opened_type, put_shape}
+use Rattle.cc_core.specs.Substitution.{single, moved_element, moving, put_variable, putting_shape, opened_type, put_shape}
 use Rattle.cc_core.specs.Occurrences.{IsNoHole, HasNoHoleInSet, Meets, without_holes}
 use Rattle.cc_core.specs.Comparison.{same_shape}
-use Rattle.cc_core.specs.WellFormed.{TermKind, TypeKind, kinds_of, kind_of}
+use Rattle.cc_core.specs.WellFormed.{kinds_of}
 use Rattle.std.specs.Prelude.{nat_eq}
 use Rattle.cc_core.proofs.KindFacts.{IsKindedSet, IsKinded, IsKindedType}
 use Rattle.cc_core.proofs.Lookups.{lookup-cases}
-use Rattle.cc_core.proofs.Moving.{Member-single, Member-single_itself, flat_image-of_single}
-use Rattle.cc_core.proofs.Sorts.{TypeSort, ShapeSort}
+use Rattle.cc_core.proofs.Moving.{Member-single, flat_image-of_single}
+use Rattle.cc_core.proofs.Sorts.{TypeSort}
 use Rattle.cc_core.proofs.SubcapturingContexts.{IsKindedContext, entry_kinded}
-use Rattle.cc_sets.proofs.ShapeEquality.{same_shape-true}
 use Rattle.cc_sets.specs.Comparison.{Demand, Comparison, Mismatch, Matches, Comparing, types_compared, bound_in, bound_compared, function_compared, type_function_compared, box_compared, is_any, by_form, comparison}
 use Rattle.cc_meta_typing.proofs.ComparisonLemmas.{then_parts}
 use Rattle.cc_meta_typing.proofs.FormedContexts.{opened_kinded}
@@ -187,9 +186,9 @@ fit_function compare fit g t c u d (FunctionShape t' c' u' d') ds e k tg kl kr t
     (types_compared compare under (opened_type (length g) (capturing u d)) (opened_type (length g) (capturing u' d'))) ds e in
     let one = fit_types compare fit g (capturing t' c') (capturing t c) parts.0 parts.2 k tg (kr.0, kr.1) (kl.0, kl.1) (closed_tame t' cr.0) tl.0 tl.1 in
     let two = fit_types compare fit under (opened_type (length g) (capturing u d)) (opened_type (length g) (capturing u' d')) parts.1 parts.3 ((kr.0, kr.1), k) ((closed_tame t' cr.0, inl cr.1), tg)
-        (opened_kinded TypeSort g (TermEntry t' c') (capturing u d) (kl.2, kl.3)) (opened_kinded TypeSort g (TermEntry t' c') (capturing u' d') (kr.2, kr.3))
-        (act_tame (moving (put_variable (Free (length g)))) (opening_holes (length g)) 0 u tl.2) (act_closed (moving (put_variable (Free (length g)))) (opening_holes (length g)) 0 u' cr.2)
-        (inl (act_set_closed (moving (put_variable (Free (length g)))) (opening_holes (length g)) 0 d' cr.3)) in
+    (opened_kinded TypeSort g (TermEntry t' c') (capturing u d) (kl.2, kl.3)) (opened_kinded TypeSort g (TermEntry t' c') (capturing u' d') (kr.2, kr.3))
+    (act_tame (moving (put_variable (Free (length g)))) (opening_holes (length g)) 0 u tl.2) (act_closed (moving (put_variable (Free (length g)))) (opening_holes (length g)) 0 u' cr.2)
+    (inl (act_set_closed (moving (put_variable (Free (length g)))) (opening_holes (length g)) 0 d' cr.3)) in
     subst (AllFitIn g) (sym parts.4) (all_fit_both g parts.0 parts.1 one (all_fit_below g (TermEntry t' c') parts.1 two))
 fit_function compare fit g t c u d _ ds e k tg kl kr tl cr = cc
 

@@ -1,25 +1,25 @@
 -- The worked verdicts: what is asked by computation, and then the first demand that fails.
-use Rattle.std.proofs.Common.{◌≡◌, ◌↔◌, ◌⊎◌, ℕ, List, [], ◌∷◌, ◌++◌, Some, refl, sym, ap, subst, inl, inr}
+use Rattle.std.proofs.Common.{◌≡◌, ℕ, List, [], ◌∷◌, ◌++◌, Some, refl, sym, subst, inl, inr}
 use Rattle.cc_base.specs.declared.literal.Base.TheVariants as bases
 use Rattle.cc_capture.specs.declared.var.Var.TheVariants.{Free}
 use Rattle.cc_capture.specs.declared.var.Elem.{Elem}
 use Rattle.cc_capture.specs.declared.var.Elem.TheVariants.{Var as Variable, Cap, Hole}
 use Rattle.cc_capture.specs.Elements.{element_order, same_element}
 use Rattle.cc_capture.specs.Rising.{placed}
-use Rattle.cc_capture.specs.Sets.{Set, Member, contains, empty, insert, from_list, retain, remove, union, flat_image, same_set}
+use Rattle.cc_capture.specs.Sets.{Set, Member, contains, empty, insert, from_list, retain, remove, union, flat_image}
 use Rattle.cc_capture.proofs.Membership.{Member-empty}
 use Rattle.cc_core.specs.Shapes.{Shape, BaseShape}
 use Rattle.cc_core.specs.Contexts.{TermEntry, Context, lookup}
 use Rattle.cc_core.specs.Substitution.{single, filled_element, filled_set}
-use Rattle.cc_core.specs.Subcapturing.{Subcaptures, SubcapturesSet, element, variable}
-use Rattle.cc_core.proofs.Moving.{Member-single, Member-single_itself, flat_image-of_single}
+use Rattle.cc_core.specs.Subcapturing.{Subcaptures, SubcapturesSet, variable}
+use Rattle.cc_core.proofs.Moving.{Member-single, Member-single_itself}
 use Rattle.cc_core.proofs.SubcapturingLemmas.{subcaptures_variable, cap_below}
-use Rattle.cc_sets.specs.Comparison.{Demand, demanded, comparison, by_form}
-use Rattle.cc_sets.specs.Outcomes.{Asked, IsBelow, IsCapless, Placed, Found, ◌>>=◌}
-use Rattle.cc_sets.specs.Fillings.{Filling, filled_context, IsServed, AllServed, IsAskedIn, Comes, global, capability, local, forced, IsLeast, FailsFirst}
+use Rattle.cc_sets.specs.Comparison.{demanded}
+use Rattle.cc_sets.specs.Outcomes.{Asked, IsBelow, IsCapless, Placed, Found}
+use Rattle.cc_sets.specs.Fillings.{Filling, filled_context, IsServed, IsAskedIn, Comes, global, capability, local, forced, IsLeast}
 use Rattle.cc_sets.specs.Examples.{first, third, with_console, nothing}
 use Rattle.cc_sets.specs.Inference.{captured_in}
-use Rattle.cc_sets.specs.ExampleChecks.{place, console_given, asked_of_console_given, box_of_cap_opened, asked_of_box_of_cap_opened, printing_again, with_printing_again, asked_of_printing_again}
+use Rattle.cc_sets.specs.ExampleChecks.{asked_of_console_given, asked_of_box_of_cap_opened, printing_again, with_printing_again, asked_of_printing_again}
 use Rattle.cc_sets.proofs.ComputedChecks.{console_given_asks_three, opening_asks_for_a_set_without_cap, recursion_has_its_signature}
 use Rattle.cc_meta_checking.proofs.LeastFillings.{Member-from_filled}
 use Rattle.cc_meta_checking.specs.ExampleVerdicts.{ConsoleGivenIsRefused, BoxOfCapIsRefused, PrintingAgainIsRefused}
@@ -75,10 +75,15 @@ unfolding contains flat_image from_list union retain remove insert placed elemen
 console_given_fails h = device_not_below with_console 0 (BaseShape bases.Console) empty refl refl (h first refl)
 
 pub console_given_is_refused : ConsoleGivenIsRefused
-console_given_is_refused =
-    (Found _ asked_of_console_given, console_given_asks_three,
-    (fill_nothing, empty_is_least 1 asked_of_console_given console_given_no_holes,
-    inl (_, _, ([], _, _, refl, tt, console_given_fails, refl, refl), refl)))
+console_given_is_refused = (
+  Found _ asked_of_console_given,
+  console_given_asks_three,
+  (
+    fill_nothing,
+    empty_is_least 1 asked_of_console_given console_given_no_holes,
+    inl (_, _, ([], _, _, refl, tt, console_given_fails, refl, refl), refl),
+  ),
+)
 
 -- nothing is below anything
 nothing_below : (f : Filling) (g : Context) (c : Set) → SubcapturesSet g (filled_set f empty) c
@@ -92,10 +97,15 @@ unfolding contains flat_image from_list union retain remove insert placed elemen
 box_of_cap_fails h = h refl
 
 pub box_of_cap_is_refused : BoxOfCapIsRefused
-box_of_cap_is_refused =
-    (Found _ asked_of_box_of_cap_opened, opening_asks_for_a_set_without_cap,
-    (fill_nothing, empty_is_least 0 asked_of_box_of_cap_opened box_of_cap_no_holes,
-    inl (_, _, (_ ∷ [], _, _, refl, (nothing_below fill_nothing _ _, tt), box_of_cap_fails, refl, refl), refl)))
+box_of_cap_is_refused = (
+  Found _ asked_of_box_of_cap_opened,
+  opening_asks_for_a_set_without_cap,
+  (
+    fill_nothing,
+    empty_is_least 0 asked_of_box_of_cap_opened box_of_cap_no_holes,
+    inl (_, _, (_ ∷ [], _, _, refl, (nothing_below fill_nothing _ _, tt), box_of_cap_fails, refl, refl), refl),
+  ),
+)
 
 printing_again_no_holes : NoHoles asked_of_printing_again
 printing_again_no_holes = (empty_is_no_hole, (empty_is_no_hole, tt))
@@ -116,7 +126,12 @@ unfolding contains flat_image from_list union retain remove insert placed elemen
 printing_again_fails h = device_not_below (filled_context fill_nothing with_printing_again) 0 (BaseShape bases.Console) empty refl refl (h first refl)
 
 pub printing_again_is_refused : PrintingAgainIsRefused
-printing_again_is_refused =
-    (Found _ asked_of_printing_again, recursion_has_its_signature,
-    (fill_nothing, empty_is_least 1 asked_of_printing_again printing_again_no_holes,
-    inl (_, _, (_ ∷ [], _, _, refl, (parameter_below, tt), printing_again_fails, refl, refl), refl)))
+printing_again_is_refused = (
+  Found _ asked_of_printing_again,
+  recursion_has_its_signature,
+  (
+    fill_nothing,
+    empty_is_least 1 asked_of_printing_again printing_again_no_holes,
+    inl (_, _, (_ ∷ [], _, _, refl, (parameter_below, tt), printing_again_fails, refl, refl), refl),
+  ),
+)

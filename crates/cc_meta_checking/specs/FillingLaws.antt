@@ -2,8 +2,7 @@
 use Rattle.std.specs.Prelude.{◌≡◌, ◌⊎◌, ℕ, List, [], ◌∷◌, ◌++◌, length}
 use Rattle.cc_capture.specs.declared.var.Elem.TheVariants.{Hole}
 use Rattle.cc_capture.specs.Sets.{Set}
-use Rattle.cc_core.specs.Shapes.{Shape}
-use Rattle.cc_core.specs.Contexts.{Bind, TermEntry, TypeEntry, Context}
+use Rattle.cc_core.specs.Contexts.{TermEntry, TypeEntry, Context}
 use Rattle.cc_core.specs.Substitution.{single}
 use Rattle.cc_core.specs.Occurrences.{HasNoHole, HasNoHoleInSet}
 use Rattle.cc_core.specs.WellFormed.{IsWellFormedContext, IsWellFormedSet}

@@ -2,6 +2,7 @@
 //! its contract.
 #![tactic(auto)]
 
+pub mod canonical_laws;
 pub mod checking_laws;
 pub mod example_verdicts;
 pub mod filling_laws;
