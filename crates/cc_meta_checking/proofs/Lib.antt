@@ -1,5 +1,6 @@
 pub mod AlikeSignatures
 pub mod CanonicalSets
+pub mod CanonicalShapes
 pub mod CheckedDefinitions
 pub mod FilledSubtyping
 pub mod FilledSyntax
