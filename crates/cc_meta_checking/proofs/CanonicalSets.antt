@@ -1,5 +1,5 @@
 -- The canonical derivation of a set below another is valid.
-use Rattle.std.proofs.Common.{◌≡◌, ◌⊎◌, ℕ, Bool, true, false, cond, List, [], ◌∷◌, length, Some, refl, sym, ap, ◌∙◌, subst, inl, inr}
+use Rattle.std.proofs.Common.{◌≡◌, ℕ, true, false, cond, List, [], ◌∷◌, length, Some, refl, sym, ap, ◌∙◌, inl, inr}
 use Rattle.std.specs.Prelude.{nat_eq}
 use Rattle.std.proofs.lemmas.Bool.{eqb-true, eq-eqb, or_left, or_right}
 use Rattle.cc_capture.specs.declared.var.Var.TheVariants.{Bound, Free}
@@ -9,14 +9,13 @@ use Rattle.cc_capture.specs.Elements.{same_element}
 use Rattle.cc_capture.specs.ElementOrder.{same_element-itself}
 use Rattle.cc_capture.specs.Rising.{is_listed}
 use Rattle.cc_capture.specs.Sets.{Set, Member, contains}
-use Rattle.cc_core.specs.Shapes.{Shape}
 use Rattle.cc_core.specs.Substitution.{single}
 use Rattle.cc_core.specs.Contexts.{Bind, TermEntry, TypeEntry, Context, lookup}
 use Rattle.cc_core.specs.WellFormed.{TermKind, TypeKind, kinds_of, kind_of, IsWellFormedContext, IsWellFormedSet}
 use Rattle.cc_core.specs.Captured.{variable_set}
 use Rattle.cc_core.specs.Subcapturing.{Subcaptures, SubcapturesSet}
 use Rattle.cc_core.specs.Derivations.{ByVariable, SetBelow, Node, one, Derivation, IsValidComparison, AreBelow, ConcludesSets}
-use Rattle.cc_core.proofs.KindFacts.{IsKindedElement, IsKindedSet, IsKindedSet-from}
+use Rattle.cc_core.proofs.KindFacts.{IsKindedElement, IsKindedSet-from}
 use Rattle.cc_core.proofs.Lookups.{lookup-newest, lookup-older, lookup-cases, length_map}
 use Rattle.cc_core.proofs.SubcapturingContexts.{IsKindedContext, IsKindedContext-from}
 use Rattle.cc_core.proofs.SubcapturingLemmas.{subcaptures_variable, subcaptures_other}
@@ -66,9 +65,19 @@ entry_valid (TermEntry s d) older g more formed right deeper (Variable (Free p))
           let each : SubcapturesSet g d right = elim ((subcaptures_variable g p s d right here).0 below) as (λ _. SubcapturesSet g d right) [
             | inl m ↦ let clash : true ≡ false = sym m ∙ absent in cc
             | inr each ↦ each
-          ] in
-          ((p, s, d, right, here,
-          (d, right, premises_valid g right (element_derived older right) d.list (λ x m. deeper x (formed.0.1 x (listed_member x d m)) (each x (listed_member x d m))), refl), refl, refl), refl)
+          ] in (
+            (
+              p,
+              s,
+              d,
+              right,
+              here,
+              (d, right, premises_valid g right (element_derived older right) d.list (λ x m. deeper x (formed.0.1 x (listed_member x d m)) (each x (listed_member x d m))), refl),
+              refl,
+              refl,
+            ),
+            refl,
+          )
       | false ↦ λ other. deeper (Variable (Free p)) (older_kind (TermEntry s d) older p k other) below
     ] refl
 entry_valid (TypeEntry x) older g more formed right deeper (Variable (Free p)) k absent below =
@@ -94,6 +103,13 @@ element_valid (b ∷ older) g more formed right e k below =
 
 pub set_derived_valid : (g : Context) (left right : Set) → IsWellFormedContext g → IsWellFormedSet g left → SubcapturesSet g left right
     → IsValidComparison g (set_derived g left right) × ConcludesSets (set_derived g left right) left right
-set_derived_valid g left right formed known below =
-    ((left, right, premises_valid g right (element_derived g right) left.list
-    (λ x m. element_valid g g (λ p b h. h) (IsKindedContext-from g formed) right x (IsKindedSet-from (kinds_of g) [] left known x (listed_member x left m)) (below x (listed_member x left m))), refl), refl)
+set_derived_valid g left right formed known below = (
+  (
+    left,
+    right,
+    premises_valid g right (element_derived g right) left.list
+        (λ x m. element_valid g g (λ p b h. h) (IsKindedContext-from g formed) right x (IsKindedSet-from (kinds_of g) [] left known x (listed_member x left m)) (below x (listed_member x left m))),
+    refl,
+  ),
+  refl,
+)

@@ -1,21 +1,21 @@
 -- The canonical derivation of a shape below another is valid.
-use Rattle.std.proofs.Common.{◌≡◌, ℕ, zero, suc, Bool, true, false, cond, List, [], ◌∷◌, ◌++◌, length, Option, Some, None, refl, sym, ap, ◌∙◌, subst}
+use Rattle.std.proofs.Common.{◌≡◌, ℕ, zero, suc, true, false, cond, List, [], ◌∷◌, ◌++◌, length, Option, Some, None, refl, sym, subst}
 use Rattle.cc_capture.specs.declared.var.Var.TheVariants.{Bound, Free}
 use Rattle.cc_capture.specs.Sets.{Set}
 use Rattle.cc_core.specs.Shapes.{Shape, BaseShape, AnyShape, TypeVariable, FunctionShape, TypeFunctionShape, BoxShape, ExitShape, CapturingType, capturing}
 use Rattle.cc_core.specs.Contexts.{Bind, TermEntry, TypeEntry, Context, lookup}
 use Rattle.cc_core.specs.Substitution.{opened_type}
 use Rattle.cc_core.specs.Comparison.{same_shape}
-use Rattle.cc_core.specs.WellFormed.{kinds_of, kind_of, IsWellFormedContext, IsWellFormedShape}
+use Rattle.cc_core.specs.WellFormed.{kinds_of, IsWellFormedContext, IsWellFormedShape}
 use Rattle.cc_core.specs.Subtyping.{Subtypes}
-use Rattle.cc_core.specs.Derivations.{ByReflexivity, ByTransitivity, ByTypeVariable, ByTop, ShapeBelow, TypeBelow, Derivation, Node, NoPremise, two, IsValidComparison, Concludes, ConcludesShapes}
+use Rattle.cc_core.specs.Derivations.{ByTop, ShapeBelow, TypeBelow, Derivation, Node, NoPremise, IsValidComparison, Concludes, ConcludesShapes}
 use Rattle.cc_core.proofs.KindFacts.{IsKinded, IsKinded-from, IsKindedType, IsKindedSet-test}
 use Rattle.cc_core.proofs.Sorts.{TypeSort}
 use Rattle.cc_core.proofs.SubcapturingContexts.{IsKindedContext, IsKindedContext-from, entry_kinded}
 use Rattle.cc_sets.proofs.ShapeEquality.{same_shape-true}
-use Rattle.cc_sets.specs.Comparison.{Demand, Comparison, Unfinished, Mismatch, Matches, Comparing, types_compared, bound_in, bound_compared, function_compared, type_function_compared, box_compared, is_any, by_form, comparison, AllHold}
+use Rattle.cc_sets.specs.Comparison.{Demand, Comparison, Mismatch, Matches, Comparing, types_compared, bound_in, bound_compared, function_compared, type_function_compared, box_compared, is_any, by_form, comparison, AllHold}
 use Rattle.cc_sets.specs.Weights.{enough_steps}
-use Rattle.cc_sets.specs.CanonicalDerivations.{Deriving, set_derived, type_derived, alike_derived, bound_derived, functions_derived, type_functions_derived, boxes_derived, form_derived, shape_derived, canonical_shapes}
+use Rattle.cc_sets.specs.CanonicalDerivations.{Deriving, type_derived, alike_derived, bound_derived, functions_derived, type_functions_derived, boxes_derived, form_derived, shape_derived, canonical_shapes}
 use Rattle.cc_meta_typing.proofs.ComparisonLemmas.{then_parts, hold_parts, comparison_same, subtyping_compares}
 use Rattle.cc_meta_typing.proofs.Endings.{comparison_enough}
 use Rattle.cc_meta_typing.proofs.FormedContexts.{opened_kinded, IsKindedContext-test}
@@ -61,7 +61,7 @@ functions_valid compare derive valid g t c u d (FunctionShape t' c' u' d') ds e 
     let all = hold_parts parts.0 parts.1 (subst AllHold parts.4 h) in
     let one' = types_valid compare derive valid g (capturing t' c') (capturing t c) parts.0 parts.2 all.0 k (kr.0, kr.1) (kl.0, kl.1) in
     let two' = types_valid compare derive valid under (opened_type (length g) (capturing u d)) (opened_type (length g) (capturing u' d')) parts.1 parts.3 all.1 ((kr.0, kr.1), k)
-        (opened_kinded TypeSort g (TermEntry t' c') (capturing u d) (kl.2, kl.3)) (opened_kinded TypeSort g (TermEntry t' c') (capturing u' d') (kr.2, kr.3)) in
+    (opened_kinded TypeSort g (TermEntry t' c') (capturing u d) (kl.2, kl.3)) (opened_kinded TypeSort g (TermEntry t' c') (capturing u' d') (kr.2, kr.3)) in
     ((t, c, u, d, t', c', u', d', one'.0, one'.1, two'.0, two'.1, refl), refl)
 functions_valid compare derive valid g t c u d _ ds e h k kl kr = cc
 
@@ -73,7 +73,7 @@ type_functions_valid compare derive valid g b u d (TypeFunctionShape b' u' d') d
     elim (same_shape b b') as (λ x. same_shape b b' ≡ x → cond x results Mismatch ≡ Matches ds → Shows g (type_functions_derived derive g b (capturing u d) (TypeFunctionShape b' u' d')) (TypeFunctionShape b u d) (TypeFunctionShape b' u' d')) [
       | true ↦ λ same found.
           let below = types_valid compare derive valid (TypeEntry b ∷ g) (opened_type (length g) (capturing u d)) (opened_type (length g) (capturing u' d')) ds found h (kl.0, k)
-              (opened_kinded TypeSort g (TypeEntry b) (capturing u d) (kl.1, kl.2)) (opened_kinded TypeSort g (TypeEntry b) (capturing u' d') (kr.1, kr.2)) in
+          (opened_kinded TypeSort g (TypeEntry b) (capturing u d) (kl.1, kl.2)) (opened_kinded TypeSort g (TypeEntry b) (capturing u' d') (kr.1, kr.2)) in
           subst (λ x. Shows g (type_functions_derived derive g b (capturing u d) (TypeFunctionShape x u' d')) (TypeFunctionShape b u d) (TypeFunctionShape x u' d')) (same_shape-true b b' same)
           ((b, u, d, u', d', (b, refl), refl, below.0, below.1, refl), refl)
       | false ↦ λ _ found. cc

@@ -1,5 +1,4 @@
 -- The laws of canonical derivations.
-use Rattle.std.specs.Prelude.{ℕ}
 use Rattle.cc_capture.specs.Sets.{Set}
 use Rattle.cc_core.specs.Shapes.{Shape}
 use Rattle.cc_core.specs.Subtyping.{Subtypes}
