@@ -20,8 +20,8 @@ AreGlobals (TypeEntry bound ∷ older) = ⊥
 abbrev pub HasHoleAloneOrNone : Set → Type 0
 HasHoleAloneOrNone set = HasNoHoleInSet set ⊎ ((hole : ℕ) × (set ≡ single (Hole hole)))
 
--- what is asked is fit for a filling: a demand has the globals at the bottom of its context, is well formed, and its right
--- side has no hole or is one hole alone
+-- what is asked is fit for a filling: a demand has the globals at the bottom of its context, is well formed, and its
+-- right side has no hole or is one hole alone
 abbrev pub IsFit : Context → Asked → Type 0
 IsFit globals (IsBelow demand) =
     ((later : Context) × (demand.context ≡ later ++ globals)) × IsWellFormedContext demand.context
