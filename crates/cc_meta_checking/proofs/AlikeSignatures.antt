@@ -8,26 +8,26 @@ use Rattle.cc_base.specs.declared.place.Place.{Place}
 use Rattle.cc_capture.specs.declared.var.Var.{Var}
 use Rattle.cc_capture.specs.Sets.{Set}
 use Rattle.cc_core.specs.Shapes.{Shape, BaseShape, AnyShape, TypeVariable, FunctionShape, TypeFunctionShape, BoxShape, ExitShape, CapturingType, capturing}
-use Rattle.cc_core.specs.Contexts.{Bind, Context, entry_of}
+use Rattle.cc_core.specs.Contexts.{Context}
 use Rattle.cc_core.specs.Terms.{Note, Absent, Written, Own}
 use Rattle.cc_core.specs.Occurrences.{MeetsInNote, without_holes}
 use Rattle.cc_core.specs.Places.{spots}
-use Rattle.cc_core.specs.Substitution.{filling_in, filled, filled_type}
+use Rattle.cc_core.specs.Substitution.{filling_in, filled_type}
 use Rattle.cc_core.specs.Traversal.{act, act_set}
 use Rattle.cc_core.specs.WellFormed.{TermKind, kinds_of, is_well_formed_term, IsWellFormedNote}
-use Rattle.cc_core.proofs.KindFacts.{IsKindedTerm, IsKindedTerm-from, IsKindedNote-from}
+use Rattle.cc_core.proofs.KindFacts.{IsKindedTerm-from, IsKindedNote-from}
 use Rattle.cc_core.proofs.Sorts.{ShapeSort}
 use Rattle.cc_core.proofs.SubcapturingContexts.{IsKindedContext, IsKindedContext-from}
 use Rattle.cc_sets.specs.Avoidance.{Sign, Positive, opposite, avoided, avoided_set, avoided_type, with_both, unless_free, is_free_in}
-use Rattle.cc_sets.specs.Outcomes.{Placed, Outcome, NoAnswer, Refused, Found}
-use Rattle.cc_sets.specs.Fillings.{Filling, AllServed, IsLeast, IsOverGlobals, FailsFirst}
+use Rattle.cc_sets.specs.Outcomes.{Placed, NoAnswer, Refused, Found}
+use Rattle.cc_sets.specs.Fillings.{Filling, IsOverGlobals}
 use Rattle.cc_sets.specs.Inference.{limited}
-use Rattle.cc_sets.specs.Verdicts.{Definition, Checking, plain_checked, recursive_checked, checked, IsChecked, declared_set, settled_or, signature_of, signature_under, signature_verdict, IsRefused, IsAccepted, HasVerdict, HasAlgorithmicType}
+use Rattle.cc_sets.specs.Verdicts.{Definition, Checking, plain_checked, recursive_checked, declared_set, settled_or, signature_of, signature_under, signature_verdict, IsRefused, HasVerdict, HasAlgorithmicType}
 use Rattle.cc_meta_typing.proofs.Avoiding.{both_some, map_some, unless_some}
 use Rattle.cc_meta_checking.specs.FillingLaws.{AreGlobals}
 use Rattle.cc_meta_checking.specs.CheckingLaws.{Fits}
-use Rattle.cc_meta_checking.specs.Holes.{NoteHasNoHole, HolesAreOfParameters}
-use Rattle.cc_meta_checking.proofs.FoundFindings.{asked_of, Came, then_came, finds_came, found_finds, noted_came, avoided_came}
+use Rattle.cc_meta_checking.specs.Holes.{HolesAreOfParameters}
+use Rattle.cc_meta_checking.proofs.FoundFindings.{asked_of, Came, then_came, finds_came, found_finds, noted_came}
 use Rattle.cc_meta_checking.proofs.ReadingKinds.{outermost}
 use Rattle.cc_meta_checking.proofs.FoundTypes.{regular}
 use Rattle.cc_meta_checking.proofs.LeastFillings.{filled-still}

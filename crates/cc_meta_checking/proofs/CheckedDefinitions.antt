@@ -1,17 +1,14 @@
 -- Accepted definitions: the filled right side has its type and its signature's type, and no hole is left.
-use Rattle.std.proofs.Common.{◌≡◌, ◌⊎◌, ℕ, zero, suc, ◌+◌, ◌<◌, ◌≤◌, Bool, true, false, cond, List, [], ◌∷◌, ◌++◌, length, Option, Some, None, refl, sym, ap, ◌∙◌, subst, inl, inr, arith}
+use Rattle.std.proofs.Common.{◌≡◌, ℕ, suc, ◌<◌, Bool, true, false, cond, List, [], ◌∷◌, length, Option, Some, None, refl, sym, ap, ◌∙◌, subst, inl, inr, arith}
 use Rattle.std.proofs.lemmas.Bool.{cases_eq}
-use Rattle.cc_base.specs.declared.code.Code.{Code}
-use Rattle.cc_base.specs.declared.place.Place.{Place}
-use Rattle.cc_capture.specs.declared.var.Var.{Var}
 use Rattle.cc_capture.specs.declared.var.Var.TheVariants.{Bound, Free}
 use Rattle.cc_capture.specs.declared.var.Elem.{Elem}
 use Rattle.cc_capture.specs.declared.var.Elem.TheVariants.{Var as Variable, Cap, Hole}
-use Rattle.cc_capture.specs.Sets.{Set, Member}
-use Rattle.cc_core.specs.Shapes.{Shape, TypeVariable, CapturingType, capturing}
+use Rattle.cc_capture.specs.Sets.{Member}
+use Rattle.cc_core.specs.Shapes.{CapturingType, capturing}
 use Rattle.cc_core.specs.Terms.{Note, Absent, Written, Own, Term}
-use Rattle.cc_core.specs.Contexts.{Bind, TermEntry, TypeEntry, Context, lookup, entry_of}
-use Rattle.cc_core.specs.Substitution.{single, filled_element, filling_in, filled, filled_set, filled_type, filled_term}
+use Rattle.cc_core.specs.Contexts.{TermEntry, TypeEntry, Context, lookup, entry_of}
+use Rattle.cc_core.specs.Substitution.{filled_element, filling_in, filled, filled_set, filled_type, filled_term}
 use Rattle.cc_core.specs.Occurrences.{on_variables, without_holes, IsNoHole, HasNoHoleInType, HasNoHoleInTerm, MeetsInNote}
 use Rattle.cc_core.specs.Reading.{read_term}
 use Rattle.cc_core.specs.WellFormed.{TermKind, kinds_of, kind_of, is_well_formed_term, IsWellFormedNote, IsWellFormedType}
@@ -21,19 +18,17 @@ use Rattle.cc_core.proofs.Conditions.{Brings, always_on_variables}
 use Rattle.cc_core.proofs.KindFacts.{IsKindedType, IsKindedNote-from, IsKindedTerm-from, IsKindedTerm-test, IsKindedType-test, IsKindedTerm}
 use Rattle.cc_core.proofs.Lookups.{lookup-newest, lookup-older, length_map}
 use Rattle.cc_core.proofs.Moving.{Member-single}
-use Rattle.cc_core.proofs.ReadingAndWriting.{read_term-still, read_type-still}
+use Rattle.cc_core.proofs.ReadingAndWriting.{read_term-still}
 use Rattle.cc_core.proofs.Sorts.{Sort, TypeSort, TermSort, Syntax, acted, MeetsIn, MeetsIn-act, MeetsIn-always, HasKinds-meets}
 use Rattle.cc_core.proofs.SubcapturingContexts.{IsKindedContext, IsKindedContext-from, IsKinded-added, IsKindedSet-added}
-use Rattle.cc_sets.specs.Comparison.{comparison, TypesHaveDemands}
-use Rattle.cc_sets.specs.Outcomes.{Asked, Placed, Outcome, NoAnswer, Refused, Found}
+use Rattle.cc_sets.specs.Outcomes.{Asked, Placed, NoAnswer, Refused, Found}
 use Rattle.cc_sets.specs.Fillings.{Filling, filled_context, AllServed, IsLeast, IsGlobal, IsOverGlobals}
-use Rattle.cc_sets.specs.Inference.{Result, Named, limited, type_in}
-use Rattle.cc_sets.specs.Verdicts.{Definition, Checking, checking, plain_checked, recursion_checked, recursive_checked, checked, IsChecked, Accepted, Verdict, IsAccepted, IsRefused, accepted_with, signature_under, signature_verdict, settled_or, signature_of, HasVerdict, Deserves}
+use Rattle.cc_sets.specs.Inference.{limited}
+use Rattle.cc_sets.specs.Verdicts.{Definition, Checking, plain_checked, recursive_checked, checked, Accepted, IsAccepted, accepted_with, signature_under, signature_verdict, signature_of, HasVerdict}
 use Rattle.cc_meta_typing.proofs.FormedContexts.{kinds_bound, IsKindedContext-test}
 use Rattle.cc_meta_checking.specs.FillingLaws.{AreGlobals}
 use Rattle.cc_meta_checking.specs.CheckingLaws.{Fits, definition_context, oldest}
-use Rattle.cc_meta_checking.proofs.Findings.{below_all, Notes, notes-absent, notes-written, notes-own, Finds}
-use Rattle.cc_meta_checking.proofs.FoundFindings.{asked_of, Came, then_came, finds_came, joined, found_finds, below_came, noted_came, avoided_came}
+use Rattle.cc_meta_checking.proofs.FoundFindings.{asked_of, Came, then_came, finds_came, found_finds, below_came, noted_came, avoided_came}
 use Rattle.cc_meta_checking.proofs.ReadingKinds.{outermost}
 use Rattle.cc_meta_checking.proofs.FoundTypes.{regular, notes_kinded}
 use Rattle.cc_meta_checking.proofs.LeastFillings.{filled-still, globals_still, least_over_globals}

@@ -1,26 +1,24 @@
 -- Filling keeps subcapturing and subtyping, and where it serves what a comparison demands, the filled sides are below each other.
-use Rattle.std.proofs.Common.{◌≡◌, ℕ, zero, suc, ◌+◌, ◌≤◌, Bool, true, false, cond, List, [], ◌∷◌, ◌++◌, length, Option, Some, None, refl, sym, ap, ◌∙◌, subst}
+use Rattle.std.proofs.Common.{◌≡◌, ℕ, zero, suc, true, false, cond, List, [], ◌∷◌, ◌++◌, length, Option, Some, None, refl, sym, ap, ◌∙◌, subst}
 use Rattle.std.specs.Option.{option_map}
-use Rattle.std.specs.Prelude.{map}
-use Rattle.cc_capture.specs.declared.var.Var.{Var}
 use Rattle.cc_capture.specs.declared.var.Var.TheVariants.{Bound, Free}
 use Rattle.cc_capture.specs.declared.var.Elem.{Elem}
-use Rattle.cc_capture.specs.declared.var.Elem.TheVariants.{Var as Variable, Cap, Hole}
-use Rattle.cc_capture.specs.Sets.{Set, Member}
+use Rattle.cc_capture.specs.declared.var.Elem.TheVariants.{Var as Variable}
+use Rattle.cc_capture.specs.Sets.{Set}
 use Rattle.cc_core.specs.Shapes.{Shape, BaseShape, AnyShape, TypeVariable, FunctionShape, TypeFunctionShape, BoxShape, ExitShape, CapturingType, capturing}
 use Rattle.cc_core.specs.Contexts.{Bind, TermEntry, TypeEntry, Context, lookup}
 use Rattle.cc_core.specs.Traversal.{act, act_set}
-use Rattle.cc_core.specs.Substitution.{single, filled_element, filling_in, filled, filled_set, filled_type, opened, opened_set, opened_type, put_variable, opening}
+use Rattle.cc_core.specs.Substitution.{filled_element, filling_in, filled, filled_set, filled_type, opened, opened_set, opened_type, put_variable}
 use Rattle.cc_core.specs.Subcapturing.{Subcaptures, SubcapturesSet, element, variable}
 use Rattle.cc_core.specs.Subtyping.{Subtypes, SubtypesType, reflexive, transitive, type_variable, top, function, type_function, box}
 use Rattle.cc_core.specs.Comparison.{same_shape}
 use Rattle.cc_core.proofs.Lookups.{lookup-map}
 use Rattle.cc_core.proofs.Moving.{Member-single}
-use Rattle.cc_core.proofs.Shifting.{shift, shift_type}
+use Rattle.cc_core.proofs.Shifting.{shift}
 use Rattle.cc_core.proofs.Sorts.{SetSort, ShapeSort}
 use Rattle.cc_sets.proofs.ShapeEquality.{same_shape-true}
 use Rattle.cc_sets.specs.Comparison.{Demand, Comparison, Mismatch, Matches, Comparing, types_compared, bound_in, bound_compared, function_compared, type_function_compared, box_compared, is_any, by_form, comparison, HasDemands, TypesHaveDemands}
-use Rattle.cc_sets.specs.Outcomes.{Asked, IsBelow, IsCapless, Placed}
+use Rattle.cc_sets.specs.Outcomes.{Asked, IsBelow, Placed}
 use Rattle.cc_sets.specs.Fillings.{Filling, filled_entry, filled_context, IsServed, AllServed, IsOverGlobals}
 use Rattle.cc_meta_typing.proofs.ComparisonLemmas.{then_parts}
 use Rattle.cc_meta_checking.proofs.Findings.{below_all}

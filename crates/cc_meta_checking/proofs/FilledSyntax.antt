@@ -1,20 +1,19 @@
 -- Filling with sets of globals commutes with all that moves no global, and with putting a shape. Reading a body leaves its binder.
-use Rattle.std.proofs.Common.{◌≡◌, ℕ, zero, suc, ◌+◌, ◌-◌, ◌<◌, ◌≤◌, Bool, true, false, cond, List, [], ◌∷◌, length, Some, None, refl, sym, ap, ◌∙◌, subst, inl, inr, arith}
-use Rattle.std.specs.Prelude.{nat_eq, map}
+use Rattle.std.proofs.Common.{◌≡◌, ℕ, zero, suc, ◌-◌, ◌<◌, ◌≤◌, [], ◌∷◌, length, refl, sym, ap, ◌∙◌, inl, inr, arith}
 use Rattle.std.proofs.lemmas.Bool.{cases_lt, cases_eq}
 use Rattle.cc_capture.specs.declared.var.Var.{Var}
 use Rattle.cc_capture.specs.declared.var.Var.TheVariants.{Bound, Free}
 use Rattle.cc_capture.specs.declared.var.Elem.{Elem}
 use Rattle.cc_capture.specs.declared.var.Elem.TheVariants.{Var as Variable, Cap, Hole}
-use Rattle.cc_capture.specs.Sets.{Set, Member}
-use Rattle.cc_core.specs.Shapes.{Shape, TypeVariable}
+use Rattle.cc_capture.specs.Sets.{Member}
+use Rattle.cc_core.specs.Shapes.{Shape}
 use Rattle.cc_core.specs.Contexts.{Bind, TermEntry, TypeEntry, Context}
-use Rattle.cc_core.specs.Traversal.{Action, act, act_set, composed}
+use Rattle.cc_core.specs.Traversal.{act, act_set, composed}
 use Rattle.cc_core.specs.Substitution.{single, moved_element, moving, filled_element, filling_in, put_variable, closed_variable, put_shape, putting_shape}
 use Rattle.cc_core.specs.Captured.{outside}
-use Rattle.cc_core.specs.Occurrences.{IsAskedOf, HasBinder, bound_within}
+use Rattle.cc_core.specs.Occurrences.{IsAskedOf, HasBinder}
 use Rattle.cc_core.specs.Reading.{read_variable, reading}
-use Rattle.cc_core.specs.WellFormed.{Kind, kinds_of, kind_of}
+use Rattle.cc_core.specs.WellFormed.{kinds_of, kind_of}
 use Rattle.cc_core.proofs.Actions.{same_actions}
 use Rattle.cc_core.proofs.CapturedActions.{PassesBinders, MovesOutwards, PassesBinders-moves}
 use Rattle.cc_core.proofs.FreeActions.{put_shape-same, put_shape-other, putting_shape_set}

@@ -1,13 +1,13 @@
 -- The completed and filled term has the filled type, for each form.
-use Rattle.std.proofs.Common.{◌≡◌, ℕ, zero, suc, ◌<◌, ◌≤◌, List, [], ◌∷◌, ◌++◌, length, Some, None, refl, sym, ap, ◌∙◌, subst, inl, inr}
+use Rattle.std.proofs.Common.{◌≡◌, ℕ, ◌<◌, ◌≤◌, List, [], ◌∷◌, ◌++◌, length, Some, refl, sym, ap, ◌∙◌, inl, inr}
 use Rattle.cc_base.specs.declared.literal.Base.TheVariants as bases
 use Rattle.cc_capture.specs.declared.var.Elem.TheVariants.{Cap}
-use Rattle.cc_capture.specs.Sets.{Set, Member, empty, union}
+use Rattle.cc_capture.specs.Sets.{empty, union}
 use Rattle.cc_capture.proofs.Membership.{Member-union}
-use Rattle.cc_core.specs.Shapes.{Shape, BaseShape, FunctionShape, CapturingType, capturing}
-use Rattle.cc_core.specs.Terms.{Note, Written, Term}
-use Rattle.cc_core.specs.Contexts.{Bind, TypeEntry, Context, lookup, entry_of}
-use Rattle.cc_core.specs.Traversal.{act_note, act_term}
+use Rattle.cc_core.specs.Shapes.{Shape, BaseShape, FunctionShape, capturing}
+use Rattle.cc_core.specs.Terms.{Term}
+use Rattle.cc_core.specs.Contexts.{TypeEntry, Context, lookup, entry_of}
+use Rattle.cc_core.specs.Traversal.{act_note}
 use Rattle.cc_core.specs.Substitution.{filling_in, filled, filled_set, filled_term}
 use Rattle.cc_core.specs.Reading.{reading, read_term}
 use Rattle.cc_core.specs.WellFormed.{Kind, TermKind, kinds_of}
@@ -18,10 +18,9 @@ use Rattle.cc_core.proofs.KindRespecting.{single_kinded}
 use Rattle.cc_core.proofs.Sorts.{SetSort, ShapeSort, TypeSort}
 use Rattle.cc_core.proofs.SubcapturingContexts.{IsKindedContext, IsKinded-added, IsKindedSet-added}
 use Rattle.cc_core.proofs.SubcapturingLemmas.{subcaptures_subset}
-use Rattle.cc_sets.specs.Comparison.{HasDemands, TypesHaveDemands}
 use Rattle.cc_sets.specs.Outcomes.{Asked}
 use Rattle.cc_sets.specs.Fillings.{Filling, filled_context, IsOverGlobals}
-use Rattle.cc_sets.specs.Inference.{Result, in_context, set_in, shape_in, type_in, written_in, exit_entry}
+use Rattle.cc_sets.specs.Inference.{Result, in_context, set_in, shape_in, type_in, exit_entry}
 use Rattle.cc_meta_checking.proofs.Findings.{below_all, Finds, finds-variable, finds-literal, finds-function, finds-type_function, finds-box, finds-application, finds-type_application, finds-unboxing, finds-unboxing_own, finds-let, finds-primitive, finds-choice, finds-choice_own, finds-repetition, finds-operation, finds-operation_alone, finds-boundary, finds-exit}
 use Rattle.cc_meta_checking.proofs.ReadingKinds.{Inside, deeper, read_kinded}
 use Rattle.cc_meta_checking.proofs.FoundTypes.{has_exposed, notes_kinded, left_kinded, regular}

@@ -1,50 +1,47 @@
 -- Where a filling serves all that is asked, the completed and filled term has the filled type.
-use Rattle.std.proofs.Common.{◌≡◌, ℕ, zero, suc, ◌+◌, ◌<◌, ◌≤◌, List, [], ◌∷◌, ◌++◌, length, Option, Some, None, refl, sym, ap, ◌∙◌, subst, inl, inr, arith}
-use Rattle.cc_base.specs.declared.literal.Base.{Base}
+use Rattle.std.proofs.Common.{◌≡◌, ℕ, suc, ◌<◌, ◌≤◌, List, [], ◌∷◌, length, Some, refl, sym, ap, ◌∙◌, subst, arith}
 use Rattle.cc_base.specs.declared.literal.Base.TheVariants as bases
 use Rattle.cc_capture.specs.declared.var.Var.{Var}
 use Rattle.cc_capture.specs.declared.var.Var.TheVariants.{Bound, Free}
 use Rattle.cc_capture.specs.declared.var.Elem.{Elem}
 use Rattle.cc_capture.specs.declared.var.Elem.TheVariants.{Var as Variable, Cap, Hole}
-use Rattle.cc_capture.specs.Sets.{Set, Member, empty, union}
+use Rattle.cc_capture.specs.Sets.{Set, empty}
 use Rattle.cc_capture.proofs.Images.{flat_image-empty}
-use Rattle.cc_capture.proofs.Membership.{Member-union}
-use Rattle.cc_core.specs.Shapes.{Shape, BaseShape, AnyShape, TypeVariable, FunctionShape, TypeFunctionShape, BoxShape, ExitShape, CapturingType, capturing}
-use Rattle.cc_core.specs.Terms.{Note, Absent, Written, Own, Term, VariableTerm, LiteralTerm, FunctionTerm, TypeFunctionTerm, BoxTerm, Application, TypeApplication, Unboxing, Let, Primitive, Conditional, Repetition, Operation, Boundary, Leave}
-use Rattle.cc_core.specs.Contexts.{Bind, TermEntry, TypeEntry, Context, lookup, entry_of}
-use Rattle.cc_core.specs.Traversal.{act, act_set, act_type, act_note, act_term}
-use Rattle.cc_core.specs.Substitution.{single, filled_element, filling_in, filled, filled_set, filled_type, filled_term, opened_term, closed, closed_set, putting, put_variable, closed_variable, putting_shape}
-use Rattle.cc_core.specs.Occurrences.{Meets, MeetsInSet, without, bound_within}
+use Rattle.cc_core.specs.Shapes.{Shape, BaseShape, FunctionShape, TypeFunctionShape, BoxShape, ExitShape, CapturingType, capturing}
+use Rattle.cc_core.specs.Terms.{Note, Written, Term, VariableTerm, FunctionTerm, TypeFunctionTerm, BoxTerm, Application, TypeApplication, Unboxing, Let, Conditional, Boundary, Leave}
+use Rattle.cc_core.specs.Contexts.{TermEntry, TypeEntry, Context, lookup, entry_of}
+use Rattle.cc_core.specs.Traversal.{act, act_set, act_note, act_term}
+use Rattle.cc_core.specs.Substitution.{single, filled_element, filling_in, filled, filled_set, filled_term, opened_term, closed, closed_set, putting, put_variable, closed_variable, putting_shape}
 use Rattle.cc_core.specs.Reading.{read_variable, reading, read_set, read_term}
-use Rattle.cc_core.specs.WellFormed.{Kind, TermKind, TypeKind, kinds_of, IsWellFormedType, IsWellFormedShape, IsWellFormedSet}
+use Rattle.cc_core.specs.WellFormed.{Kind, TermKind, kinds_of, IsWellFormedType, IsWellFormedShape}
 use Rattle.cc_core.specs.Captured.{captured_variables, variable_set}
-use Rattle.cc_core.specs.Subcapturing.{Subcaptures, SubcapturesSet}
-use Rattle.cc_core.specs.Subtyping.{Subtypes, SubtypesType, reflexive, transitive, box}
-use Rattle.cc_core.specs.Typing.{base_operated, base_taken, IsNoteOf, HasNoCap, HasTyping, t-var, t-lit, t-abs, t-tabs, t-app, t-tapp, t-box, t-unbox, t-let, t-prim, t-if, t-repeat, t-op, t-op-alone, t-boundary, t-exit, t-sub}
+use Rattle.cc_core.specs.Subcapturing.{SubcapturesSet}
+use Rattle.cc_core.specs.Subtyping.{Subtypes, reflexive, transitive, box}
+use Rattle.cc_core.specs.Typing.{IsNoteOf, HasNoCap, HasTyping, t-var, t-abs, t-tabs, t-app, t-tapp, t-box, t-unbox, t-let, t-if, t-boundary, t-exit, t-sub}
 use Rattle.cc_core.proofs.CapturedActions.{captured_variables-act, PassesBinders-filling_in}
-use Rattle.cc_core.proofs.CapturedKinds.{empty_kinded, captured_variables_kinded}
-use Rattle.cc_core.proofs.KindFacts.{IsOfKind, IsKindedElement, IsKindedSet, IsKinded, IsKindedType, IsKindedNote, IsKindedTerm, IsKinded-test, IsKindedSet-test}
-use Rattle.cc_core.proofs.KindRespecting.{KeepsKinds-filling_in, single_kinded}
+use Rattle.cc_core.proofs.CapturedKinds.{empty_kinded}
+use Rattle.cc_core.proofs.KindFacts.{IsKindedElement, IsKindedSet, IsKinded, IsKindedType, IsKindedNote, IsKinded-test, IsKindedSet-test}
+use Rattle.cc_core.proofs.KindRespecting.{KeepsKinds-filling_in}
 use Rattle.cc_core.proofs.Lookups.{lookup-newest}
 use Rattle.cc_core.proofs.Moving.{flat_image-of_single, Member-single}
 use Rattle.cc_core.proofs.ReadingAndWriting.{opened_term-read, read_set-written}
 use Rattle.cc_core.proofs.Shifting.{shift, shift_term}
 use Rattle.cc_core.proofs.Sorts.{Sort, SetSort, ShapeSort, TypeSort, Syntax, acted, HasKinds, HasKinds-act}
-use Rattle.cc_core.proofs.SubcapturingContexts.{IsKindedContext, IsKinded-added, IsKindedSet-added}
-use Rattle.cc_core.proofs.SubcapturingLemmas.{subcaptures_reflexive, subcaptures_subset}
-use Rattle.cc_sets.specs.Comparison.{Demand, demanded, HasDemands, TypesHaveDemands}
+use Rattle.cc_core.proofs.SubcapturingContexts.{IsKindedContext}
+use Rattle.cc_core.proofs.SubcapturingLemmas.{subcaptures_reflexive}
+use Rattle.cc_sets.specs.Comparison.{Demand, HasDemands, TypesHaveDemands}
 use Rattle.cc_sets.specs.Exposing.{exposed}
 use Rattle.cc_sets.specs.Avoidance.{Positive, avoided_type}
-use Rattle.cc_sets.specs.Outcomes.{Asked, IsBelow, IsCapless}
-use Rattle.cc_sets.specs.Fillings.{Filling, filled_entry, filled_context, IsGlobal, IsOverGlobals}
-use Rattle.cc_sets.specs.Inference.{Result, result, in_context, set_in, shape_in, type_in, written_in, Named, captured_in, function_found, type_function_found, exit_entry}
+use Rattle.cc_sets.specs.Outcomes.{Asked}
+use Rattle.cc_sets.specs.Fillings.{Filling, filled_context, IsGlobal, IsOverGlobals}
+use Rattle.cc_sets.specs.Inference.{Result, in_context, set_in, shape_in, type_in, written_in, Named, function_found, type_function_found, exit_entry}
 use Rattle.cc_meta_typing.proofs.Avoiding.{positive_above}
 use Rattle.cc_meta_typing.proofs.ExposingShapes.{exposed_above}
 use Rattle.cc_meta_typing.proofs.InternalConversions.{formed_type_from, fresh_in, fresh_in_set, closed_in_set}
-use Rattle.cc_meta_checking.proofs.Findings.{Has, its_type, below_all, Operand, Notes, notes-absent, notes-written, notes-own, Finds, finds-variable, finds-literal, finds-function, finds-type_function, finds-box, finds-application, finds-type_application, finds-unboxing, finds-unboxing_own, finds-let, finds-primitive, finds-choice, finds-choice_own, finds-repetition, finds-operation, finds-operation_alone, finds-boundary, finds-exit}
-use Rattle.cc_meta_checking.proofs.ReadingKinds.{Inside, outermost, deeper, inside_length, at_base, read_kinded}
-use Rattle.cc_meta_checking.proofs.FoundTypes.{has_exposed, has_kinded, variable_set_kinded, notes_kinded, left_kinded, regular}
-use Rattle.cc_meta_checking.proofs.LeastFillings.{Member-filled, Member-from_filled, lookup-filled}
+use Rattle.cc_meta_checking.proofs.Findings.{Has, below_all, Operand, Notes, notes-absent, notes-written, notes-own}
+use Rattle.cc_meta_checking.proofs.ReadingKinds.{Inside, inside_length, at_base, read_kinded}
+use Rattle.cc_meta_checking.proofs.FoundTypes.{has_exposed, variable_set_kinded, left_kinded}
+use Rattle.cc_meta_checking.proofs.LeastFillings.{lookup-filled}
 use Rattle.cc_meta_checking.proofs.FilledSyntax.{length-filled, kinds-filled, filled-moved, opening_leaves, reading_leaves, closing_leaves, filled-put_shape, no_index_filled, PassesBinders-reading}
 use Rattle.cc_meta_checking.proofs.FilledSubtyping.{Serves, serves_parts, subtypes_filled, subcaptures_set_filled, shapes_below, types_below}
 

@@ -1,5 +1,5 @@
 -- Inference that finds a type, as a relation with one rule for each form, without places and sizes.
-use Rattle.std.proofs.Common.{◌≡◌, ℕ, ◌+◌, ◌≤◌, Bool, true, List, [], ◌∷◌, ◌++◌, length, Option, Some, None}
+use Rattle.std.proofs.Common.{◌≡◌, ℕ, List, [], ◌∷◌, ◌++◌, length, Some, None}
 use Rattle.std.specs.Prelude.{map}
 use Rattle.cc_base.specs.declared.literal.Base.TheVariants as bases
 use Rattle.cc_base.specs.declared.literal.Base.{Base}
@@ -7,11 +7,11 @@ use Rattle.cc_base.specs.declared.literal.Operator.{Operator}
 use Rattle.cc_base.specs.declared.literal.Op.{Op}
 use Rattle.cc_base.specs.Literals.{Literal}
 use Rattle.cc_capture.specs.declared.var.Var.{Var}
-use Rattle.cc_capture.specs.declared.var.Var.TheVariants.{Bound, Free}
+use Rattle.cc_capture.specs.declared.var.Var.TheVariants.{Free}
 use Rattle.cc_capture.specs.Sets.{Set, empty}
 use Rattle.cc_core.specs.Shapes.{Shape, BaseShape, FunctionShape, TypeFunctionShape, BoxShape, ExitShape, CapturingType, capturing}
 use Rattle.cc_core.specs.Terms.{Note, Absent, Written, Own, Term, VariableTerm, LiteralTerm, FunctionTerm, TypeFunctionTerm, BoxTerm, Application, TypeApplication, Unboxing, Let, Primitive, Conditional, Repetition, Operation, Boundary, Leave}
-use Rattle.cc_core.specs.Contexts.{Bind, TermEntry, TypeEntry, Context, lookup, entry_of}
+use Rattle.cc_core.specs.Contexts.{TermEntry, TypeEntry, Context, lookup, entry_of}
 use Rattle.cc_core.specs.Substitution.{replaced_type, replaced_type_by_shape}
 use Rattle.cc_core.specs.Captured.{variable_set}
 use Rattle.cc_core.specs.Typing.{base_of, base_given, base_operated, base_taken, base_answered}

@@ -1,9 +1,7 @@
 -- All that is asked of a definition is fit for a filling; so what the least filling does not serve, none serves.
-use Rattle.std.proofs.Common.{◌≡◌, ℕ, suc, Bool, true, false, cond, List, [], ◌∷◌, ◌++◌, length, Option, Some, None, refl, sym, ap, ◌∙◌, subst, inl}
-use Rattle.std.specs.Prelude.{map}
+use Rattle.std.proofs.Common.{◌≡◌, ℕ, suc, Bool, true, false, cond, List, [], ◌∷◌, ◌++◌, length, refl, sym, ap, ◌∙◌, subst, inl}
 use Rattle.cc_base.specs.declared.code.Code.{Code}
 use Rattle.cc_base.specs.declared.place.Place.{Place}
-use Rattle.cc_capture.specs.Sets.{Set}
 use Rattle.cc_core.specs.Shapes.{CapturingType, capturing}
 use Rattle.cc_core.specs.Terms.{Note, Absent, Written, Own}
 use Rattle.cc_core.specs.Contexts.{Bind, TermEntry, TypeEntry, Context, entry_of}
@@ -13,9 +11,9 @@ use Rattle.cc_core.specs.WellFormed.{TermKind, kinds_of, is_well_formed_term, Is
 use Rattle.cc_core.proofs.KindFacts.{IsKindedTerm, IsKindedTerm-from, IsKindedNote-from, IsKindedSet-test, IsKindedType}
 use Rattle.cc_core.proofs.SubcapturingContexts.{IsKindedContext, IsKindedContext-from, IsKinded-added, IsKindedSet-added}
 use Rattle.cc_sets.specs.Outcomes.{Asked, IsBelow, IsCapless, Placed, Found}
-use Rattle.cc_sets.specs.Fillings.{Filling, IsAskedIn, IsLeast, IsOverGlobals, FailsFirst}
+use Rattle.cc_sets.specs.Fillings.{Filling, IsLeast, IsOverGlobals, FailsFirst}
 use Rattle.cc_sets.specs.Inference.{limited}
-use Rattle.cc_sets.specs.Verdicts.{Definition, Checking, plain_checked, recursive_checked, checked, IsChecked, HasAlgorithmicType}
+use Rattle.cc_sets.specs.Verdicts.{Definition, Checking, plain_checked, recursive_checked, IsChecked, HasAlgorithmicType}
 use Rattle.cc_meta_typing.proofs.FormedContexts.{IsKindedContext-test}
 use Rattle.cc_meta_checking.specs.FillingLaws.{AreGlobals, IsFit, AreFit}
 use Rattle.cc_meta_checking.specs.CheckingLaws.{Fits}
@@ -25,7 +23,7 @@ use Rattle.cc_meta_checking.proofs.FoundFindings.{asked_of, Came, then_came, fin
 use Rattle.cc_meta_checking.proofs.ReadingKinds.{outermost}
 use Rattle.cc_meta_checking.proofs.FoundTypes.{regular}
 use Rattle.cc_meta_checking.proofs.Signatures.{signed}
-use Rattle.cc_meta_checking.proofs.Tameness.{Tame, TameContext, closed_tame, closed_from, FitsIn, fit_below, types_fit}
+use Rattle.cc_meta_checking.proofs.Tameness.{TameContext, closed_tame, closed_from, fit_below, types_fit}
 use Rattle.cc_meta_checking.proofs.TameFindings.{AskedFits, AllAskedFit, asked_both, demands_asked, notes_tame, tame}
 use Rattle.cc_meta_checking.proofs.OneVerdict.{failed_is_final}
 

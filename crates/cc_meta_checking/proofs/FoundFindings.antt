@@ -1,9 +1,8 @@
 -- What the function finds, the relation finds.
-use Rattle.std.proofs.Common.{◌≡◌, ℕ, ◌+◌, ◌≤◌, Bool, true, false, cond, List, [], ◌∷◌, ◌++◌, length, Option, Some, None, refl, sym, ap, ◌∙◌, subst}
+use Rattle.std.proofs.Common.{◌≡◌, ℕ, Bool, true, false, cond, List, [], ◌∷◌, ◌++◌, Option, Some, None, refl, sym, ap, ◌∙◌, subst}
 use Rattle.std.specs.Prelude.{map}
 use Rattle.cc_base.specs.declared.code.Code.TheVariants.{E13, E17, E18}
 use Rattle.cc_base.specs.declared.place.Place.{Place}
-use Rattle.cc_base.specs.declared.literal.Base.TheVariants as bases
 use Rattle.cc_base.specs.declared.literal.Base.{Base}
 use Rattle.cc_base.specs.declared.literal.Operator.{Operator}
 use Rattle.cc_base.specs.declared.literal.Op.{Op}
@@ -13,19 +12,18 @@ use Rattle.cc_capture.specs.declared.var.Var.TheVariants.{Bound, Free}
 use Rattle.cc_capture.specs.Sets.{Set, empty}
 use Rattle.cc_core.specs.Shapes.{Shape, BaseShape, AnyShape, TypeVariable, FunctionShape, TypeFunctionShape, BoxShape, ExitShape, CapturingType, capturing}
 use Rattle.cc_core.specs.Terms.{Note, Absent, Written, Own, Term, VariableTerm, LiteralTerm, FunctionTerm, TypeFunctionTerm, BoxTerm, Application, TypeApplication, Unboxing, Let, Primitive, Conditional, Repetition, Operation, Boundary, Leave}
-use Rattle.cc_core.specs.Contexts.{Bind, TermEntry, TypeEntry, Context, lookup, entry_of}
+use Rattle.cc_core.specs.Contexts.{Bind, TermEntry, TypeEntry, Context, lookup}
 use Rattle.cc_core.specs.Comparison.{same_shape}
 use Rattle.cc_core.specs.Captured.{variable_set}
 use Rattle.cc_core.specs.Substitution.{replaced_type, replaced_type_by_shape}
 use Rattle.cc_core.specs.Typing.{base_operated, base_taken, base_answered}
 use Rattle.cc_core.specs.Places.{Places, spots, first_part, second_part}
-use Rattle.cc_sets.specs.Comparison.{Demand, demanded, Comparison, Unfinished, Mismatch, Matches, comparison, HasDemands, TypesHaveDemands, type_comparison}
+use Rattle.cc_sets.specs.Comparison.{Demand, demanded, Comparison, Unfinished, Mismatch, Matches, comparison, HasDemands, TypesHaveDemands}
 use Rattle.cc_sets.specs.Exposing.{exposed}
-use Rattle.cc_sets.specs.Avoidance.{Positive, avoided_type}
-use Rattle.cc_sets.specs.Outcomes.{Asked, IsBelow, IsCapless, Placed, placed_at, Outcome, NoAnswer, Refused, Found, finds, asked_before, ◌>>=◌, found_or}
-use Rattle.cc_sets.specs.Inference.{Result, result, Ways, in_context, set_in, shape_in, type_in, written_in, base_type, entry_type, variable_type, Function, TypeFunction, function_head, type_function_head, box_head, exit_head, device_head, demand_at, compared_at, below, against, operand, operation_argument, opening_set, completed_set, capless, Named, named_by, noted, left_behind, part_below, part_against, tested, sized, function_found, inferred}
+use Rattle.cc_sets.specs.Outcomes.{Asked, IsBelow, IsCapless, Placed, Outcome, NoAnswer, Refused, Found, finds, asked_before, ◌>>=◌, found_or}
+use Rattle.cc_sets.specs.Inference.{Result, result, Ways, in_context, set_in, shape_in, written_in, base_type, entry_type, variable_type, Function, TypeFunction, function_head, type_function_head, box_head, exit_head, device_head, demand_at, compared_at, below, against, operand, operation_argument, Named, noted, part_below, part_against, tested, sized, inferred}
 use Rattle.cc_sets.proofs.ShapeEquality.{same_shape-true}
-use Rattle.cc_meta_checking.proofs.Findings.{Has, its_type, below_all, Operand, Notes, notes-absent, notes-written, notes-own, Finds, finds-variable, finds-literal, finds-function, finds-type_function, finds-box, finds-application, finds-type_application, finds-unboxing, finds-unboxing_own, finds-let, finds-primitive, finds-choice, finds-choice_own, finds-repetition, finds-operation, finds-operation_alone, finds-boundary, finds-exit}
+use Rattle.cc_meta_checking.proofs.Findings.{Has, below_all, Operand, Notes, notes-absent, notes-written, notes-own, Finds, finds-variable, finds-literal, finds-function, finds-type_function, finds-box, finds-application, finds-type_application, finds-unboxing, finds-unboxing_own, finds-let, finds-primitive, finds-choice, finds-choice_own, finds-repetition, finds-operation, finds-operation_alone, finds-boundary, finds-exit}
 
 -- what is asked, without the places
 abbrev pub asked_of : List Placed → List Asked

@@ -1,29 +1,29 @@
 -- What is found for a well-formed term is well formed: its type in the context, and the completed term as the term is.
-use Rattle.std.proofs.Common.{◌≡◌, ℕ, zero, suc, List, [], ◌∷◌, ◌++◌, length, Option, Some, None, refl, sym, ap, ◌∙◌, subst}
+use Rattle.std.proofs.Common.{◌≡◌, List, [], ◌∷◌, length, Some, sym, subst}
 use Rattle.cc_capture.specs.declared.var.Var.{Var}
 use Rattle.cc_capture.specs.declared.var.Var.TheVariants.{Bound, Free}
 use Rattle.cc_capture.specs.declared.var.Elem.TheVariants.{Var as Variable, Cap}
-use Rattle.cc_capture.specs.Sets.{Set, empty, union}
+use Rattle.cc_capture.specs.Sets.{Set, union}
 use Rattle.cc_core.specs.Shapes.{Shape, BaseShape, AnyShape, TypeVariable, FunctionShape, TypeFunctionShape, BoxShape, ExitShape, CapturingType, capturing}
-use Rattle.cc_core.specs.Terms.{Note, Absent, Written, Own, Term, VariableTerm, LiteralTerm, FunctionTerm, TypeFunctionTerm, BoxTerm, Application, TypeApplication, Unboxing, Let, Primitive, Conditional, Repetition, Operation, Boundary, Leave}
-use Rattle.cc_core.specs.Contexts.{Bind, TermEntry, TypeEntry, Context, lookup, entry_of}
-use Rattle.cc_core.specs.Substitution.{single, put_variable, putting, putting_shape, replaced_type, replaced_type_by_shape}
+use Rattle.cc_core.specs.Terms.{Note, Term, FunctionTerm, TypeFunctionTerm}
+use Rattle.cc_core.specs.Contexts.{TermEntry, TypeEntry, Context, entry_of}
+use Rattle.cc_core.specs.Substitution.{put_variable, putting, putting_shape}
 use Rattle.cc_core.specs.WellFormed.{Kind, TermKind, TypeKind, kind_of, kinds_of}
-use Rattle.cc_core.specs.Captured.{variable_set, captured_variables}
+use Rattle.cc_core.specs.Captured.{variable_set}
 use Rattle.cc_core.proofs.CapturedKinds.{empty_kinded, union_kinded, captured_variables_kinded}
 use Rattle.cc_core.proofs.KindFacts.{IsOfKind, IsKindedSet, IsKinded, IsKindedType, IsKindedNote, IsKindedTerm, IsKindedSet-test, IsKindedType-from, IsKindedType-test}
 use Rattle.cc_core.proofs.KindRespecting.{MovesKinds-putting, KeepsKinds-moving, KeepsKinds-putting_shape, single_kinded}
 use Rattle.cc_core.proofs.Sorts.{SetSort, ShapeSort, TypeSort, HasKinds-act}
-use Rattle.cc_core.proofs.SubcapturingContexts.{IsKindedEntry, IsKindedContext, IsKinded-added, entry_kinded, kind_of_entry}
+use Rattle.cc_core.proofs.SubcapturingContexts.{IsKindedContext, IsKinded-added, entry_kinded, kind_of_entry}
 use Rattle.cc_sets.specs.Exposing.{followed, exposed}
 use Rattle.cc_sets.specs.Avoidance.{Positive, avoided_type}
 use Rattle.cc_sets.specs.Outcomes.{Asked}
-use Rattle.cc_sets.specs.Inference.{Result, result, in_context, set_in, shape_in, type_in, written_in, Named, captured_in}
+use Rattle.cc_sets.specs.Inference.{Result, in_context, shape_in, type_in, Named}
 use Rattle.cc_meta_typing.proofs.ExposingShapes.{others_stay, followed_kinded}
 use Rattle.cc_meta_typing.proofs.AvoidingPlaces.{scope_left}
 use Rattle.cc_meta_typing.proofs.FormedContexts.{HasKinds-closed, length-kinds_of}
-use Rattle.cc_meta_checking.proofs.Findings.{Has, its_type, Notes, notes-absent, notes-written, notes-own, Finds, finds-variable, finds-literal, finds-function, finds-type_function, finds-box, finds-application, finds-type_application, finds-unboxing, finds-unboxing_own, finds-let, finds-primitive, finds-choice, finds-choice_own, finds-repetition, finds-operation, finds-operation_alone, finds-boundary, finds-exit}
-use Rattle.cc_meta_checking.proofs.ReadingKinds.{Inside, outermost, deeper, reading_moves, read_kinded, written_kinded}
+use Rattle.cc_meta_checking.proofs.Findings.{Has, Notes, notes-absent, notes-written, notes-own, Finds, finds-variable, finds-literal, finds-function, finds-type_function, finds-box, finds-application, finds-type_application, finds-unboxing, finds-unboxing_own, finds-let, finds-primitive, finds-choice, finds-choice_own, finds-repetition, finds-operation, finds-operation_alone, finds-boundary, finds-exit}
+use Rattle.cc_meta_checking.proofs.ReadingKinds.{Inside, deeper, read_kinded, written_kinded}
 
 -- exposing keeps what is well formed
 pub exposed_kinded : (g : Context) (s : Shape) → IsKindedContext g → IsKinded (kinds_of g) [] s → IsKinded (kinds_of g) [] (exposed g s)

@@ -1,9 +1,7 @@
 -- The least filling is below each that serves, and serves where one does.
-use Rattle.std.proofs.Common.{◌≡◌, ◌↔◌, ◌⊎◌, ℕ, zero, suc, ◌+◌, ◌<◌, ◌≤◌, List, [], ◌∷◌, ◌++◌, length, Option, Some, None, refl, sym, ap, ◌∙◌, subst, inl, inr, arith}
-use Rattle.std.specs.Prelude.{map}
+use Rattle.std.proofs.Common.{◌≡◌, ◌↔◌, ◌⊎◌, ℕ, ◌<◌, List, [], ◌∷◌, ◌++◌, length, Option, Some, None, refl, sym, ap, ◌∙◌, subst, inl, inr, arith}
 use Rattle.std.specs.Option.{option_map}
 use Rattle.std.proofs.lemmas.Bool.{cases_lt, cases_eq}
-use Rattle.cc_capture.specs.declared.var.Var.{Var}
 use Rattle.cc_capture.specs.declared.var.Var.TheVariants.{Bound, Free}
 use Rattle.cc_capture.specs.declared.var.Elem.{Elem}
 use Rattle.cc_capture.specs.declared.var.Elem.TheVariants.{Var as Variable, Cap, Hole}
@@ -13,21 +11,21 @@ use Rattle.cc_core.specs.Shapes.{Shape}
 use Rattle.cc_core.specs.Contexts.{Bind, TermEntry, TypeEntry, Context, lookup}
 use Rattle.cc_core.specs.Traversal.{keeping}
 use Rattle.cc_core.specs.Substitution.{single, filled_element, filling_in, filled, filled_set}
-use Rattle.cc_core.specs.Occurrences.{HasNoHole, HasNoHoleInSet, without_holes, agreement, IsNoHole}
+use Rattle.cc_core.specs.Occurrences.{HasNoHoleInSet, without_holes, agreement, IsNoHole}
 use Rattle.cc_core.specs.WellFormed.{TermKind, kinds_of, kind_of}
 use Rattle.cc_core.specs.Subcapturing.{Subcaptures, SubcapturesSet, element, variable}
 use Rattle.cc_core.proofs.Conditions.{GivesHere}
-use Rattle.cc_core.proofs.KindFacts.{IsKindedElement, IsKindedSet, IsKindedSet-from, IsKindedSet-test}
+use Rattle.cc_core.proofs.KindFacts.{IsKindedElement, IsKindedSet-from, IsKindedSet-test}
 use Rattle.cc_core.proofs.KindRespecting.{single_kinded}
 use Rattle.cc_core.proofs.Lookups.{lookup-map, lookup-newest, lookup-older, lookup-cases, length_map}
 use Rattle.cc_core.proofs.Moving.{flat_image-of_single, Member-single, Member-single_itself}
 use Rattle.cc_core.proofs.Sorts.{Sort, SetSort, ShapeSort, Syntax, MeetsIn, MeetsIn-here, acted, acted-congruent, acted-keeping}
-use Rattle.cc_core.proofs.SubcapturingContexts.{IsKindedEntry, IsKindedContext, IsKindedContext-from, entry_of_term, entry_kinded}
+use Rattle.cc_core.proofs.SubcapturingContexts.{IsKindedEntry, IsKindedContext, IsKindedContext-from, entry_of_term}
 use Rattle.cc_core.proofs.SubcapturingLemmas.{subcaptures_reflexive, subcaptures_above, subcaptures_shorter, subcaptures_longer, subcaptures_variable, cap_below}
 use Rattle.cc_sets.specs.Comparison.{Demand}
 use Rattle.cc_sets.specs.Outcomes.{Asked, IsBelow, IsCapless, Placed}
-use Rattle.cc_sets.specs.Fillings.{Filling, filled_entry, filled_context, IsServed, AllServed, IsAskedIn, Comes, global, capability, local, forced, IsForced, IsLeast, IsGlobal, IsOverGlobals}
-use Rattle.cc_meta_checking.specs.FillingLaws.{AreGlobals, IsFit, AreFit, HasHoleAloneOrNone}
+use Rattle.cc_sets.specs.Fillings.{Filling, filled_entry, filled_context, IsServed, AllServed, IsAskedIn, Comes, global, capability, local, forced, IsLeast, IsGlobal, IsOverGlobals}
+use Rattle.cc_meta_checking.specs.FillingLaws.{AreGlobals, AreFit, HasHoleAloneOrNone}
 
 -- what has no hole stays as it is
 no_holes_give : (f : Filling) → GivesHere without_holes (agreement (filling_in f) keeping)

@@ -1,4 +1,6 @@
 pub mod AlikeSignatures
+pub mod CanonicalSets
+pub mod CanonicalShapes
 pub mod CheckedDefinitions
 pub mod FilledSubtyping
 pub mod FilledSyntax
@@ -8,6 +10,7 @@ pub mod Findings
 pub mod FitDemands
 pub mod FoundFindings
 pub mod FoundTypes
+pub mod InferredSizes
 pub mod LeastFillings
 pub mod OneOutcome
 pub mod OneVerdict

@@ -1,12 +1,12 @@
 -- With comparisons of more steps inference comes to the same, once it is at its end. So a term has one outcome.
-use Rattle.std.proofs.Common.{◌≡◌, ◌⊎◌, ℕ, ◌+◌, ◌≤◌, List, [], ◌∷◌, Bool, Option, Some, None, refl, sym, ap, ◌∙◌, subst, inl, inr, arith}
+use Rattle.std.proofs.Common.{◌≡◌, ◌⊎◌, ℕ, ◌+◌, ◌≤◌, [], ◌∷◌, Bool, Option, Some, None, refl, sym, ap, ◌∙◌, subst, inl, inr, arith}
 use Rattle.cc_base.specs.declared.place.Place.{Place}
 use Rattle.cc_base.specs.declared.literal.Base.{Base}
 use Rattle.cc_capture.specs.declared.var.Var.{Var}
 use Rattle.cc_core.specs.Shapes.{Shape, CapturingType}
 use Rattle.cc_core.specs.Terms.{Note, Absent, Written, Own, Term, VariableTerm, LiteralTerm, FunctionTerm, TypeFunctionTerm, BoxTerm, Application, TypeApplication, Unboxing, Let, Primitive, Conditional, Repetition, Operation, Boundary, Leave}
 use Rattle.cc_core.specs.Contexts.{Context}
-use Rattle.cc_core.specs.Places.{Places, spots, first_part, second_part}
+use Rattle.cc_core.specs.Places.{Places, first_part, second_part}
 use Rattle.cc_sets.specs.Comparison.{demanded, Comparison, Matches, Comparing, comparison}
 use Rattle.cc_sets.specs.Outcomes.{Outcome, NoAnswer, Refused, Found, asked_before, ◌>>=◌}
 use Rattle.cc_sets.specs.Inference.{Result, Ways, compared_at, below, against, operand, operation_argument, noted, part_below, part_against, sized, inferred, limited, Infers}

@@ -1,8 +1,8 @@
 -- A definition has one verdict, and what is refused has no algorithmic type under any filling.
-use Rattle.std.proofs.Common.{◌≡◌, ◌⊎◌, ℕ, suc, ◌+◌, ◌≤◌, Bool, true, false, cond, List, [], ◌∷◌, ◌++◌, length, Option, Some, None, refl, sym, ap, ◌∙◌, subst, inl, inr, arith}
+use Rattle.std.proofs.Common.{◌≡◌, ◌⊎◌, ℕ, suc, ◌+◌, ◌≤◌, Bool, true, false, cond, List, [], ◌∷◌, ◌++◌, length, refl, sym, ap, ◌∙◌, subst, inl, inr, arith}
 use Rattle.cc_base.specs.declared.code.Code.{Code}
 use Rattle.cc_base.specs.declared.place.Place.{Place}
-use Rattle.cc_core.specs.Shapes.{CapturingType, capturing}
+use Rattle.cc_core.specs.Shapes.{CapturingType}
 use Rattle.cc_core.specs.Terms.{Note, Absent, Written, Own}
 use Rattle.cc_core.specs.Contexts.{Context, entry_of}
 use Rattle.cc_core.specs.Places.{spots}
@@ -10,7 +10,7 @@ use Rattle.cc_sets.specs.Comparison.{comparison}
 use Rattle.cc_sets.specs.Outcomes.{Placed, Outcome, NoAnswer, Refused, Found}
 use Rattle.cc_sets.specs.Fillings.{Filling, IsServed, AllServed, IsLeast, IsOverGlobals, FailsFirst, code_of_failure}
 use Rattle.cc_sets.specs.Inference.{limited}
-use Rattle.cc_sets.specs.Verdicts.{Definition, Checking, plain_checked, recursion_checked, recursive_checked, checked, IsChecked, Verdict, IsAccepted, IsRefused, signature_under, signature_verdict, Deserves, HasVerdict, HasAlgorithmicType}
+use Rattle.cc_sets.specs.Verdicts.{Definition, Checking, plain_checked, recursion_checked, recursive_checked, checked, IsChecked, Verdict, IsRefused, signature_under, signature_verdict, Deserves, HasVerdict, HasAlgorithmicType}
 use Rattle.cc_meta_typing.proofs.ComparisonLemmas.{comparison_keeps}
 use Rattle.cc_meta_checking.specs.FillingLaws.{AreFit}
 use Rattle.cc_meta_checking.proofs.OneOutcome.{Stays, stays_then, stays_below, stays_noted, inferred_stays, same_once}

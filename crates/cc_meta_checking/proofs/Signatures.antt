@@ -1,24 +1,22 @@
 -- Signatures: avoiding the imports and the earlier definitions gives a type above, over the devices alone, and puts in no hole.
-use Rattle.std.proofs.Common.{◌≡◌, ℕ, suc, ◌<◌, ◌≤◌, Bool, true, false, cond, List, [], ◌∷◌, length, Option, Some, None, refl, sym, ap, ◌∙◌, subst, inl, inr}
+use Rattle.std.proofs.Common.{◌≡◌, ℕ, suc, Bool, true, false, cond, [], ◌∷◌, length, Option, Some, None, refl, sym, subst, inl, inr}
 use Rattle.std.specs.Prelude.{nat_lt}
 use Rattle.std.specs.Option.{option_map, option_and_then}
 use Rattle.cc_capture.specs.declared.var.Var.TheVariants.{Free}
-use Rattle.cc_capture.specs.declared.var.Elem.{Elem}
-use Rattle.cc_capture.specs.declared.var.Elem.TheVariants.{Var as Variable, Cap, Hole}
-use Rattle.cc_capture.specs.Sets.{Set, Member, empty, remove, union}
-use Rattle.cc_capture.proofs.Membership.{Member-union, Member-remove, Member-empty}
-use Rattle.cc_core.specs.Shapes.{Shape, BaseShape, AnyShape, TypeVariable, FunctionShape, TypeFunctionShape, BoxShape, ExitShape, CapturingType, capturing}
-use Rattle.cc_core.specs.Contexts.{Bind, TermEntry, TypeEntry, Context, lookup, entry_of}
-use Rattle.cc_core.specs.Occurrences.{HasNoHole, HasNoHoleInSet, HasNoHoleInType, Meets, MeetsInType, without_holes, IsNoHole}
-use Rattle.cc_core.specs.Subcapturing.{SubcapturesSet}
-use Rattle.cc_core.specs.Subtyping.{Subtypes, SubtypesType, reflexive, transitive}
-use Rattle.cc_core.specs.WellFormed.{kinds_of, kind_of, IsWellFormedType}
-use Rattle.cc_core.proofs.KindFacts.{IsKindedSet, IsKindedType, IsKindedType-from, IsKindedType-test, IsKindedSet-test}
+use Rattle.cc_capture.specs.declared.var.Elem.TheVariants.{Var as Variable}
+use Rattle.cc_capture.specs.Sets.{Set, remove, union}
+use Rattle.cc_capture.proofs.Membership.{Member-union, Member-remove}
+use Rattle.cc_core.specs.Shapes.{Shape, BaseShape, AnyShape, TypeVariable, FunctionShape, TypeFunctionShape, BoxShape, ExitShape, CapturingType}
+use Rattle.cc_core.specs.Contexts.{Bind, TermEntry, TypeEntry, Context, lookup}
+use Rattle.cc_core.specs.Occurrences.{HasNoHoleInSet, HasNoHoleInType, Meets, without_holes, IsNoHole}
+use Rattle.cc_core.specs.Subtyping.{SubtypesType, reflexive, transitive}
+use Rattle.cc_core.specs.WellFormed.{kinds_of, IsWellFormedType}
+use Rattle.cc_core.proofs.KindFacts.{IsKindedType, IsKindedType-from, IsKindedType-test, IsKindedSet-test}
 use Rattle.cc_core.proofs.Lookups.{lookup-newest, lookup-older}
 use Rattle.cc_core.proofs.SubcapturingContexts.{IsKindedContext, entry_kinded}
 use Rattle.cc_core.proofs.SubcapturingLemmas.{subcaptures_reflexive, subcaptures_transitive}
-use Rattle.cc_sets.specs.Avoidance.{Sign, Positive, Negative, opposite, has_position, avoided_set, avoided, avoided_type, with_both, unless_free, is_free_in}
-use Rattle.cc_sets.specs.Verdicts.{declared_set, signature_of}
+use Rattle.cc_sets.specs.Avoidance.{Sign, Positive, Negative, opposite, has_position, avoided_set, avoided, avoided_type, is_free_in}
+use Rattle.cc_sets.specs.Verdicts.{signature_of}
 use Rattle.cc_meta_typing.proofs.Avoiding.{both_some, map_some, unless_some, avoided_type_parts, positive_above}
 use Rattle.cc_meta_typing.proofs.AvoidingPlaces.{well_formedness_kept, scope_left}
 use Rattle.cc_meta_typing.proofs.InternalConversions.{closed_in_set}

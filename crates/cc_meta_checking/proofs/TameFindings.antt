@@ -1,6 +1,6 @@
 -- What inference finds is tame, and what it asks is fit for a filling.
-use Rattle.std.proofs.Common.{◌≡◌, ◌⊎◌, ℕ, zero, suc, Bool, true, false, cond, List, [], ◌∷◌, ◌++◌, length, Option, Some, None, refl, sym, ap, ◌∙◌, subst, inl, inr}
-use Rattle.std.specs.Prelude.{nat_eq, not, ◌&&◌}
+use Rattle.std.proofs.Common.{◌≡◌, ℕ, zero, suc, Bool, true, false, cond, List, [], ◌∷◌, ◌++◌, length, Some, None, refl, sym, ap, ◌∙◌, subst, inl, inr}
+use Rattle.std.specs.Prelude.{nat_eq}
 use Rattle.std.specs.Option.{option_map}
 use Rattle.cc_base.specs.declared.literal.Base.TheVariants as bases
 use Rattle.cc_capture.specs.declared.var.Var.{Var}
@@ -10,29 +10,29 @@ use Rattle.cc_capture.specs.declared.var.Elem.TheVariants.{Var as Variable, Cap,
 use Rattle.cc_capture.specs.Sets.{Set, Member, empty, remove, union}
 use Rattle.cc_capture.proofs.Membership.{Member-flat_image, Member-union, Member-empty, Member-remove, same_members}
 use Rattle.cc_core.specs.Shapes.{Shape, BaseShape, AnyShape, TypeVariable, FunctionShape, TypeFunctionShape, BoxShape, ExitShape, CapturingType, capturing}
-use Rattle.cc_core.specs.Terms.{Note, Absent, Written, Own, Term, VariableTerm, LiteralTerm, FunctionTerm, TypeFunctionTerm, BoxTerm, Application, TypeApplication, Unboxing, Let, Primitive, Conditional, Repetition, Operation, Boundary, Leave}
-use Rattle.cc_core.specs.Contexts.{Bind, TermEntry, TypeEntry, Context, lookup, entry_of}
+use Rattle.cc_core.specs.Terms.{Note, Term, VariableTerm, LiteralTerm, FunctionTerm, TypeFunctionTerm, BoxTerm, Application, TypeApplication, Unboxing, Let, Primitive, Conditional, Repetition, Operation, Boundary, Leave}
+use Rattle.cc_core.specs.Contexts.{Bind, TermEntry, TypeEntry, Context, entry_of}
 use Rattle.cc_core.specs.Substitution.{single, moving, put_variable, closed_variable, putting_shape}
 use Rattle.cc_core.specs.Reading.{read_variable, written_variable}
 use Rattle.cc_core.specs.Occurrences.{IsNoHole, HasNoHole, HasNoHoleInSet, Meets, without_holes}
 use Rattle.cc_core.specs.WellFormed.{Kind, TermKind, kinds_of}
-use Rattle.cc_core.specs.Captured.{captured_variables, variable_set, without_binder, outside, is_unused_value, optional_variable_set}
+use Rattle.cc_core.specs.Captured.{captured_variables, variable_set, without_binder, outside, is_unused_value}
 use Rattle.cc_core.proofs.CapturedKinds.{empty_kinded}
-use Rattle.cc_core.proofs.KindFacts.{IsKindedSet, IsKinded, IsKindedType, IsKindedNote, IsKindedTerm}
+use Rattle.cc_core.proofs.KindFacts.{IsKinded, IsKindedType, IsKindedNote, IsKindedTerm}
 use Rattle.cc_core.specs.Traversal.{act, act_set}
 use Rattle.cc_core.proofs.KindRespecting.{single_kinded}
-use Rattle.cc_core.proofs.Moving.{Member-single, Member-single_itself}
-use Rattle.cc_core.proofs.Sorts.{SetSort, ShapeSort, TypeSort}
-use Rattle.cc_core.proofs.SubcapturingContexts.{IsKindedContext, IsKinded-added, IsKindedSet-added}
-use Rattle.cc_sets.specs.Comparison.{Demand, demanded, HasDemands, TypesHaveDemands}
+use Rattle.cc_core.proofs.Moving.{Member-single}
+use Rattle.cc_core.proofs.Sorts.{ShapeSort, TypeSort}
+use Rattle.cc_core.proofs.SubcapturingContexts.{IsKindedContext, IsKinded-added}
+use Rattle.cc_sets.specs.Comparison.{Demand, demanded, TypesHaveDemands}
 use Rattle.cc_sets.specs.Exposing.{followed, exposed}
-use Rattle.cc_sets.specs.Avoidance.{Positive, Negative, avoided, avoided_set, avoided_type, with_both, is_free_in, unless_free}
+use Rattle.cc_sets.specs.Avoidance.{Positive, Negative, avoided, avoided_set, is_free_in}
 use Rattle.cc_sets.specs.Outcomes.{Asked, IsBelow, IsCapless}
-use Rattle.cc_sets.specs.Inference.{Result, result, in_context, set_in, shape_in, type_in, written_in, Named, captured_in, exit_entry}
+use Rattle.cc_sets.specs.Inference.{Result, in_context, set_in, shape_in, type_in, written_in, Named, exit_entry}
 use Rattle.cc_meta_typing.proofs.Avoiding.{both_some, map_some, unless_some, avoided_type_parts}
 use Rattle.cc_meta_checking.specs.FillingLaws.{HasHoleAloneOrNone}
 use Rattle.cc_meta_checking.specs.Holes.{NoteHasNoHole, HolesAreOfParameters}
-use Rattle.cc_meta_checking.proofs.Findings.{Has, its_type, below_all, Operand, Notes, notes-absent, notes-written, notes-own, Finds, finds-variable, finds-literal, finds-function, finds-type_function, finds-box, finds-application, finds-type_application, finds-unboxing, finds-unboxing_own, finds-let, finds-primitive, finds-choice, finds-choice_own, finds-repetition, finds-operation, finds-operation_alone, finds-boundary, finds-exit}
+use Rattle.cc_meta_checking.proofs.Findings.{Has, below_all, Operand, Notes, notes-absent, notes-written, notes-own, Finds, finds-variable, finds-literal, finds-function, finds-type_function, finds-box, finds-application, finds-type_application, finds-unboxing, finds-unboxing_own, finds-let, finds-primitive, finds-choice, finds-choice_own, finds-repetition, finds-operation, finds-operation_alone, finds-boundary, finds-exit}
 use Rattle.cc_meta_checking.proofs.ReadingKinds.{Inside, outermost, deeper, read_kinded}
 use Rattle.cc_meta_checking.proofs.FoundTypes.{has_exposed, has_kinded, variable_set_kinded, notes_kinded, regular}
 use Rattle.cc_meta_checking.proofs.Signatures.{avoided_set_closed, avoided_closed}

@@ -1,25 +1,24 @@
 -- Holes stand alone as sets of parameters, and nowhere else: what actions and comparisons make of such shapes.
-use Rattle.std.proofs.Common.{◌≡◌, ◌⊎◌, ℕ, zero, suc, Bool, true, false, cond, List, [], ◌∷◌, ◌++◌, length, Option, Some, None, refl, sym, ap, ◌∙◌, subst, inl, inr, append_assoc}
+use Rattle.std.proofs.Common.{◌≡◌, ℕ, zero, suc, Bool, true, false, cond, List, [], ◌∷◌, ◌++◌, length, Option, Some, None, refl, sym, ap, ◌∙◌, subst, inl, inr, append_assoc}
 use Rattle.cc_capture.specs.declared.var.Var.{Var}
 use Rattle.cc_capture.specs.declared.var.Var.TheVariants.{Bound, Free}
 use Rattle.cc_capture.specs.declared.var.Elem.{Elem}
 use Rattle.cc_capture.specs.declared.var.Elem.TheVariants.{Var as Variable, Cap, Hole}
-use Rattle.cc_capture.specs.Sets.{Set, Member, empty}
+use Rattle.cc_capture.specs.Sets.{Set}
 use Rattle.cc_capture.proofs.Membership.{Member-flat_image}
 use Rattle.cc_core.specs.Shapes.{Shape, BaseShape, AnyShape, TypeVariable, FunctionShape, TypeFunctionShape, BoxShape, ExitShape, CapturingType, capturing}
 use Rattle.cc_core.specs.Contexts.{Bind, TermEntry, TypeEntry, Context, lookup}
 use Rattle.cc_core.specs.Traversal.{Action, act, act_set}
-use Rattle.cc_core.specs.Substitution.{single, moved_element, moving, put_variable, putting_shape, opened, opened_set, opened_type, put_shape}
+use Rattle.cc_core.specs.Substitution.{single, moved_element, moving, put_variable, putting_shape, opened_type, put_shape}
 use Rattle.cc_core.specs.Occurrences.{IsNoHole, HasNoHoleInSet, Meets, without_holes}
 use Rattle.cc_core.specs.Comparison.{same_shape}
-use Rattle.cc_core.specs.WellFormed.{TermKind, TypeKind, kinds_of, kind_of}
+use Rattle.cc_core.specs.WellFormed.{kinds_of}
 use Rattle.std.specs.Prelude.{nat_eq}
 use Rattle.cc_core.proofs.KindFacts.{IsKindedSet, IsKinded, IsKindedType}
 use Rattle.cc_core.proofs.Lookups.{lookup-cases}
-use Rattle.cc_core.proofs.Moving.{Member-single, Member-single_itself, flat_image-of_single}
-use Rattle.cc_core.proofs.Sorts.{TypeSort, ShapeSort}
+use Rattle.cc_core.proofs.Moving.{Member-single, flat_image-of_single}
+use Rattle.cc_core.proofs.Sorts.{TypeSort}
 use Rattle.cc_core.proofs.SubcapturingContexts.{IsKindedContext, entry_kinded}
-use Rattle.cc_sets.proofs.ShapeEquality.{same_shape-true}
 use Rattle.cc_sets.specs.Comparison.{Demand, Comparison, Mismatch, Matches, Comparing, types_compared, bound_in, bound_compared, function_compared, type_function_compared, box_compared, is_any, by_form, comparison}
 use Rattle.cc_meta_typing.proofs.ComparisonLemmas.{then_parts}
 use Rattle.cc_meta_typing.proofs.FormedContexts.{opened_kinded}

@@ -1,25 +1,25 @@
 -- The worked verdicts: what is asked by computation, and then the first demand that fails.
-use Rattle.std.proofs.Common.{◌≡◌, ◌↔◌, ◌⊎◌, ℕ, List, [], ◌∷◌, ◌++◌, Some, refl, sym, ap, subst, inl, inr}
+use Rattle.std.proofs.Common.{◌≡◌, ℕ, List, [], ◌∷◌, ◌++◌, Some, refl, sym, subst, inl, inr}
 use Rattle.cc_base.specs.declared.literal.Base.TheVariants as bases
 use Rattle.cc_capture.specs.declared.var.Var.TheVariants.{Free}
 use Rattle.cc_capture.specs.declared.var.Elem.{Elem}
 use Rattle.cc_capture.specs.declared.var.Elem.TheVariants.{Var as Variable, Cap, Hole}
 use Rattle.cc_capture.specs.Elements.{element_order, same_element}
 use Rattle.cc_capture.specs.Rising.{placed}
-use Rattle.cc_capture.specs.Sets.{Set, Member, contains, empty, insert, from_list, retain, remove, union, flat_image, same_set}
+use Rattle.cc_capture.specs.Sets.{Set, Member, contains, empty, insert, from_list, retain, remove, union, flat_image}
 use Rattle.cc_capture.proofs.Membership.{Member-empty}
 use Rattle.cc_core.specs.Shapes.{Shape, BaseShape}
 use Rattle.cc_core.specs.Contexts.{TermEntry, Context, lookup}
 use Rattle.cc_core.specs.Substitution.{single, filled_element, filled_set}
-use Rattle.cc_core.specs.Subcapturing.{Subcaptures, SubcapturesSet, element, variable}
-use Rattle.cc_core.proofs.Moving.{Member-single, Member-single_itself, flat_image-of_single}
+use Rattle.cc_core.specs.Subcapturing.{Subcaptures, SubcapturesSet, variable}
+use Rattle.cc_core.proofs.Moving.{Member-single, Member-single_itself}
 use Rattle.cc_core.proofs.SubcapturingLemmas.{subcaptures_variable, cap_below}
-use Rattle.cc_sets.specs.Comparison.{Demand, demanded, comparison, by_form}
-use Rattle.cc_sets.specs.Outcomes.{Asked, IsBelow, IsCapless, Placed, Found, ◌>>=◌}
-use Rattle.cc_sets.specs.Fillings.{Filling, filled_context, IsServed, AllServed, IsAskedIn, Comes, global, capability, local, forced, IsLeast, FailsFirst}
+use Rattle.cc_sets.specs.Comparison.{demanded}
+use Rattle.cc_sets.specs.Outcomes.{Asked, IsBelow, IsCapless, Placed, Found}
+use Rattle.cc_sets.specs.Fillings.{Filling, filled_context, IsServed, IsAskedIn, Comes, global, capability, local, forced, IsLeast}
 use Rattle.cc_sets.specs.Examples.{first, third, with_console, nothing}
 use Rattle.cc_sets.specs.Inference.{captured_in}
-use Rattle.cc_sets.specs.ExampleChecks.{place, console_given, asked_of_console_given, box_of_cap_opened, asked_of_box_of_cap_opened, printing_again, with_printing_again, asked_of_printing_again}
+use Rattle.cc_sets.specs.ExampleChecks.{asked_of_console_given, asked_of_box_of_cap_opened, printing_again, with_printing_again, asked_of_printing_again}
 use Rattle.cc_sets.proofs.ComputedChecks.{console_given_asks_three, opening_asks_for_a_set_without_cap, recursion_has_its_signature}
 use Rattle.cc_meta_checking.proofs.LeastFillings.{Member-from_filled}
 use Rattle.cc_meta_checking.specs.ExampleVerdicts.{ConsoleGivenIsRefused, BoxOfCapIsRefused, PrintingAgainIsRefused}

@@ -1,5 +1,5 @@
 -- The laws of checking a definition.
-use Rattle.std.specs.Prelude.{◌≡◌, ℕ, nat_lt, Bool, true, false, List, [], ◌∷◌, length, IsTrue, if◌then◌else◌}
+use Rattle.std.specs.Prelude.{◌≡◌, ℕ, nat_lt, Bool, List, [], ◌∷◌, length, IsTrue, if◌then◌else◌}
 use Rattle.cc_core.specs.Shapes.{CapturingType}
 use Rattle.cc_core.specs.Contexts.{Context, entry_of}
 use Rattle.cc_core.specs.Occurrences.{MeetsInNote, without_holes, HasNoHoleInType, HasNoHoleInTerm}
@@ -19,8 +19,8 @@ use Rattle.cc_meta_checking.specs.FillingLaws.{AreGlobals, AreFit}
 abbrev pub visible_kinds : Bool → Context → List Kind
 visible_kinds recursive globals = if recursive then TermKind ∷ kinds_of globals else kinds_of globals
 
--- The definition fits the globals: they are variables of terms without holes, and what is written and the right side are
--- well formed; what is written has no hole.
+-- The definition fits the globals: they are variables of terms without holes, and what is written and the right side
+-- are well formed; what is written has no hole.
 pub record Fits (globals : Context) (definition : Definition) : Type 0 where
   pub formed : IsWellFormedContext globals
   pub globals_alone : AreGlobals globals

@@ -1,6 +1,6 @@
 -- Worked verdicts. The definitions, with their texts and places, are those of the examples of checking.
-use Rattle.std.specs.Prelude.{ℕ, []}
-use Rattle.cc_base.specs.declared.code.Code.TheVariants.{E13, E15, E16}
+use Rattle.std.specs.Prelude.{[]}
+use Rattle.cc_base.specs.declared.code.Code.TheVariants.{E15, E16}
 use Rattle.cc_sets.specs.Examples.{with_console}
 use Rattle.cc_sets.specs.Verdicts.{IsRefused, HasVerdict}
 use Rattle.cc_sets.specs.ExampleChecks.{place, console_given, box_of_cap_opened, printing_again}

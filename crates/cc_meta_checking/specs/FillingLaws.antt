@@ -2,8 +2,7 @@
 use Rattle.std.specs.Prelude.{◌≡◌, ◌⊎◌, ℕ, List, [], ◌∷◌, ◌++◌, length}
 use Rattle.cc_capture.specs.declared.var.Elem.TheVariants.{Hole}
 use Rattle.cc_capture.specs.Sets.{Set}
-use Rattle.cc_core.specs.Shapes.{Shape}
-use Rattle.cc_core.specs.Contexts.{Bind, TermEntry, TypeEntry, Context}
+use Rattle.cc_core.specs.Contexts.{TermEntry, TypeEntry, Context}
 use Rattle.cc_core.specs.Substitution.{single}
 use Rattle.cc_core.specs.Occurrences.{HasNoHole, HasNoHoleInSet}
 use Rattle.cc_core.specs.WellFormed.{IsWellFormedContext, IsWellFormedSet}
@@ -21,8 +20,8 @@ AreGlobals (TypeEntry bound ∷ older) = ⊥
 abbrev pub HasHoleAloneOrNone : Set → Type 0
 HasHoleAloneOrNone set = HasNoHoleInSet set ⊎ ((hole : ℕ) × (set ≡ single (Hole hole)))
 
--- what is asked is fit for a filling: a demand has the globals at the bottom of its context, is well formed, and its right
--- side has no hole or is one hole alone
+-- what is asked is fit for a filling: a demand has the globals at the bottom of its context, is well formed, and its
+-- right side has no hole or is one hole alone
 abbrev pub IsFit : Context → Asked → Type 0
 IsFit globals (IsBelow demand) =
     ((later : Context) × (demand.context ≡ later ++ globals)) × IsWellFormedContext demand.context

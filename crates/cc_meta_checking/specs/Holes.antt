@@ -1,5 +1,5 @@
 -- Where holes stand in a right side: each is the whole set of a function's parameter.
-use Rattle.std.specs.Prelude.{zero, Option, Some, None}
+use Rattle.std.specs.Prelude.{Option, Some, None}
 use Rattle.cc_capture.specs.Sets.{Set}
 use Rattle.cc_core.specs.Terms.{Note, Absent, Written, Own, Term, VariableTerm, LiteralTerm, FunctionTerm}
 use Rattle.cc_core.specs.Terms.{TypeFunctionTerm, BoxTerm, Application, TypeApplication, Unboxing, Let, Primitive}

@@ -1,3 +1,4 @@
+pub mod CanonicalLaws
 pub mod CheckingLaws
 pub mod ExampleVerdicts
 pub mod FillingLaws

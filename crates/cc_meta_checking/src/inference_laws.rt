@@ -5,3 +5,8 @@ ghost use Rattle.cc_meta_checking.specs.InferenceLaws as law;
 pub fn one_outcome()
     ensures { law.OutcomesAreUnique }
 {}
+
+/// No type that is inferred is larger than the greatest size.
+pub fn sizes()
+    ensures { law.InferredTypesAreNotTooLarge }
+{}

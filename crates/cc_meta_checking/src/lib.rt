@@ -1,7 +1,9 @@
-//! The laws of checking, apart from any code: inference has at most one answer. The functions do nothing; each has a law as
-//! its contract.
+//! The laws of checking, apart from any code: inference has at most one outcome, the least filling is below each that serves,
+//! an accepted definition has its signature's type, and a refused one has no algorithmic type under any filling. The functions
+//! do nothing; each has a law as its contract.
 #![tactic(auto)]
 
+pub mod canonical_laws;
 pub mod checking_laws;
 pub mod example_verdicts;
 pub mod filling_laws;

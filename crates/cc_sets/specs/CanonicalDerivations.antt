@@ -1,6 +1,6 @@
--- The canonical derivation: of all derivations of what inference finds, the one in which each comparison goes by its two
--- trees, and a term's type is widened only where it was compared, exposed or avoided. It is a tree for any input; what does
--- not match has a node that is no instance of its rule.
+-- The canonical derivation: of all derivations of what inference finds, the one in which each comparison goes by its
+-- two trees, and a term's type is widened only where it was compared, exposed or avoided. It is a tree for any input;
+-- what does not match has a node that is no instance of its rule.
 use Rattle.std.specs.Prelude.{ℕ, zero, suc, nat_eq, List, [], ◌∷◌, length, Option, Some, None}
 use Rattle.std.specs.Prelude.{if◌then◌else◌}
 use Rattle.cc_base.specs.declared.literal.Base.{Base}
@@ -54,8 +54,8 @@ derived_at deeper (TermEntry shape declared) position right (Variable (Free othe
     else deeper (Variable (Free other))
 derived_at deeper _ position right e = deeper e
 
--- An element is below a set since it is a member, or else by its declared set. It is done entry by entry, the newest first,
--- since a declared set names older entries alone.
+-- An element is below a set since it is a member, or else by its declared set. It is done entry by entry, the newest
+-- first, since a declared set names older entries alone.
 abbrev pub element_derived : Context → Set → Elem → Derivation
 element_derived [] right e = member_derived right e
 element_derived (entry ∷ older) right e =
@@ -348,8 +348,8 @@ term_derived derive context (Leave gives c exit value) =
     exit_derived derive context (type_in context (capturing gives c)) (in_context context exit)
     (in_context context value) (exposed context (shape_at context (in_context context exit)))
 
--- The canonical derivation of a definition's right side, with what was written for its type: it is widened to its signature
--- where that differs.
+-- The canonical derivation of a definition's right side, with what was written for its type: it is widened to its
+-- signature where that differs.
 abbrev pub definition_derived : Deriving → Context → Note → Term → CapturingType → Derivation
 definition_derived derive context note filled signature =
     raised_if derive context (noted_derived derive context note (term_derived derive context filled)) signature

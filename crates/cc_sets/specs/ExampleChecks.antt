@@ -1,5 +1,5 @@
--- Worked examples of inference and of checking definitions. A definition is given as its text in a comment, with the places of
--- that text, as LINE:COL.
+-- Worked examples of inference and of checking definitions. A definition is given as its text in a comment, with the
+-- places of that text, as LINE:COL.
 use Rattle.std.specs.Prelude.{◌≡◌, ℕ, pos, false, true, List, [], ◌∷◌, Some, None}
 use Rattle.cc_base.specs.Literals.{UnitLiteral, NumberLiteral}
 use Rattle.cc_base.specs.declared.code.Code.TheVariants.{E13, E14, E17}
@@ -70,7 +70,8 @@ ConsoleIsNoUnit =
     (Refused E14 (place 1 28))
 
 -- def k: (x: Unit) -> Console = fun (x: Unit) => out
--- The shapes match. The set of the function is asked to be below the empty one, then what it takes, and then what it gives.
+-- The shapes match. The set of the function is asked to be below the empty one, then what it takes, and then what it
+-- gives.
 abbrev pub console_given : Definition
 console_given =
     defined (Written (from_nothing console empty) empty) (FunctionTerm nothing empty (VariableTerm (Free 0)))
@@ -102,7 +103,8 @@ UnitIsNoFunction =
     (Refused E13 (place 1 26))
 
 -- def a = fun (x: Box[Int]) => unbox {cap} x
--- The set of the content is asked to be below the one that is written, and that one to be without the universal capability.
+-- The set of the content is asked to be below the one that is written, and that one to be without the universal
+-- capability.
 abbrev pub box_of_cap_opened : Definition
 box_of_cap_opened =
     defined Absent (FunctionTerm (BoxShape number empty) empty (Unboxing (Some (single Cap)) (Bound 0)))
@@ -215,7 +217,8 @@ IdentityHasTwoNodes =
     (OfType (capturing (FunctionShape nothing empty nothing (single parameter)) empty))
 
 -- def f: ((x: Int) -> Unit)^{out} = fun (x: Int) => out.print(x)
--- Its canonical derivation has fourteen nodes: nine for the function, of which the argument of print takes six, and its type
+-- Its canonical derivation has fourteen nodes: nine for the function, of which the argument of print takes six, and
+-- its type
 -- compared with the one that is written.
 abbrev pub printer : Term
 printer = FunctionTerm number empty (Operation operations.Print (Free 0) (Some (Bound 0)))

@@ -28,8 +28,8 @@ filled_entry filling (TypeEntry bound) = TypeEntry (filled filling bound)
 abbrev pub filled_context : Filling → Context → Context
 filled_context filling context = map (filled_entry filling) context
 
--- The filling serves what is asked: with the holes filled in the context and in the sets, the one set is below the other, or
--- the set has no universal capability.
+-- The filling serves what is asked: with the holes filled in the context and in the sets, the one set is below the
+-- other, or the set has no universal capability.
 abbrev pub IsServed : Filling → Asked → Type 0
 IsServed filling (IsBelow demand) =
     SubcapturesSet (filled_context filling demand.context) (filled_set filling demand.left)
@@ -47,9 +47,10 @@ IsAskedIn list asked =
     (before : List Placed) × (placed : Placed) × (after : List Placed) × (list ≡ before ++ placed ∷ after)
     × (placed.asked ≡ asked)
 
--- The element comes from another, which stands in a context: a global position, below the root, and the universal capability
--- by themselves; from a local variable what comes from its declared set; and from a hole what is forced into that hole. An
--- element is forced into a hole where the hole alone is to be above a set that the element comes from.
+-- The element comes from another, which stands in a context: a global position, below the root, and the universal
+-- capability by themselves; from a local variable what comes from its declared set; and from a hole what is forced
+-- into that hole. An element is forced into a hole where the hole alone is to be above a set that the element comes
+-- from.
 pub data Comes (root : ℕ) (asked : List Placed) : Context → Elem → Elem → Type 0 where
   global : {context : Context} {position : ℕ} → position < root
       → Comes root asked context (Variable (Free position)) (Variable (Free position))

@@ -145,8 +145,8 @@ operation_argument compare at context (Some base) None = Refused E14 at
 operation_argument compare at context None (Some variable) = Refused E14 at
 operation_argument compare at context None None = finds tt
 
--- The set under which a box is opened. The set of the content has to be below one that is written, and one that is omitted
--- is the set of the content.
+-- The set under which a box is opened. The set of the content has to be below one that is written, and one that is
+-- omitted is the set of the content.
 abbrev pub opening_set : Place → Context → Set → Option Set → Outcome Set
 opening_set at context content (Some set) =
     Found (set_in context set) (demand_at at (demanded context content (set_in context set)) ∷ [])
@@ -170,8 +170,8 @@ pub record Named : Type 0 where
 abbrev pub named_by : CapturingType → Note → Named
 named_by type note = record { type = type; note = note }
 
--- A type that was found, where a type may be written for it: the written one has to be above it. Where the set is omitted the
--- shape alone is compared, and the set is the one found.
+-- A type that was found, where a type may be written for it: the written one has to be above it. Where the set is
+-- omitted the shape alone is compared, and the set is the one found.
 abbrev pub noted : Comparing → ℕ → Place → Context → Note → CapturingType → Outcome Named
 noted compare root at context Absent type = finds (named_by type Absent)
 noted compare root at context (Written shape set) type = do
@@ -243,8 +243,8 @@ choice_found root context shape test positive negative =
 abbrev pub exit_entry : Shape → Bind
 exit_entry gives = TermEntry (ExitShape gives) (single Cap)
 
--- Inference of a term at a place of the context, whose entries from the root on are those of the binders passed. The steps of
--- a form stand in their order, and the first refusal counts. The type of each term is tested for its size.
+-- Inference of a term at a place of the context, whose entries from the root on are those of the binders passed. The
+-- steps of a form stand in their order, and the first refusal counts. The type of each term is tested for its size.
 abbrev pub inferred : Ways → ℕ → Context → Term → Places → Outcome Result
 inferred ways root context (VariableTerm variable) places = sized ways places do
   type ← variable_type context (in_context context variable)

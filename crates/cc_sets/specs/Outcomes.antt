@@ -19,8 +19,8 @@ pub record Placed : Type 0 where
 abbrev pub placed_at : Place → Asked → Placed
 placed_at at asked = record { asked = asked; at = at }
 
--- What steps come to: there is no answer, since a comparison is not at its end or a variable is not there; or a refusal with
--- its code and its place; or a value, where all that is asked holds, in the order in which it was asked.
+-- What steps come to: there is no answer, since a comparison is not at its end or a variable is not there; or a
+-- refusal with its code and its place; or a value, where all that is asked holds, in the order in which it was asked.
 pub data Outcome (A : Type 0) : Type 0 where
   NoAnswer : Outcome A
   Refused : (code : Code) (at : Place) → Outcome A

@@ -17,8 +17,8 @@ use Rattle.cc_sets.specs.Outcomes.{Placed, Outcome, NoAnswer, Refused, Found, fi
 use Rattle.cc_sets.specs.Fillings.{Filling, AllServed, IsLeast, FailsFirst}
 use Rattle.cc_sets.specs.Inference.{Ways, limited, noted, below, inferred}
 
--- A definition: the place of its name, the type written for it, whether its name is visible in its own right side, and the
--- right side with its places.
+-- A definition: the place of its name, the type written for it, whether its name is visible in its own right side,
+-- and the right side with its places.
 pub record Definition : Type 0 where
   pub name_at : Place
   pub note : Note
@@ -40,8 +40,8 @@ signature_of devices (newest ∷ older) type =
     else option_and_then (signature_of devices older)
     (avoided_type Positive (length older) (declared_set newest) type)
 
--- What is found for a right side: its type, which is the one that it was compared with, if there is one; that one as it is
--- written; the completed right side; and the signature, where it comes before the right side.
+-- What is found for a right side: its type, which is the one that it was compared with, if there is one; that one as
+-- it is written; the completed right side; and the signature, where it comes before the right side.
 pub record Checking : Type 0 where
   pub note : Note
   pub completed : Term
@@ -67,8 +67,8 @@ recursion_checked ways globals definition signature = do
   below ways.compare (spots definition.places).at (entry_of signature ∷ globals) found.type signature
   finds (checking (Written signature.shape signature.set) found.completed signature (Some signature))
 
--- A recursive definition: its signature comes from what is written, before its right side. One without a written type is no
--- definition of the language.
+-- A recursive definition: its signature comes from what is written, before its right side. One without a written type
+-- is no definition of the language.
 abbrev pub recursive_checked : Ways → ℕ → Context → Definition → Note → Outcome Checking
 recursive_checked ways devices globals definition (Written shape set) = do
   signature ← found_or E17 definition.name_at (signature_of devices globals (capturing shape set))
@@ -88,8 +88,8 @@ abbrev pub IsChecked : ℕ → Context → Definition → Outcome Checking → T
 IsChecked devices globals definition outcome =
     (steps : ℕ) × (checked (limited steps) devices globals definition ≡ outcome) × (outcome ≡ NoAnswer → ⊥)
 
--- An accepted definition: the type that its right side was compared with, if there is one; the right side with all omitted
--- sets put in; its type; and the type that others see.
+-- An accepted definition: the type that its right side was compared with, if there is one; the right side with all
+-- omitted sets put in; its type; and the type that others see.
 pub record Accepted : Type 0 where
   pub note : Note
   pub filled : Term
@@ -126,8 +126,9 @@ abbrev pub signature_verdict : Filling → Definition → Checking → Option Ca
 signature_verdict filling definition found (Some signature) = IsAccepted (accepted_with filling found signature)
 signature_verdict filling definition found None = IsRefused E17 definition.name_at
 
--- The verdict for what is found: a refusal is the verdict. Else all that was asked is judged under the least filling, and the
--- first that it does not serve is the verdict; and if it serves all, the signature of the filled type decides.
+-- The verdict for what is found: a refusal is the verdict. Else all that was asked is judged under the least filling,
+-- and the first that it does not serve is the verdict; and if it serves all, the signature of the filled type
+-- decides.
 abbrev pub Deserves : ℕ → Context → Definition → Outcome Checking → Verdict → Type 0
 Deserves devices globals definition NoAnswer verdict = ⊥
 Deserves devices globals definition (Refused code at) verdict = verdict ≡ IsRefused code at
@@ -143,8 +144,8 @@ HasVerdict devices globals definition verdict =
     (outcome : Outcome Checking) × IsChecked devices globals definition outcome
     × Deserves devices globals definition outcome verdict
 
--- The definition has an algorithmic type under the filling: inference and the comparison find a type, the filling serves all
--- that they ask, and the filled type has a signature.
+-- The definition has an algorithmic type under the filling: inference and the comparison find a type, the filling
+-- serves all that they ask, and the filled type has a signature.
 abbrev pub HasAlgorithmicType : ℕ → Context → Definition → Filling → Type 0
 HasAlgorithmicType devices globals definition filling =
     (found : Checking) × (asked : List Placed) × IsChecked devices globals definition (Found found asked)
