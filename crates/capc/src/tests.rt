@@ -87,7 +87,7 @@ fn replies(alloc: Global, verdict: &[u8]) -> Result<Vec<u8>, AllocError> {
 #[test]
 fn verdicts(rt: HostRuntime) -> Result<(), Fail> {
     let alloc = rt.alloc();
-    let cases: [(&[u8], &[u8]); 37] = [
+    let cases: [(&[u8], &[u8]); 39] = [
         (b"", b"ok"),
         (b" \t\r\n", b"ok"),
         (b"def id = fun (x: Unit) => x\n", b"ok"),
@@ -106,6 +106,9 @@ fn verdicts(rt: HostRuntime) -> Result<(), Fail> {
         (b"def id = fun (x: Unit) => id\n", b"E20 1:1"),
         // Another definition may not have the device's name.
         (b"def out = fun (x: Unit) => x\n", b"E20 1:1"),
+        // A right side that is no function.
+        (b"def a = out\n", b"E20 1:1"),
+        (b"def a = 5\n", b"E20 1:1"),
         // Forms that are not built.
         (
             b"def a = fun (x: Unit) => x def b = fun (x: Unit) => x\n",

@@ -1,5 +1,5 @@
--- The verdict of a module's text. So far a module is accepted that has no import and no definition, or one definition made
--- of functions, their parameters and the device.
+-- The verdict of a module's text. So far a module is accepted that has no import and no definition, or one definition
+-- that is a function made of functions, their parameters and the device.
 use Rattle.std.specs.Prelude.{◌≡◌, ◌↔◌, ℕ, Bool, true, false, ◌&&◌, not, is_none, List, [], ◌∷◌, ◌++◌, take, codes, if◌then◌else◌}
 use Rattle.std.specs.Str.{chars, is_utf8, bytes_eq}
 use Rattle.std.specs.Str.Lossy.{utf8_valid_len}
@@ -40,9 +40,18 @@ is_built scope (NameExpr at name) = list_any (bytes_eq name) scope
 is_built scope (FunExpr at parameter takes body) = is_plain_type takes && is_built (parameter ∷ scope) body
 is_built scope expr = false
 
--- the definition has no written type and another name than the device, and its right side is built
+abbrev pub is_function : ExprSyntax → Bool
+is_function (FunExpr at parameter takes body) = true
+is_function expr = false
+
+-- the expression is a function, and is built
+abbrev pub is_built_function : List (List ℕ) → ExprSyntax → Bool
+is_built_function scope expr = is_function expr && is_built scope expr
+
+-- the definition has no written type and another name than the device, and its right side is a function that is built
 abbrev pub is_built_def : List ℕ → DefSyntax → Bool
-is_built_def device def = is_none def.written && not (bytes_eq def.name device) && is_built (device ∷ []) def.right
+is_built_def device def =
+    is_none def.written && not (bytes_eq def.name device) && is_built_function (device ∷ []) def.right
 
 abbrev pub are_built_defs : List ℕ → List DefSyntax → Bool
 are_built_defs device [] = true
@@ -95,7 +104,8 @@ verdict_of device text =
 -- a text has one verdict, and this is the function that gives it
 abbrev pub ATextHasOneVerdict : Type 0
 ATextHasOneVerdict =
-    (device text : List ℕ) (verdict : ModuleVerdict) → HasVerdict device text verdict ↔ (verdict ≡ verdict_of device text)
+    (device text : List ℕ) (verdict : ModuleVerdict)
+    → HasVerdict device text verdict ↔ (verdict ≡ verdict_of device text)
 
 -- how a verdict is written
 abbrev pub verdict_text : ModuleVerdict → List ℕ

@@ -1,7 +1,7 @@
 ghost use Rattle.std.specs.Prelude.{◌≡◌, Some, IfOk};
 ghost use Rattle.cc_parse.specs.Trees.{set_syntax, shape_syntax, type_syntax, expr_syntax, module_syntax};
 ghost use Rattle.cc_module.specs.Scope.{names_in};
-ghost use Rattle.cc_module.specs.Verdict.{is_absent, is_plain_shape, is_plain_type, is_built, is_built_module, not_built, reading_verdict, HasVerdict, verdict_of, verdict_text};
+ghost use Rattle.cc_module.specs.Verdict.{is_absent, is_plain_shape, is_plain_type, is_built, is_built_function, is_built_module, is_function, not_built, reading_verdict, HasVerdict, verdict_of, verdict_text};
 ghost use Rattle.cc_lex.specs.Lexemes.{placed_all};
 ghost use Rattle.cc_grammar.specs.Reads.{TreeOf};
 ghost use Rattle.cc_grammar.specs.Reading.{reading_of};
@@ -100,6 +100,21 @@ fn is_built(scope: &Scope, expr: &ExprTree) -> bool
     }
 }
 
+fn is_function(expr: &ExprTree) -> bool
+    ensures { result ≡ is_function (expr_syntax expr.now) }
+{
+    match &expr.form {
+        ExprForm::Fun(_, _, _) => true,
+        _ => false,
+    }
+}
+
+fn is_built_function(scope: &Scope, expr: &ExprTree) -> bool
+    ensures { result ≡ is_built_function (names_in scope.now) (expr_syntax expr.now) }
+{
+    is_function(expr) && is_built(&*scope, expr)
+}
+
 fn is_built_module(device: &Name, tree: &Module) -> bool
     ensures { result ≡ is_built_module device.now (module_syntax tree.now) }
 {
@@ -109,7 +124,9 @@ fn is_built_module(device: &Name, tree: &Module) -> bool
     match tree.defs.as_slice() {
         [] => true,
         [def] => {
-            def.ty.is_none() && def.name != *device && is_built(&Scope::Device(device), &def.right)
+            def.ty.is_none()
+                && def.name != *device
+                && is_built_function(&Scope::Device(device), &def.right)
         }
         _ => false,
     }
