@@ -6,3 +6,10 @@ pub fn canonical_comparisons()
     ensures sets { law.CanonicalDerivationsOfSetsAreValid }
     ensures shapes { law.CanonicalDerivationsOfShapesAreValid }
 {}
+
+/// The canonical derivation of an accepted definition is valid and concludes its type and the type that others see, and its
+/// nodes are counted without building it.
+pub fn canonical_derivations()
+    ensures valid { law.CanonicalDerivationsOfDefinitionsAreValid }
+    ensures counted { law.CanonicalDerivationsAreCounted }
+{}

@@ -6,5 +6,7 @@
 pub mod canonical_laws;
 pub mod checking_laws;
 pub mod example_verdicts;
+pub mod existence_laws;
 pub mod filling_laws;
 pub mod inference_laws;
+pub mod repetition_laws;
