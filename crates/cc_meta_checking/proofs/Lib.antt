@@ -2,6 +2,9 @@ pub mod AlikeSignatures
 pub mod CanonicalSets
 pub mod CanonicalShapes
 pub mod CheckedDefinitions
+pub mod ComputedFillings
+pub mod ComputedVerdicts
+pub mod DecidedDemands
 pub mod FilledSubtyping
 pub mod FilledSyntax
 pub mod FilledTerms
@@ -18,4 +21,6 @@ pub mod ReadingKinds
 pub mod Signatures
 pub mod TameFindings
 pub mod Tameness
+pub mod WorkedDerivations
+pub mod WorkedSignatures
 pub mod WorkedVerdicts

@@ -1,137 +1,84 @@
--- The worked verdicts: what is asked by computation, and then the first demand that fails.
-use Rattle.std.proofs.Common.{◌≡◌, ℕ, List, [], ◌∷◌, ◌++◌, Some, refl, sym, subst, inl, inr}
-use Rattle.cc_base.specs.declared.literal.Base.TheVariants as bases
-use Rattle.cc_capture.specs.declared.var.Var.TheVariants.{Free}
-use Rattle.cc_capture.specs.declared.var.Elem.{Elem}
-use Rattle.cc_capture.specs.declared.var.Elem.TheVariants.{Var as Variable, Cap, Hole}
+-- The worked refusals, by computation.
+use Rattle.std.proofs.Common.{◌≡◌, refl}
 use Rattle.cc_capture.specs.Elements.{element_order, same_element}
 use Rattle.cc_capture.specs.Rising.{placed}
-use Rattle.cc_capture.specs.Sets.{Set, Member, contains, empty, insert, from_list, retain, remove, union, flat_image}
-use Rattle.cc_capture.proofs.Membership.{Member-empty}
-use Rattle.cc_core.specs.Shapes.{Shape, BaseShape}
-use Rattle.cc_core.specs.Contexts.{TermEntry, Context, lookup}
-use Rattle.cc_core.specs.Substitution.{single, filled_element, filled_set}
-use Rattle.cc_core.specs.Subcapturing.{Subcaptures, SubcapturesSet, variable}
-use Rattle.cc_core.proofs.Moving.{Member-single, Member-single_itself}
-use Rattle.cc_core.proofs.SubcapturingLemmas.{subcaptures_variable, cap_below}
-use Rattle.cc_sets.specs.Comparison.{demanded}
-use Rattle.cc_sets.specs.Outcomes.{Asked, IsBelow, IsCapless, Placed, Found}
-use Rattle.cc_sets.specs.Fillings.{Filling, filled_context, IsServed, IsAskedIn, Comes, global, capability, local, forced, IsLeast}
-use Rattle.cc_sets.specs.Examples.{first, third, with_console, nothing}
-use Rattle.cc_sets.specs.Inference.{captured_in}
-use Rattle.cc_sets.specs.ExampleChecks.{asked_of_console_given, asked_of_box_of_cap_opened, printing_again, with_printing_again, asked_of_printing_again}
-use Rattle.cc_sets.proofs.ComputedChecks.{console_given_asks_three, opening_asks_for_a_set_without_cap, recursion_has_its_signature}
-use Rattle.cc_meta_checking.proofs.LeastFillings.{Member-from_filled}
-use Rattle.cc_meta_checking.specs.ExampleVerdicts.{ConsoleGivenIsRefused, BoxOfCapIsRefused, PrintingAgainIsRefused}
-
--- the right side of what is asked is no hole
-abbrev IsNoHoleAlone : Asked → Type 0
-IsNoHoleAlone (IsBelow demand) = (hole : ℕ) → demand.right ≡ single (Hole hole) → ⊥
-IsNoHoleAlone (IsCapless set) = Unit {0}
-
-abbrev NoHoles : List Placed → Type 0
-NoHoles [] = Unit {0}
-NoHoles (p ∷ list) = IsNoHoleAlone p.asked × NoHoles list
-
-none_asked : (list : List Placed) → NoHoles list → (asked : Asked) → IsAskedIn list asked → IsNoHoleAlone asked
-none_asked list none asked (before, p, after, is, same) = subst IsNoHoleAlone same (inside before p after (subst NoHoles is none))
-  where
-    inside : (before : List Placed) (p : Placed) (after : List Placed) → NoHoles (before ++ p ∷ after) → IsNoHoleAlone p.asked
-    inside [] p after none = none.0
-    inside (x ∷ before) p after none = inside before p after none.1
-
--- where no hole is asked for, the empty filling is the least
-nothing_comes : (root : ℕ) (list : List Placed) → NoHoles list → {g : Context} {x e : Elem} → Comes root list g x e → (hole : ℕ) → x ≡ Hole hole → ⊥
-nothing_comes root list none (global below) hole is = cc
-nothing_comes root list none capability hole is = cc
-nothing_comes root list none (local from there m c) hole is = cc
-nothing_comes root list none (forced {hole = h} demand asked same m c) hole is = none_asked list none (IsBelow demand) asked h same
-
-abbrev fill_nothing : Filling
-fill_nothing hole = empty
-
-empty_is_least : (root : ℕ) (list : List Placed) → NoHoles list → IsLeast root list fill_nothing
-empty_is_least root list none hole e = (λ m. absurd (Member-empty e m), λ c. absurd (nothing_comes root list none c hole refl))
-
-empty_is_no_hole : (hole : ℕ) → empty ≡ single (Hole hole) → ⊥
-empty_is_no_hole hole e = Member-empty (Hole hole) (subst (Member (Hole hole)) (sym e) (Member-single_itself (Hole hole)))
-
-cap_is_no_hole : (hole : ℕ) → single Cap ≡ single (Hole hole) → ⊥
-cap_is_no_hole hole e = let same : Hole hole ≡ Cap = Member-single (Hole hole) Cap (subst (Member (Hole hole)) (sym e) (Member-single_itself (Hole hole))) in cc
-
--- a device is not below the empty set
-device_not_below : (g : Context) (p : ℕ) (s : Shape) (c : Set) → c ≡ empty → lookup g p ≡ Some (TermEntry s (single Cap)) → Subcaptures g (Variable (Free p)) c → ⊥
-device_not_below g p s c is there below =
-    elim ((subcaptures_variable g p s (single Cap) c there).0 below) as (λ _. ⊥) [
-      | inl m ↦ Member-empty (Variable (Free p)) (subst (Member (Variable (Free p))) is m)
-      | inr each ↦ Member-empty Cap (subst (Member Cap) is (cap_below g (single Cap) c each (Member-single_itself Cap)))
-    ]
-
-console_given_no_holes : NoHoles asked_of_console_given
-console_given_no_holes = (empty_is_no_hole, (empty_is_no_hole, (empty_is_no_hole, tt)))
-
-console_given_fails : IsServed fill_nothing (IsBelow (demanded with_console (single first) empty)) → ⊥
-unfolding contains flat_image from_list union retain remove insert placed element_order same_element empty
-console_given_fails h = device_not_below with_console 0 (BaseShape bases.Console) empty refl refl (h first refl)
+use Rattle.cc_capture.specs.Sets.{contains, empty, insert, from_list, retain, remove, union, flat_image, same_set, is_subset}
+use Rattle.cc_sets.specs.Comparison.{comparison, by_form}
+use Rattle.cc_sets.specs.Outcomes.{◌>>=◌}
+use Rattle.cc_meta_checking.proofs.ComputedVerdicts.{verdict_in_steps}
+use Rattle.cc_meta_checking.specs.ExampleVerdicts.{ConsoleGivenIsRefused, BoxOfCapIsRefused, PrintingAgainIsRefused, PurePrinterIsRefused, ContentOfCapIsRefused, ExitMayNotLeave, BoxedExitMayNotLeave, OpenedForAParameterIsRefused, UnitAppliedIsRefused, NameInBoundIsRefused, TowerIsTooLarge, TowerInsideIsTooLarge, WrittenTypesComeFirst, DemandsAreJudgedLast}
+use Rattle.cc_base.specs.declared.code.Code.TheVariants.{E13, E14, E15, E16, E17, E18}
+use Rattle.cc_base.specs.declared.literal.Base.TheVariants as bases
+use Rattle.cc_capture.specs.declared.var.Elem.TheVariants.{Cap}
+use Rattle.cc_core.specs.Shapes.{BaseShape, FunctionShape, CapturingType, capturing}
+use Rattle.cc_core.specs.Contexts.{Context}
+use Rattle.cc_core.specs.Substitution.{single}
+use Rattle.cc_sets.specs.Examples.{number, nothing, printing, first, parameter, with_console}
+use Rattle.cc_sets.specs.Verdicts.{Definition, Accepted, IsAccepted, IsRefused, HasVerdict}
+use Rattle.cc_sets.specs.ExampleChecks.{place, from_nothing, console, console_given, box_of_cap_opened, printing_again}
+use Rattle.cc_meta_checking.specs.ExampleDefinitions.{with_devices, both_devices, pure_printer, content_of_cap}
+use Rattle.cc_meta_checking.specs.ExampleDefinitions.{widened_and_narrowed, exit_that_would_leave}
+use Rattle.cc_meta_checking.specs.ExampleDefinitions.{boxed_exit_that_would_leave, called_twice, depending, not_depending}
+use Rattle.cc_meta_checking.specs.ExampleDefinitions.{opened_for_a_parameter, opened_for_nothing, counting}
+use Rattle.cc_meta_checking.specs.ExampleDefinitions.{counting_down, after_down, counting_from_three, after_main}
+use Rattle.cc_meta_checking.specs.ExampleDefinitions.{printing_for_ever, identity, identity_shape, after_identity}
+use Rattle.cc_meta_checking.specs.ExampleDefinitions.{opened_after_identity, nested_boundaries, after_two, chosen}
+use Rattle.cc_meta_checking.specs.ExampleDefinitions.{tower, taking_tower, taking_tower_inside, unit_applied}
+use Rattle.cc_meta_checking.specs.ExampleDefinitions.{name_in_bound, wrong_twice, impure_and_wrong}
+use Rattle.std.specs.Prelude.{[]}
 
 pub console_given_is_refused : ConsoleGivenIsRefused
-console_given_is_refused = (
-  Found _ asked_of_console_given,
-  console_given_asks_three,
-  (
-    fill_nothing,
-    empty_is_least 1 asked_of_console_given console_given_no_holes,
-    inl (_, _, ([], _, _, refl, tt, console_given_fails, refl, refl), refl),
-  ),
-)
-
--- nothing is below anything
-nothing_below : (f : Filling) (g : Context) (c : Set) → SubcapturesSet g (filled_set f empty) c
-nothing_below f g c y m = let from = Member-from_filled f y empty m in absurd (Member-empty from.0 from.1)
-
-box_of_cap_no_holes : NoHoles asked_of_box_of_cap_opened
-box_of_cap_no_holes = (cap_is_no_hole, (tt, tt))
-
-box_of_cap_fails : IsServed fill_nothing (IsCapless (single Cap)) → ⊥
-unfolding contains flat_image from_list union retain remove insert placed element_order same_element empty
-box_of_cap_fails h = h refl
+unfolding ◌>>=◌ comparison by_form same_set contains flat_image from_list union retain remove insert placed element_order same_element empty is_subset
+console_given_is_refused = verdict_in_steps 9 1 with_console console_given (IsRefused E15 (place 1 31)) refl
 
 pub box_of_cap_is_refused : BoxOfCapIsRefused
-box_of_cap_is_refused = (
-  Found _ asked_of_box_of_cap_opened,
-  opening_asks_for_a_set_without_cap,
-  (
-    fill_nothing,
-    empty_is_least 0 asked_of_box_of_cap_opened box_of_cap_no_holes,
-    inl (_, _, (_ ∷ [], _, _, refl, (nothing_below fill_nothing _ _, tt), box_of_cap_fails, refl, refl), refl),
-  ),
-)
-
-printing_again_no_holes : NoHoles asked_of_printing_again
-printing_again_no_holes = (empty_is_no_hole, (empty_is_no_hole, tt))
-
--- the parameter is below the empty set, which it is declared with
-abbrev inside_printing_again : Context
-inside_printing_again = TermEntry nothing empty ∷ TermEntry nothing empty ∷ with_printing_again
-
-parameter_below : IsServed fill_nothing (IsBelow (demanded inside_printing_again (single third) empty))
-parameter_below y m =
-    let from = Member-from_filled fill_nothing y (single third) m in
-    let is : y ≡ third = Member-single y third (subst (λ x. Member y (filled_element fill_nothing x)) (Member-single from.0 third from.1) from.2) in
-    subst (λ x. Subcaptures (filled_context fill_nothing inside_printing_again) x (filled_set fill_nothing empty)) (sym is)
-    (variable refl (nothing_below fill_nothing (filled_context fill_nothing inside_printing_again) (filled_set fill_nothing empty)))
-
-printing_again_fails : IsServed fill_nothing (IsBelow (demanded with_printing_again (captured_in with_printing_again printing_again.right) empty)) → ⊥
-unfolding contains flat_image from_list union retain remove insert placed element_order same_element empty
-printing_again_fails h = device_not_below (filled_context fill_nothing with_printing_again) 0 (BaseShape bases.Console) empty refl refl (h first refl)
+unfolding ◌>>=◌ comparison by_form same_set contains flat_image from_list union retain remove insert placed element_order same_element empty is_subset
+box_of_cap_is_refused = verdict_in_steps 9 0 [] box_of_cap_opened (IsRefused E16 (place 1 30)) refl
 
 pub printing_again_is_refused : PrintingAgainIsRefused
-printing_again_is_refused = (
-  Found _ asked_of_printing_again,
-  recursion_has_its_signature,
-  (
-    fill_nothing,
-    empty_is_least 1 asked_of_printing_again printing_again_no_holes,
-    inl (_, _, (_ ∷ [], _, _, refl, (parameter_below, tt), printing_again_fails, refl, refl), refl),
-  ),
-)
+unfolding ◌>>=◌ comparison by_form same_set contains flat_image from_list union retain remove insert placed element_order same_element empty is_subset
+printing_again_is_refused = verdict_in_steps 9 1 with_console printing_again (IsRefused E15 (place 1 32)) refl
+
+pub pure_printer_is_refused : PurePrinterIsRefused
+unfolding ◌>>=◌ comparison by_form same_set contains flat_image from_list union retain remove insert placed element_order same_element empty is_subset
+pure_printer_is_refused = verdict_in_steps 9 2 with_devices pure_printer (IsRefused E15 (place 1 27)) refl
+
+pub content_of_cap_is_refused : ContentOfCapIsRefused
+unfolding ◌>>=◌ comparison by_form same_set contains flat_image from_list union retain remove insert placed element_order same_element empty is_subset
+content_of_cap_is_refused = verdict_in_steps 9 2 with_devices content_of_cap (IsRefused E16 (place 3 4)) refl
+
+pub exit_may_not_leave : ExitMayNotLeave
+unfolding ◌>>=◌ comparison by_form same_set contains flat_image from_list union retain remove insert placed element_order same_element empty is_subset
+exit_may_not_leave = verdict_in_steps 9 2 with_devices exit_that_would_leave (IsRefused E15 (place 3 5)) refl
+
+pub boxed_exit_may_not_leave : BoxedExitMayNotLeave
+unfolding ◌>>=◌ comparison by_form same_set contains flat_image from_list union retain remove insert placed element_order same_element empty is_subset
+boxed_exit_may_not_leave = verdict_in_steps 9 2 with_devices boxed_exit_that_would_leave (IsRefused E15 (place 2 42)) refl
+
+pub opened_for_a_parameter_is_refused : OpenedForAParameterIsRefused
+unfolding ◌>>=◌ comparison by_form same_set contains flat_image from_list union retain remove insert placed element_order same_element empty is_subset
+opened_for_a_parameter_is_refused = verdict_in_steps 9 1 with_console opened_for_a_parameter (IsRefused E15 (place 3 33)) refl
+
+pub unit_applied_is_refused : UnitAppliedIsRefused
+unfolding ◌>>=◌ comparison by_form same_set contains flat_image from_list union retain remove insert placed element_order same_element empty is_subset
+unit_applied_is_refused = verdict_in_steps 9 2 with_devices unit_applied (IsRefused E13 (place 1 26)) refl
+
+pub name_in_bound_is_refused : NameInBoundIsRefused
+unfolding ◌>>=◌ comparison by_form same_set contains flat_image from_list union retain remove insert placed element_order same_element empty is_subset
+name_in_bound_is_refused = verdict_in_steps 9 2 with_devices name_in_bound (IsRefused E17 (place 1 26)) refl
+
+pub tower_is_too_large : TowerIsTooLarge
+unfolding ◌>>=◌ comparison by_form same_set contains flat_image from_list union retain remove insert placed element_order same_element empty is_subset
+tower_is_too_large = verdict_in_steps 9 2 with_devices (taking_tower 11) (IsRefused E18 (place 1 9)) refl
+
+pub tower_inside_is_too_large : TowerInsideIsTooLarge
+unfolding ◌>>=◌ comparison by_form same_set contains flat_image from_list union retain remove insert placed element_order same_element empty is_subset
+tower_inside_is_too_large = verdict_in_steps 9 2 with_devices (taking_tower_inside 11) (IsRefused E18 (place 1 26)) refl
+
+pub written_types_come_first : WrittenTypesComeFirst
+unfolding ◌>>=◌ comparison by_form same_set contains flat_image from_list union retain remove insert placed element_order same_element empty is_subset
+written_types_come_first = verdict_in_steps 9 2 with_devices wrong_twice (IsRefused E14 (place 1 39)) refl
+
+pub demands_are_judged_last : DemandsAreJudgedLast
+unfolding ◌>>=◌ comparison by_form same_set contains flat_image from_list union retain remove insert placed element_order same_element empty is_subset
+demands_are_judged_last = verdict_in_steps 9 2 with_devices impure_and_wrong (IsRefused E13 (place 1 82)) refl

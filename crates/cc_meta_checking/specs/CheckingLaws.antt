@@ -1,7 +1,12 @@
 -- The laws of checking a definition.
-use Rattle.std.specs.Prelude.{◌≡◌, ℕ, nat_lt, Bool, List, [], ◌∷◌, length, IsTrue, if◌then◌else◌}
-use Rattle.cc_core.specs.Shapes.{CapturingType}
-use Rattle.cc_core.specs.Contexts.{Context, entry_of}
+use Rattle.std.specs.Prelude.{◌≡◌, ◌↔◌, ◌⊎◌, ℕ, ◌≤◌, nat_lt, Bool, List, [], ◌∷◌, length, Some, IsTrue}
+use Rattle.std.specs.Prelude.{if◌then◌else◌}
+use Rattle.cc_capture.specs.declared.var.Var.TheVariants.{Free}
+use Rattle.cc_capture.specs.declared.var.Elem.{Elem}
+use Rattle.cc_capture.specs.declared.var.Elem.TheVariants.{Var as Variable}
+use Rattle.cc_capture.specs.Sets.{Set, Member}
+use Rattle.cc_core.specs.Shapes.{Shape, CapturingType}
+use Rattle.cc_core.specs.Contexts.{TermEntry, Context, lookup, entry_of}
 use Rattle.cc_core.specs.Occurrences.{MeetsInNote, without_holes, HasNoHoleInType, HasNoHoleInTerm}
 use Rattle.cc_core.specs.WellFormed.{Kind, TermKind, kinds_of, is_well_formed_term, IsWellFormedContext, IsWellFormedNote}
 use Rattle.cc_core.specs.WellFormed.{IsWellFormedType}
@@ -9,7 +14,7 @@ use Rattle.cc_core.specs.Typing.{HasType}
 use Rattle.cc_base.specs.declared.code.Code.{Code}
 use Rattle.cc_base.specs.declared.place.Place.{Place}
 use Rattle.cc_sets.specs.Outcomes.{Placed, Refused, Found}
-use Rattle.cc_sets.specs.Fillings.{Filling, IsLeast, IsOverGlobals, FailsFirst}
+use Rattle.cc_sets.specs.Fillings.{Filling, IsLeast, IsGlobal, IsOverGlobals, FailsFirst}
 use Rattle.cc_sets.specs.Verdicts.{Definition, Checking, Accepted, Verdict, IsAccepted, IsRefused, IsChecked, HasVerdict}
 use Rattle.cc_sets.specs.Verdicts.{HasAlgorithmicType}
 use Rattle.cc_meta_checking.specs.Holes.{HolesAreOfParameters}
@@ -97,3 +102,27 @@ RefusedDefinitionsHaveNoType =
     → Fits globals definition → HolesAreOfParameters definition.right
     → HasVerdict devices globals definition (IsRefused code at) → IsOverGlobals (length globals) filling
     → HasAlgorithmicType devices globals definition filling → ⊥
+
+-- each definition among the globals has a set of devices and the universal capability, as signatures have
+abbrev pub SetsAreOverDevices : ℕ → Context → Type 0
+SetsAreOverDevices devices globals =
+    (position : ℕ) (shape : Shape) (declared : Set) (e : Elem) → devices ≤ position
+    → lookup globals position ≡ Some (TermEntry shape declared) → Member e declared → IsGlobal devices e
+
+-- the element comes from the set: it is a member, or a member of the set of a definition in it
+abbrev pub IsOfSetOrItsDefinitions : ℕ → Context → Set → Elem → Type 0
+IsOfSetOrItsDefinitions devices globals set e =
+    Member e set
+    ⊎ ((position : ℕ) × (shape : Shape) × (declared : Set) × (devices ≤ position)
+    × Member (Variable (Free position)) set × (lookup globals position ≡ Some (TermEntry shape declared))
+    × Member e declared)
+
+-- The outermost set of a signature has the devices and the universal capability of the type's set, and those of the sets
+-- of the definitions in it, and nothing else.
+abbrev pub SignatureSetsAreOfDevices : Type 0
+SignatureSetsAreOfDevices =
+    (devices : ℕ) (globals : Context) (definition : Definition) (accepted : Accepted) (e : Elem)
+    → Fits globals definition → SetsAreOverDevices devices globals
+    → HasVerdict devices globals definition (IsAccepted accepted)
+    → Member e accepted.signature.set
+    ↔ (IsGlobal devices e × IsOfSetOrItsDefinitions devices globals accepted.type.set e)

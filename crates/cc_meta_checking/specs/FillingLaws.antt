@@ -1,5 +1,5 @@
 -- The laws of fillings: the least filling, and all those that serve.
-use Rattle.std.specs.Prelude.{◌≡◌, ◌⊎◌, ℕ, List, [], ◌∷◌, ◌++◌, length}
+use Rattle.std.specs.Prelude.{◌≡◌, ◌↔◌, ◌⊎◌, ℕ, List, [], ◌∷◌, ◌++◌, length}
 use Rattle.cc_capture.specs.declared.var.Elem.TheVariants.{Hole}
 use Rattle.cc_capture.specs.Sets.{Set}
 use Rattle.cc_core.specs.Contexts.{TermEntry, TypeEntry, Context}
@@ -58,3 +58,12 @@ LeastFillingsServe =
     (globals : Context) (list : List Placed) (least other : Filling) → AreFit globals list
     → IsLeast (length globals) list least → IsOverGlobals (length globals) other → AllServed other list
     → AllServed least list
+
+-- The order in which it is asked, and how often, changes neither which filling is the least nor which ones serve: it
+-- decides only which code and place are named.
+abbrev pub OrderDoesNotMatter : Type 0
+OrderDoesNotMatter =
+    (root : ℕ) (first second : List Placed) (filling : Filling)
+    → ((asked : Asked) → IsAskedIn first asked ↔ IsAskedIn second asked)
+    → (IsLeast root first filling ↔ IsLeast root second filling)
+    × (AllServed filling first ↔ AllServed filling second)

@@ -1,5 +1,7 @@
 pub mod CanonicalLaws
 pub mod CheckingLaws
+pub mod ExampleDefinitions
+pub mod ExampleDerivations
 pub mod ExampleVerdicts
 pub mod ExistenceLaws
 pub mod FillingLaws

@@ -6,6 +6,7 @@ pub fn accepted_definitions()
     ensures typed { law.AcceptedDefinitionsAreTyped }
     ensures over_devices { law.SignaturesAreOverDevices }
     ensures no_hole { law.AcceptedDefinitionsHaveNoHole }
+    ensures sets { law.SignatureSetsAreOfDevices }
 {}
 
 /// A definition has at most one verdict, and what is refused has no algorithmic type under any filling.

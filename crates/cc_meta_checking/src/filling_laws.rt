@@ -8,3 +8,8 @@ pub fn least_fillings()
     ensures below { law.ServingFillingsAreAbove }
     ensures serves { law.LeastFillingsServe }
 {}
+
+/// The order of what is asked changes neither the least filling nor those that serve.
+pub fn order()
+    ensures { law.OrderDoesNotMatter }
+{}

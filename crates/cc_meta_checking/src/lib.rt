@@ -5,6 +5,7 @@
 
 pub mod canonical_laws;
 pub mod checking_laws;
+pub mod example_derivations;
 pub mod example_verdicts;
 pub mod existence_laws;
 pub mod filling_laws;
