@@ -2,12 +2,14 @@ pub mod AlikeSignatures
 pub mod CanonicalSets
 pub mod CanonicalShapes
 pub mod CheckedDefinitions
+pub mod Decisions
 pub mod FilledSubtyping
 pub mod FilledSyntax
 pub mod FilledTerms
 pub mod FilledTyping
 pub mod Findings
 pub mod FitDemands
+pub mod ForcedElements
 pub mod FoundFindings
 pub mod FoundTypes
 pub mod InferredSizes
@@ -15,7 +17,11 @@ pub mod LeastFillings
 pub mod OneOutcome
 pub mod OneVerdict
 pub mod ReadingKinds
+pub mod ServedDemands
+pub mod SettledSteps
+pub mod SettledTerms
 pub mod Signatures
 pub mod TameFindings
 pub mod Tameness
+pub mod VerdictsExist
 pub mod WorkedVerdicts
