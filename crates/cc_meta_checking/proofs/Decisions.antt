@@ -40,7 +40,7 @@ listed_later e x xs m = or_right _ _ m
 
 listed_cases : (e x : Elem) (xs : List Elem) → is_listed e (x ∷ xs) ≡ true → (e ≡ x) ⊎ (is_listed e xs ≡ true)
 listed_cases e x xs m =
-    elim (or_cases _ _ m) as (λ _. (e ≡ x) ⊎ (is_listed e xs ≡ true)) [
+    elim (or_cases (same_element e x) (is_listed e xs) m) as (λ _. (e ≡ x) ⊎ (is_listed e xs ≡ true)) [
       | inl same ↦ inl (same_element-true e x same)
       | inr there ↦ inr there
     ]

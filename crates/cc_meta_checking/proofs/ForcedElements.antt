@@ -115,12 +115,12 @@ leads_on (through from there m k) h same on = through from there m (leads_on k h
 leads_on (into demand asked is m k) h same on = into demand asked is m (leads_on k h same on)
 
 -- one more that puts nothing into a hole changes nothing
-leads_fewer : {root : ℕ} {list : List Placed} {g : Context} {x t : Elem} (p : Placed)
+leads_fewer : {root : ℕ} {list : List Placed} (p : Placed)
     → ((demand : Demand) → p.asked ≡ IsBelow demand → (h : ℕ) → demand.right ≡ single (Hole h) → ⊥)
-    → Leads root (p ∷ list) g x t → Leads root list g x t
+    → {g : Context} {x t : Elem} → Leads root (p ∷ list) g x t → Leads root list g x t
 leads_fewer p none (itself k) = itself k
 leads_fewer p none (through from there m k) = through from there m (leads_fewer p none k)
-leads_fewer {root} {list} {g} {t = t} p none (into {hole = hole} demand asked is m k) =
+leads_fewer {root} {list} p none {g} {t = t} (into {hole = hole} demand asked is m k) =
     elim (asked_cases p list (IsBelow demand) asked) as (λ _. Leads root list g (Hole hole) t) [
       | inl first ↦ absurd (none demand first hole is)
       | inr later ↦ into demand later is m (leads_fewer p none k)
@@ -184,12 +184,12 @@ module _ (root : ℕ) (list : List Placed) (holes : (h : ℕ) (t : Elem) → Dec
   by_element g Cap t free =
       elim (element_decided t Cap) as (λ _. Decided (Leads root list g Cap t)) [
         | inl same ↦ inl (subst (Leads root list g Cap) (sym same) (itself tt))
-        | inr no ↦ inr (λ k. no (cap_leads k))
+        | inr not_so ↦ inr (λ k. not_so (cap_leads k))
       ]
   by_element g (Hole h) t free =
       elim (holes h t) as (λ _. Decided (Leads root list g (Hole h) t)) [
         | inl k ↦ inl (leads_elsewhere g k)
-        | inr no ↦ inr (λ k. no (leads_elsewhere [] k))
+        | inr not_so ↦ inr (λ k. not_so (leads_elsewhere [] k))
       ]
 
   kind_there : (g : Context) (x : Elem) → IsKindedElement (kinds_of g) [] x → (q : ℕ) → x ≡ Variable (Free q) → lookup (kinds_of g) q ≡ Some TermKind
@@ -199,13 +199,13 @@ module _ (root : ℕ) (list : List Placed) (holes : (h : ℕ) (t : Elem) → Dec
   global_decided g p t below =
       elim (element_decided t (Variable (Free p))) as (λ _. Decided (Leads root list g (Variable (Free p)) t)) [
         | inl same ↦ inl (subst (Leads root list g (Variable (Free p))) (sym same) (itself below))
-        | inr no ↦ inr (λ k. no (global_leads below k))
+        | inr not_so ↦ inr (λ k. not_so (global_leads below k))
       ]
 
   local_decided : (g : Context) (p : ℕ) (s : Shape) (d : Set) (t : Elem) → root ≤ p → lookup g p ≡ Some (TermEntry s d)
       → Decided ((x : Elem) × Member x d × Leads root list g x t) → Decided (Leads root list g (Variable (Free p)) t)
   local_decided g p s d t from there (inl (x, m, k)) = inl (through from there m k)
-  local_decided g p s d t from there (inr no) = inr (λ k. no (local_leads from there k))
+  local_decided g p s d t from there (inr not_so) = inr (λ k. not_so (local_leads from there k))
 
   variable_decided : (older g : Context) → ((p : ℕ) (b : Bind) → lookup older p ≡ Some b → lookup g p ≡ Some b) → IsKindedContext older
       → (p : ℕ) (s : Shape) (d : Set) → lookup older p ≡ Some (TermEntry s d) → (t : Elem) → Decided (Leads root list g (Variable (Free p)) t)
@@ -243,7 +243,7 @@ module _ (root : ℕ) (list : List Placed) (rest : (h : ℕ) (t : Elem) → Deci
   unchanged none h t =
       elim (rest h t) as (λ _. Decided (Leads root (p ∷ list) [] (Hole h) t)) [
         | inl k ↦ inl (leads_more p k)
-        | inr no ↦ inr (λ k. no (leads_fewer p none k))
+        | inr not_so ↦ inr (λ k. not_so (leads_fewer p none k))
       ]
 
   changed : (d : Demand) → IsWell d → (hole : ℕ) → p.asked ≡ IsBelow d → d.right ≡ single (Hole hole) → (h : ℕ) (t : Elem)
@@ -255,11 +255,11 @@ module _ (root : ℕ) (list : List Placed) (rest : (h : ℕ) (t : Elem) → Deci
       either : Decided (Leads root list [] (Hole h) t) → Decided (Leads root list [] (Hole h) (Hole hole)) → Decided (Behind root list d t)
           → Decided (Leads root (p ∷ list) [] (Hole h) t)
       either (inl k) first behind = inl (leads_more p k)
-      either (inr no) (inl k) (inl behind) = inl (leads_join root list p d hole is alone k behind)
-      either (inr no) (inl k) (inr none) =
-          inr (λ k'. elim (leads_split root list p d hole is alone k') as (λ _. ⊥) [ inl one ↦ no one | inr both ↦ none both.1 ])
-      either (inr no) (inr none) behind =
-          inr (λ k'. elim (leads_split root list p d hole is alone k') as (λ _. ⊥) [ inl one ↦ no one | inr both ↦ none both.0 ])
+      either (inr not_so) (inl k) (inl behind) = inl (leads_join root list p d hole is alone k behind)
+      either (inr not_so) (inl k) (inr none) =
+          inr (λ k'. elim (leads_split root list p d hole is alone k') as (λ _. ⊥) [ inl one ↦ not_so one | inr both ↦ none both.1 ])
+      either (inr not_so) (inr none) behind =
+          inr (λ k'. elim (leads_split root list p d hole is alone k') as (λ _. ⊥) [ inl one ↦ not_so one | inr both ↦ none both.0 ])
 
   by_right : (d : Demand) → IsWell d → p.asked ≡ IsBelow d → HasHoleAloneOrNone d.right → (h : ℕ) (t : Elem)
       → Decided (Leads root (p ∷ list) [] (Hole h) t)
@@ -283,7 +283,7 @@ holes_decided : (root : ℕ) (list : List Placed) → ((demand : Demand) → IsA
 holes_decided root [] well h t =
     elim (element_decided t (Hole h)) as (λ _. Decided (Leads root [] [] (Hole h) t)) [
       | inl same ↦ inl (subst (Leads root [] [] (Hole h)) (sym same) (itself tt))
-      | inr no ↦ inr (λ k. no (hole_leads_nowhere k))
+      | inr not_so ↦ inr (λ k. not_so (hole_leads_nowhere k))
     ]
 holes_decided root (p ∷ list) well h t =
     by_first root list (λ h' t'. holes_decided root list (λ demand asked. well demand (asked_later p list (IsBelow demand) asked)) h' t') p

@@ -31,7 +31,7 @@ other_decided : (g : Context) (e : Elem) (c : Set) → ((p : ℕ) → e ≡ Vari
 other_decided g e c none =
     elim (member_decided e c) as (λ _. Decided (Subcaptures g e c)) [
       | inl m ↦ inl (element m)
-      | inr no ↦ inr (λ below. no (subcaptures_other g e c (λ p s d same there. none p same) below))
+      | inr not_so ↦ inr (λ below. not_so (subcaptures_other g e c (λ p s d same there. none p same) below))
     ]
 
 by_element : (g : Context) (e : Elem) (c : Set) → ((q : ℕ) → e ≡ Variable (Free q) → Decided (Subcaptures g (Variable (Free q)) c)) → Decided (Subcaptures g e c)
@@ -46,9 +46,9 @@ kind_there g x k q e = subst (IsKindedElement (kinds_of g) []) e k
 declared_decided : (g : Context) (p : ℕ) (s : Shape) (d c : Set) → lookup g p ≡ Some (TermEntry s d) → Decided (Member (Variable (Free p)) c)
     → Decided (SubcapturesSet g d c) → Decided (Subcaptures g (Variable (Free p)) c)
 declared_decided g p s d c there (inl m) each = inl (element m)
-declared_decided g p s d c there (inr no) (inl each) = inl (variable there each)
-declared_decided g p s d c there (inr no) (inr none) =
-    inr (λ below. elim ((subcaptures_variable g p s d c there).0 below) as (λ _. ⊥) [ inl m ↦ no m | inr each ↦ none each ])
+declared_decided g p s d c there (inr not_so) (inl each) = inl (variable there each)
+declared_decided g p s d c there (inr not_so) (inr none) =
+    inr (λ below. elim ((subcaptures_variable g p s d c there).0 below) as (λ _. ⊥) [ inl m ↦ not_so m | inr each ↦ none each ])
 
 variable_decided : (older g : Context) → ((p : ℕ) (b : Bind) → lookup older p ≡ Some b → lookup g p ≡ Some b) → IsKindedContext older
     → (p : ℕ) (s : Shape) (d : Set) → lookup older p ≡ Some (TermEntry s d) → (c : Set) → Decided (Subcaptures g (Variable (Free p)) c)
@@ -118,7 +118,7 @@ module _ (globals : Context) (alone : AreGlobals globals) (f : Filling) (over : 
   served_decided (IsCapless c) fit =
       elim (member_decided Cap (filled_set f c)) as (λ _. Decided (Member Cap (filled_set f c) → ⊥)) [
         | inl m ↦ inr (λ none. none m)
-        | inr no ↦ inl no
+        | inr not_so ↦ inl not_so
       ]
 
 -- some is the first that fails
@@ -133,7 +133,7 @@ first_failure f (p ∷ list) decided =
     (first_failure f list (λ asked (before, placed, after, is, same). decided asked (p ∷ before, placed, after, ap (λ l. p ∷ l) is, same)))
   where
     by_first : Decided (IsServed f p.asked) → SomeFails f list ⊎ AllServed f list → SomeFails f (p ∷ list) ⊎ AllServed f (p ∷ list)
-    by_first (inr no) rest = inl (code_of_failure p.asked, p.at, ([], p, list, refl, tt, no, refl, refl))
+    by_first (inr not_so) rest = inl (code_of_failure p.asked, p.at, ([], p, list, refl, tt, not_so, refl, refl))
     by_first (inl one) (inr all) = inr (one, all)
     by_first (inl one) (inl (code, at, (before, placed, after, is, all, fails, c, a))) =
         inl (code, at, (p ∷ before, placed, after, ap (λ l. p ∷ l) is, (one, all), fails, c, a))
