@@ -129,9 +129,9 @@ collected P d (suc n) = with_next (d (Variable (Free n))) (collected P d n)
       insert (Variable (Free n)) c,
       λ e. (
         λ m. elim ((Member-insert e (Variable (Free n)) c).0 m) as (λ _. IsGlobal (suc n) e × P e) [
-              | inl same ↦ let below : n < suc n = omega arith in subst (λ x. IsGlobal (suc n) x × P x) (sym same) (below, p)
-              | inr there ↦ let h = (is e).0 there in (global_more n e h.0, h.1)
-            ],
+          | inl same ↦ let below : n < suc n = omega arith in subst (λ x. IsGlobal (suc n) x × P x) (sym same) (below, p)
+          | inr there ↦ let h = (is e).0 there in (global_more n e h.0, h.1)
+        ],
         λ h. (Member-insert e (Variable (Free n)) c).1
             (elim (global_cases n e h.0) as (λ _. (e ≡ Variable (Free n)) ⊎ Member e c) [ inl same ↦ inl same | inr less ↦ inr ((is e).1 (less, h.1)) ]),
       ),

@@ -303,7 +303,10 @@ module _ (globals : Context) (list : List Placed) (fit : AreFit globals list) wh
   forced_set hole = collected (reached hole) (holes_decided (length globals) list well hole) (length globals)
 
   pub least_exists : (least : Filling) × IsLeast (length globals) list least
-  least_exists = (λ hole. (forced_set hole).0, λ hole e. (
-    λ m. let h = ((forced_set hole).1 e).0 m in leads_comes h.1 h.0,
-    λ k. ((forced_set hole).1 e).1 (comes_global k, comes_leads k),
-  ))
+  least_exists = (
+    λ hole. (forced_set hole).0,
+    λ hole e. (
+      λ m. let h = ((forced_set hole).1 e).0 m in leads_comes h.1 h.0,
+      λ k. ((forced_set hole).1 e).1 (comes_global k, comes_leads k),
+    ),
+  )
