@@ -53,7 +53,8 @@ AnyOf P xs = (e : Elem) × (is_listed e xs ≡ true) × P e
 abbrev EachOf : (Elem → Type 0) → List Elem → Type 0
 EachOf P xs = (e : Elem) → is_listed e xs ≡ true → P e
 
-any_listed : (xs : List Elem) (P : Elem → Type 0) → ((e : Elem) → is_listed e xs ≡ true → Decided (P e)) → Decided (AnyOf P xs)
+any_listed : (xs : List Elem) (P : Elem → Type 0) → ((e : Elem) → is_listed e xs ≡ true → Decided (P e))
+    → Decided (AnyOf P xs)
 any_listed [] P d = inr (λ (e, m, p). both_ways false refl m)
 any_listed (x ∷ xs) P d = by_first (d x (listed_first x xs)) (any_listed xs P (λ e m. d e (listed_later e x xs m)))
   where
@@ -63,7 +64,8 @@ any_listed (x ∷ xs) P d = by_first (d x (listed_first x xs)) (any_listed xs P 
     by_first (inr n) (inr none) =
         inr (λ (e, m, p). elim (listed_cases e x xs m) as (λ _. ⊥) [ inl same ↦ n (subst P same p) | inr there ↦ none (e, there, p) ])
 
-each_listed : (xs : List Elem) (P : Elem → Type 0) → ((e : Elem) → is_listed e xs ≡ true → Decided (P e)) → Decided (EachOf P xs)
+each_listed : (xs : List Elem) (P : Elem → Type 0) → ((e : Elem) → is_listed e xs ≡ true → Decided (P e))
+    → Decided (EachOf P xs)
 each_listed [] P d = inl (λ e m. absurd (both_ways false refl m))
 each_listed (x ∷ xs) P d = by_first (d x (listed_first x xs)) (each_listed xs P (λ e m. d e (listed_later e x xs m)))
   where
@@ -74,11 +76,13 @@ each_listed (x ∷ xs) P d = by_first (d x (listed_first x xs)) (each_listed xs 
     by_first (inr n) rest = inr (λ all. n (all x (listed_first x xs)))
 
 -- the members of a set
-pub any_member : (c : Set) (P : Elem → Type 0) → ((e : Elem) → Member e c → Decided (P e)) → Decided ((e : Elem) × Member e c × P e)
+pub any_member : (c : Set) (P : Elem → Type 0) → ((e : Elem) → Member e c → Decided (P e))
+    → Decided ((e : Elem) × Member e c × P e)
 unfolding contains
 any_member c P d = any_listed c.list P d
 
-pub each_member : (c : Set) (P : Elem → Type 0) → ((e : Elem) → Member e c → Decided (P e)) → Decided ((e : Elem) → Member e c → P e)
+pub each_member : (c : Set) (P : Elem → Type 0) → ((e : Elem) → Member e c → Decided (P e))
+    → Decided ((e : Elem) → Member e c → P e)
 unfolding contains
 each_member c P d = each_listed c.list P d
 

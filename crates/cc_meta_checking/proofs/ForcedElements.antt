@@ -8,7 +8,6 @@ use Rattle.cc_capture.specs.Sets.{Set, Member}
 use Rattle.cc_core.specs.Shapes.{Shape}
 use Rattle.cc_core.specs.Contexts.{Bind, TermEntry, Context, lookup}
 use Rattle.cc_core.specs.Substitution.{single}
-use Rattle.cc_core.specs.Occurrences.{HasNoHoleInSet}
 use Rattle.cc_core.specs.WellFormed.{TermKind, kinds_of}
 use Rattle.cc_core.proofs.KindFacts.{IsKindedElement, IsKindedSet, IsKindedSet-from}
 use Rattle.cc_core.proofs.Lookups.{lookup-older, lookup-cases}
@@ -51,28 +50,33 @@ comes_itself root list g (Variable (Bound i)) h = absurd h
 comes_itself root list g Cap h = capability
 comes_itself root list g (Hole n) h = absurd h
 
-leads_comes : {root : ℕ} {list : List Placed} {g : Context} {x e : Elem} → Leads root list g x e → IsGlobal root e → Comes root list g x e
+leads_comes : {root : ℕ} {list : List Placed} {g : Context} {x e : Elem} → Leads root list g x e → IsGlobal root e
+    → Comes root list g x e
 leads_comes {root} {list} {g} (itself {e = e} k) h = comes_itself root list g e h
 leads_comes (through from there m k) h = local from there m (leads_comes k h)
 leads_comes (into demand asked is m k) h = forced demand asked is m (leads_comes k h)
 
 -- a hole leads to the same in each context
-leads_elsewhere : {root : ℕ} {list : List Placed} {g : Context} {h : ℕ} {e : Elem} (g' : Context) → Leads root list g (Hole h) e → Leads root list g' (Hole h) e
+leads_elsewhere : {root : ℕ} {list : List Placed} {g : Context} {h : ℕ} {e : Elem} (g' : Context)
+    → Leads root list g (Hole h) e → Leads root list g' (Hole h) e
 leads_elsewhere g' (itself k) = itself k
 leads_elsewhere g' (into demand asked is m k) = into demand asked is m k
 
 -- by the form of the element
-index_leads : {root : ℕ} {list : List Placed} {g : Context} {i : ℕ} {e : Elem} → Leads root list g (Variable (Bound i)) e → ⊥
+index_leads : {root : ℕ} {list : List Placed} {g : Context} {i : ℕ} {e : Elem}
+    → Leads root list g (Variable (Bound i)) e → ⊥
 index_leads (itself k) = k
 
 cap_leads : {root : ℕ} {list : List Placed} {g : Context} {e : Elem} → Leads root list g Cap e → e ≡ Cap
 cap_leads (itself k) = refl
 
-global_leads : {root : ℕ} {list : List Placed} {g : Context} {p : ℕ} {e : Elem} → p < root → Leads root list g (Variable (Free p)) e → e ≡ Variable (Free p)
+global_leads : {root : ℕ} {list : List Placed} {g : Context} {p : ℕ} {e : Elem} → p < root
+    → Leads root list g (Variable (Free p)) e → e ≡ Variable (Free p)
 global_leads h (itself k) = refl
 global_leads h (through from there m k) = absurd (omega arith)
 
-local_leads : {root : ℕ} {list : List Placed} {g : Context} {p : ℕ} {s : Shape} {d : Set} {e : Elem} → root ≤ p → lookup g p ≡ Some (TermEntry s d)
+local_leads : {root : ℕ} {list : List Placed} {g : Context} {p : ℕ} {s : Shape} {d : Set} {e : Elem} → root ≤ p
+    → lookup g p ≡ Some (TermEntry s d)
     → Leads root list g (Variable (Free p)) e → (x : Elem) × Member x d × Leads root list g x e
 local_leads h there (itself k) = absurd (omega arith)
 local_leads {d = d} h there (through {declared = d'} {from = x} from there' m k) =
@@ -88,7 +92,8 @@ asked_first p list asked is = ([], p, list, refl, is)
 asked_later : (p : Placed) (list : List Placed) (asked : Asked) → IsAskedIn list asked → IsAskedIn (p ∷ list) asked
 asked_later p list asked (before, placed, after, is, same) = (p ∷ before, placed, after, ap (λ l. p ∷ l) is, same)
 
-asked_cases : (p : Placed) (list : List Placed) (asked : Asked) → IsAskedIn (p ∷ list) asked → (p.asked ≡ asked) ⊎ IsAskedIn list asked
+asked_cases : (p : Placed) (list : List Placed) (asked : Asked) → IsAskedIn (p ∷ list) asked
+    → (p.asked ≡ asked) ⊎ IsAskedIn list asked
 asked_cases p list asked ([], placed, after, is, same) =
     let first : p ≡ placed = cc in inl (ap (λ (x : Placed). x.asked) first ∙ same)
 asked_cases p list asked (b ∷ before, placed, after, is, same) =
@@ -102,7 +107,8 @@ hole_leads_nowhere : {root : ℕ} {g : Context} {h : ℕ} {e : Elem} → Leads r
 hole_leads_nowhere (itself k) = refl
 hole_leads_nowhere (into demand asked is m k) = absurd (asked_nowhere (IsBelow demand) asked)
 
-leads_more : {root : ℕ} {list : List Placed} {g : Context} {x e : Elem} (p : Placed) → Leads root list g x e → Leads root (p ∷ list) g x e
+leads_more : {root : ℕ} {list : List Placed} {g : Context} {x e : Elem} (p : Placed) → Leads root list g x e
+    → Leads root (p ∷ list) g x e
 leads_more p (itself k) = itself k
 leads_more p (through from there m k) = through from there m (leads_more p k)
 leads_more {list = list} p (into demand asked is m k) = into demand (asked_later p list (IsBelow demand) asked) is m (leads_more p k)
@@ -142,22 +148,26 @@ module _ (root : ℕ) (list : List Placed) (p : Placed) (d : Demand) (hole : ℕ
   abbrev Splits : Context → Elem → Elem → Type 0
   Splits g x t = Leads root list g x t ⊎ (Leads root list g x (Hole hole) × Behind root list d t)
 
-  splits_through : {g : Context} {q : ℕ} {s : Shape} {c : Set} {from t : Elem} → root ≤ q → lookup g q ≡ Some (TermEntry s c) → Member from c
+  splits_through : {g : Context} {q : ℕ} {s : Shape} {c : Set} {from t : Elem} → root ≤ q
+      → lookup g q ≡ Some (TermEntry s c) → Member from c
       → Splits g from t → Splits g (Variable (Free q)) t
   splits_through h there m (inl k) = inl (through h there m k)
   splits_through h there m (inr (k, behind)) = inr (through h there m k, behind)
 
-  splits_into : {g : Context} {h : ℕ} {from t : Elem} (demand : Demand) → IsAskedIn list (IsBelow demand) → demand.right ≡ single (Hole h) → Member from demand.left
+  splits_into : {g : Context} {h : ℕ} {from t : Elem} (demand : Demand) → IsAskedIn list (IsBelow demand)
+      → demand.right ≡ single (Hole h) → Member from demand.left
       → Splits demand.context from t → Splits g (Hole h) t
   splits_into demand asked same m (inl k) = inl (into demand asked same m k)
   splits_into demand asked same m (inr (k, behind)) = inr (into demand asked same m k, behind)
 
-  behind_first : (demand : Demand) → demand ≡ d → {from t : Elem} → Member from demand.left → Splits demand.context from t → Behind root list d t
+  behind_first : (demand : Demand) → demand ≡ d → {from t : Elem} → Member from demand.left
+      → Splits demand.context from t → Behind root list d t
   behind_first demand same {from} {t} m (inl k) =
       subst (λ (x : Demand). (from : Elem) × Member from x.left × Leads root list x.context from t) same (from, m, k)
   behind_first demand same m (inr (k, behind)) = behind
 
-  splits_first : {g : Context} {h : ℕ} {from t : Elem} (demand : Demand) → demand ≡ d → demand.right ≡ single (Hole h) → Member from demand.left
+  splits_first : {g : Context} {h : ℕ} {from t : Elem} (demand : Demand) → demand ≡ d → demand.right ≡ single (Hole h)
+      → Member from demand.left
       → Splits demand.context from t → Splits g (Hole h) t
   splits_first {g} {h} demand same right m s =
       let here : h ≡ hole = hole_of h hole (sym right ∙ ap (λ (x : Demand). x.right) same ∙ alone) in
@@ -172,13 +182,16 @@ module _ (root : ℕ) (list : List Placed) (p : Placed) (d : Demand) (hole : ℕ
         | inr later ↦ splits_into demand later same m (leads_split k)
       ]
 
-  leads_join : {g : Context} {x t : Elem} → Leads root list g x (Hole hole) → Behind root list d t → Leads root (p ∷ list) g x t
+  leads_join : {g : Context} {x t : Elem} → Leads root list g x (Hole hole) → Behind root list d t
+      → Leads root (p ∷ list) g x t
   leads_join k behind =
       leads_on (leads_more p k) hole refl (λ g'. into d (asked_first p list (IsBelow d) is) alone behind.1 (leads_more p behind.2))
 
 -- In a well-formed context it is decided what leads where, once it is for holes.
 module _ (root : ℕ) (list : List Placed) (holes : (h : ℕ) (t : Elem) → Decided (Leads root list [] (Hole h) t)) where
-  by_element : (g : Context) (x t : Elem) → ((q : ℕ) → x ≡ Variable (Free q) → Decided (Leads root list g (Variable (Free q)) t)) → Decided (Leads root list g x t)
+  by_element : (g : Context) (x t : Elem)
+      → ((q : ℕ) → x ≡ Variable (Free q) → Decided (Leads root list g (Variable (Free q)) t))
+      → Decided (Leads root list g x t)
   by_element g (Variable (Free q)) t free = free q refl
   by_element g (Variable (Bound i)) t free = inr index_leads
   by_element g Cap t free =
@@ -192,7 +205,8 @@ module _ (root : ℕ) (list : List Placed) (holes : (h : ℕ) (t : Elem) → Dec
         | inr not_so ↦ inr (λ k. not_so (leads_elsewhere [] k))
       ]
 
-  kind_there : (g : Context) (x : Elem) → IsKindedElement (kinds_of g) [] x → (q : ℕ) → x ≡ Variable (Free q) → lookup (kinds_of g) q ≡ Some TermKind
+  kind_there : (g : Context) (x : Elem) → IsKindedElement (kinds_of g) [] x → (q : ℕ) → x ≡ Variable (Free q)
+      → lookup (kinds_of g) q ≡ Some TermKind
   kind_there g x k q e = subst (IsKindedElement (kinds_of g) []) e k
 
   global_decided : (g : Context) (p : ℕ) (t : Elem) → p < root → Decided (Leads root list g (Variable (Free p)) t)
@@ -207,8 +221,10 @@ module _ (root : ℕ) (list : List Placed) (holes : (h : ℕ) (t : Elem) → Dec
   local_decided g p s d t from there (inl (x, m, k)) = inl (through from there m k)
   local_decided g p s d t from there (inr not_so) = inr (λ k. not_so (local_leads from there k))
 
-  variable_decided : (older g : Context) → ((p : ℕ) (b : Bind) → lookup older p ≡ Some b → lookup g p ≡ Some b) → IsKindedContext older
-      → (p : ℕ) (s : Shape) (d : Set) → lookup older p ≡ Some (TermEntry s d) → (t : Elem) → Decided (Leads root list g (Variable (Free p)) t)
+  variable_decided : (older g : Context) → ((p : ℕ) (b : Bind) → lookup older p ≡ Some b → lookup g p ≡ Some b)
+      → IsKindedContext older
+      → (p : ℕ) (s : Shape) (d : Set) → lookup older p ≡ Some (TermEntry s d) → (t : Elem)
+      → Decided (Leads root list g (Variable (Free p)) t)
   variable_decided [] g more formed p s d there t = cc
   variable_decided (b ∷ older) g more formed p s d there t =
       elim (lookup-cases b older p (TermEntry s d) there) as (λ _. Decided (Leads root list g (Variable (Free p)) t)) [
@@ -228,7 +244,8 @@ module _ (root : ℕ) (list : List Placed) (holes : (h : ℕ) (t : Elem) → Dec
         | inr old ↦ variable_decided older g (λ q' b' e'. more q' b' (lookup-older b older q' b' e')) formed.1 p s d old t
       ]
 
-  leads_decided : (g : Context) → IsKindedContext g → (x : Elem) → IsKindedElement (kinds_of g) [] x → (t : Elem) → Decided (Leads root list g x t)
+  leads_decided : (g : Context) → IsKindedContext g → (x : Elem) → IsKindedElement (kinds_of g) [] x → (t : Elem)
+      → Decided (Leads root list g x t)
   leads_decided g formed x k t =
       by_element g x t (λ q e. let entry = entry_of_term g q (kind_there g x k q e) in variable_decided g g (λ p b h. h) formed q entry.0 entry.1 entry.2 t)
 
@@ -238,7 +255,8 @@ IsWell d = IsKindedContext d.context × IsKindedSet (kinds_of d.context) [] d.le
 
 -- what leads where, with one more that is asked
 module _ (root : ℕ) (list : List Placed) (rest : (h : ℕ) (t : Elem) → Decided (Leads root list [] (Hole h) t)) (p : Placed) where
-  unchanged : ((demand : Demand) → p.asked ≡ IsBelow demand → (h : ℕ) → demand.right ≡ single (Hole h) → ⊥) → (h : ℕ) (t : Elem)
+  unchanged : ((demand : Demand) → p.asked ≡ IsBelow demand → (h : ℕ) → demand.right ≡ single (Hole h) → ⊥)
+      → (h : ℕ) (t : Elem)
       → Decided (Leads root (p ∷ list) [] (Hole h) t)
   unchanged none h t =
       elim (rest h t) as (λ _. Decided (Leads root (p ∷ list) [] (Hole h) t)) [
@@ -246,13 +264,15 @@ module _ (root : ℕ) (list : List Placed) (rest : (h : ℕ) (t : Elem) → Deci
         | inr not_so ↦ inr (λ k. not_so (leads_fewer p none k))
       ]
 
-  changed : (d : Demand) → IsWell d → (hole : ℕ) → p.asked ≡ IsBelow d → d.right ≡ single (Hole hole) → (h : ℕ) (t : Elem)
+  changed : (d : Demand) → IsWell d → (hole : ℕ) → p.asked ≡ IsBelow d → d.right ≡ single (Hole hole)
+      → (h : ℕ) (t : Elem)
       → Decided (Leads root (p ∷ list) [] (Hole h) t)
   changed d well hole is alone h t =
       either (rest h t) (rest h (Hole hole))
       (any_member d.left (λ x. Leads root list d.context x t) (λ x m. leads_decided root list rest d.context well.0 x (well.1 x m) t))
     where
-      either : Decided (Leads root list [] (Hole h) t) → Decided (Leads root list [] (Hole h) (Hole hole)) → Decided (Behind root list d t)
+      either : Decided (Leads root list [] (Hole h) t) → Decided (Leads root list [] (Hole h) (Hole hole))
+          → Decided (Behind root list d t)
           → Decided (Leads root (p ∷ list) [] (Hole h) t)
       either (inl k) first behind = inl (leads_more p k)
       either (inr not_so) (inl k) (inl behind) = inl (leads_join root list p d hole is alone k behind)
@@ -269,7 +289,8 @@ module _ (root : ℕ) (list : List Placed) (rest : (h : ℕ) (t : Elem) → Deci
       none (Hole h) (subst (Member (Hole h)) (sym (ap (λ (x : Demand). x.right) at ∙ same)) (Member-single_itself (Hole h))))
   by_right d well is (inr (hole, alone)) = changed d well hole is alone
 
-  by_first : (asked : Asked) → p.asked ≡ asked → ((demand : Demand) → p.asked ≡ IsBelow demand → IsWell demand) → (h : ℕ) (t : Elem)
+  by_first : (asked : Asked) → p.asked ≡ asked → ((demand : Demand) → p.asked ≡ IsBelow demand → IsWell demand)
+      → (h : ℕ) (t : Elem)
       → Decided (Leads root (p ∷ list) [] (Hole h) t)
   by_first (IsBelow d) is well = let w = well d is in by_right d w is w.2
   by_first (IsCapless c) is well = unchanged (λ demand is' h same. other c demand (sym is ∙ is'))
@@ -278,7 +299,8 @@ module _ (root : ℕ) (list : List Placed) (rest : (h : ℕ) (t : Elem) → Deci
       other c demand e = cc
 
 -- it is decided what a hole leads to
-holes_decided : (root : ℕ) (list : List Placed) → ((demand : Demand) → IsAskedIn list (IsBelow demand) → IsWell demand) → (h : ℕ) (t : Elem)
+holes_decided : (root : ℕ) (list : List Placed)
+    → ((demand : Demand) → IsAskedIn list (IsBelow demand) → IsWell demand) → (h : ℕ) (t : Elem)
     → Decided (Leads root list [] (Hole h) t)
 holes_decided root [] well h t =
     elim (element_decided t (Hole h)) as (λ _. Decided (Leads root [] [] (Hole h) t)) [

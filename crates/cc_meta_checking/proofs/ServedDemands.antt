@@ -1,5 +1,6 @@
--- Whether a filling over the globals serves what is fit can be decided, and so the first that it does not serve can be found.
-use Rattle.std.proofs.Common.{◌≡◌, ◌⊎◌, ℕ, ◌<◌, List, [], ◌∷◌, ◌++◌, length, Some, refl, sym, ap, ◌∙◌, subst, inl, inr}
+-- Whether a filling over the globals serves what is fit can be decided, and so the first that it does not serve is
+-- found.
+use Rattle.std.proofs.Common.{◌≡◌, ◌⊎◌, ℕ, ◌<◌, List, [], ◌∷◌, ◌++◌, length, Some, refl, sym, ap, subst, inl, inr}
 use Rattle.cc_base.specs.declared.code.Code.{Code}
 use Rattle.cc_base.specs.declared.place.Place.{Place}
 use Rattle.cc_capture.specs.declared.var.Var.TheVariants.{Bound, Free}
@@ -17,7 +18,6 @@ use Rattle.cc_core.proofs.Lookups.{lookup-older, lookup-cases}
 use Rattle.cc_core.proofs.Sorts.{Sort, SetSort, ShapeSort, Syntax, acted, HasKinds, HasKinds-act}
 use Rattle.cc_core.proofs.SubcapturingContexts.{IsKindedEntry, IsKindedContext, IsKindedContext-from, entry_of_term}
 use Rattle.cc_core.proofs.SubcapturingLemmas.{subcaptures_variable, subcaptures_other}
-use Rattle.cc_sets.specs.Comparison.{Demand}
 use Rattle.cc_sets.specs.Outcomes.{Asked, IsBelow, IsCapless, Placed}
 use Rattle.cc_sets.specs.Fillings.{Filling, filled_entry, filled_context, IsServed, AllServed, IsAskedIn, IsGlobal, IsOverGlobals, FailsFirst, code_of_failure}
 use Rattle.cc_meta_checking.specs.FillingLaws.{AreGlobals, IsFit}
@@ -34,24 +34,29 @@ other_decided g e c none =
       | inr not_so ↦ inr (λ below. not_so (subcaptures_other g e c (λ p s d same there. none p same) below))
     ]
 
-by_element : (g : Context) (e : Elem) (c : Set) → ((q : ℕ) → e ≡ Variable (Free q) → Decided (Subcaptures g (Variable (Free q)) c)) → Decided (Subcaptures g e c)
+by_element : (g : Context) (e : Elem) (c : Set)
+    → ((q : ℕ) → e ≡ Variable (Free q) → Decided (Subcaptures g (Variable (Free q)) c)) → Decided (Subcaptures g e c)
 by_element g (Variable (Free q)) c free = free q refl
 by_element g (Variable (Bound i)) c free = other_decided g (Variable (Bound i)) c (λ p same. cc)
 by_element g Cap c free = other_decided g Cap c (λ p same. cc)
 by_element g (Hole n) c free = other_decided g (Hole n) c (λ p same. cc)
 
-kind_there : (g : Context) (x : Elem) → IsKindedElement (kinds_of g) [] x → (q : ℕ) → x ≡ Variable (Free q) → lookup (kinds_of g) q ≡ Some TermKind
+kind_there : (g : Context) (x : Elem) → IsKindedElement (kinds_of g) [] x → (q : ℕ) → x ≡ Variable (Free q)
+    → lookup (kinds_of g) q ≡ Some TermKind
 kind_there g x k q e = subst (IsKindedElement (kinds_of g) []) e k
 
-declared_decided : (g : Context) (p : ℕ) (s : Shape) (d c : Set) → lookup g p ≡ Some (TermEntry s d) → Decided (Member (Variable (Free p)) c)
+declared_decided : (g : Context) (p : ℕ) (s : Shape) (d c : Set) → lookup g p ≡ Some (TermEntry s d)
+    → Decided (Member (Variable (Free p)) c)
     → Decided (SubcapturesSet g d c) → Decided (Subcaptures g (Variable (Free p)) c)
 declared_decided g p s d c there (inl m) each = inl (element m)
 declared_decided g p s d c there (inr not_so) (inl each) = inl (variable there each)
 declared_decided g p s d c there (inr not_so) (inr none) =
     inr (λ below. elim ((subcaptures_variable g p s d c there).0 below) as (λ _. ⊥) [ inl m ↦ not_so m | inr each ↦ none each ])
 
-variable_decided : (older g : Context) → ((p : ℕ) (b : Bind) → lookup older p ≡ Some b → lookup g p ≡ Some b) → IsKindedContext older
-    → (p : ℕ) (s : Shape) (d : Set) → lookup older p ≡ Some (TermEntry s d) → (c : Set) → Decided (Subcaptures g (Variable (Free p)) c)
+variable_decided : (older g : Context) → ((p : ℕ) (b : Bind) → lookup older p ≡ Some b → lookup g p ≡ Some b)
+    → IsKindedContext older
+    → (p : ℕ) (s : Shape) (d : Set) → lookup older p ≡ Some (TermEntry s d) → (c : Set)
+    → Decided (Subcaptures g (Variable (Free p)) c)
 variable_decided [] g more formed p s d there c = cc
 variable_decided (b ∷ older) g more formed p s d there c =
     elim (lookup-cases b older p (TermEntry s d) there) as (λ _. Decided (Subcaptures g (Variable (Free p)) c)) [
@@ -68,7 +73,8 @@ variable_decided (b ∷ older) g more formed p s d there c =
     ]
 
 -- subcapturing of well-formed sets is decided
-pub subcapturing_decided : (g : Context) → IsKindedContext g → (l r : Set) → IsKindedSet (kinds_of g) [] l → Decided (SubcapturesSet g l r)
+pub subcapturing_decided : (g : Context) → IsKindedContext g → (l r : Set) → IsKindedSet (kinds_of g) [] l
+    → Decided (SubcapturesSet g l r)
 subcapturing_decided g formed l r k =
     each_member l (λ x. Subcaptures g x r)
     (λ x m. by_element g x r (λ q e. let entry = entry_of_term g q (kind_there g x (k x m) q e) in variable_decided g g (λ p b h. h) formed q entry.0 entry.1 entry.2 r))
@@ -100,11 +106,13 @@ module _ (globals : Context) (alone : AreGlobals globals) (f : Filling) (over : 
   filled_entry_kinded later (TermEntry s c) k = (fill_kept later ShapeSort s k.0, fill_kept later SetSort c k.1)
   filled_entry_kinded later (TypeEntry s) k = fill_kept later ShapeSort s k
 
-  filled_context_kinded : (later : Context) → IsKindedContext (later ++ globals) → IsKindedContext (filled_context f (later ++ globals))
+  filled_context_kinded : (later : Context) → IsKindedContext (later ++ globals)
+      → IsKindedContext (filled_context f (later ++ globals))
   filled_context_kinded [] k = subst IsKindedContext (sym (globals_still f globals alone)) k
   filled_context_kinded (b ∷ later) k = (filled_entry_kinded later b k.0, filled_context_kinded later k.1)
 
-  below_decided : (g later : Context) → g ≡ later ++ globals → IsKindedContext g → (l r : Set) → IsKindedSet (kinds_of g) [] l
+  below_decided : (g later : Context) → g ≡ later ++ globals → IsKindedContext g → (l r : Set)
+      → IsKindedSet (kinds_of g) [] l
       → Decided (SubcapturesSet (filled_context f g) (filled_set f l) (filled_set f r))
   below_decided g later is formed l r k =
       subst (λ h. Decided (SubcapturesSet (filled_context f h) (filled_set f l) (filled_set f r))) (sym is)
@@ -126,13 +134,15 @@ abbrev pub SomeFails : Filling → List Placed → Type 0
 SomeFails f list = (code : Code) × (at : Place) × FailsFirst f list code at
 
 -- all is served, or there is a first that fails
-pub first_failure : (f : Filling) (list : List Placed) → ((asked : Asked) → IsAskedIn list asked → Decided (IsServed f asked)) → SomeFails f list ⊎ AllServed f list
+pub first_failure : (f : Filling) (list : List Placed)
+    → ((asked : Asked) → IsAskedIn list asked → Decided (IsServed f asked)) → SomeFails f list ⊎ AllServed f list
 first_failure f [] decided = inr tt
 first_failure f (p ∷ list) decided =
     by_first (decided p.asked ([], p, list, refl, refl))
     (first_failure f list (λ asked (before, placed, after, is, same). decided asked (p ∷ before, placed, after, ap (λ l. p ∷ l) is, same)))
   where
-    by_first : Decided (IsServed f p.asked) → SomeFails f list ⊎ AllServed f list → SomeFails f (p ∷ list) ⊎ AllServed f (p ∷ list)
+    by_first : Decided (IsServed f p.asked) → SomeFails f list ⊎ AllServed f list
+        → SomeFails f (p ∷ list) ⊎ AllServed f (p ∷ list)
     by_first (inr not_so) rest = inl (code_of_failure p.asked, p.at, ([], p, list, refl, tt, not_so, refl, refl))
     by_first (inl one) (inr all) = inr (one, all)
     by_first (inl one) (inl (code, at, (before, placed, after, is, all, fails, c, a))) =

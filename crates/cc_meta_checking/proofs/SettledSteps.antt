@@ -1,6 +1,6 @@
--- Steps that settle: from some number of steps of comparisons on they come to one answer. Each step of inference settles for
--- what is well formed.
-use Rattle.std.proofs.Common.{◌≡◌, ◌⊎◌, ℕ, zero, ◌+◌, ◌≤◌, Bool, true, false, cond, List, [], ◌∷◌, Option, Some, None, refl, sym, ap, ◌∙◌, subst, inl, inr, arith}
+-- Steps that settle: from some number of steps of comparisons on they come to one answer. Each step of inference
+-- settles for what is well formed.
+use Rattle.std.proofs.Common.{◌≡◌, ℕ, zero, ◌+◌, ◌≤◌, Bool, true, false, cond, List, [], ◌∷◌, Option, Some, None, refl, sym, ap, ◌∙◌, subst, inl, inr, arith}
 use Rattle.cc_base.specs.declared.code.Code.{Code}
 use Rattle.cc_base.specs.declared.code.Code.TheVariants.{E13, E14, E18}
 use Rattle.cc_base.specs.declared.place.Place.{Place}
@@ -59,7 +59,8 @@ module _ {A B : Type 0} (at : ℕ → Outcome A) (next : ℕ → A → Outcome B
         after = λ n h. ap (λ o. ◌>>=◌ o (next n)) (s.after n h ∙ e);
       }
 
-  found_then : (a : A) (list : List Placed) → s.answer ≡ Found a list → Settles (λ n. next n a) → Settles (λ n. ◌>>=◌ (at n) (next n))
+  found_then : (a : A) (list : List Placed) → s.answer ≡ Found a list → Settles (λ n. next n a)
+      → Settles (λ n. ◌>>=◌ (at n) (next n))
   unfolding ◌>>=◌
   found_then a list e rest =
       let first : ℕ = s.steps in
@@ -77,7 +78,8 @@ module _ {A B : Type 0} (at : ℕ → Outcome A) (next : ℕ → A → Outcome B
 
 -- where a step settles, and what follows settles for each value that is found, the two settle
 pub settles_then : {A B : Type 0} {at : ℕ → Outcome A} {next : ℕ → A → Outcome B} → Settles at
-    → ((a : A) (n : ℕ) (qs : List Asked) → Came (at n) a qs → Settles (λ m. next m a)) → Settles (λ n. ◌>>=◌ (at n) (next n))
+    → ((a : A) (n : ℕ) (qs : List Asked) → Came (at n) a qs → Settles (λ m. next m a))
+    → Settles (λ n. ◌>>=◌ (at n) (next n))
 settles_then {A} {B} {at} {next} s k = by_answer s.answer refl
   where
     by_answer : (o : Outcome A) → s.answer ≡ o → Settles (λ n. ◌>>=◌ (at n) (next n))
@@ -92,7 +94,8 @@ tested_ends : (b : Bool) (at : Place) (r : Result) → cond b (finds r) (Refused
 tested_ends true at r e = cc
 tested_ends false at r e = cc
 
-pub settles_sized : (places : Places) {at : ℕ → Outcome Result} → Settles at → Settles (λ n. sized (limited n) places (at n))
+pub settles_sized : (places : Places) {at : ℕ → Outcome Result} → Settles at
+    → Settles (λ n. sized (limited n) places (at n))
 settles_sized places s =
     settles_then s (λ r n qs c. settles_now (tested (limited 0) (spots places).at r) (tested_ends ((limited 0).passes r.type) (spots places).at r))
 
@@ -108,7 +111,8 @@ module _ (g : Context) (formed : IsKindedContext g) (l r : Shape) (kl : IsKinded
         | inr e ↦ sym e
       ]
 
-  settles_comparing : (make : Comparison → Outcome (Unit {0})) → ((c : Comparison) → (c ≡ Unfinished → ⊥) → make c ≡ NoAnswer → ⊥)
+  settles_comparing : (make : Comparison → Outcome (Unit {0}))
+      → ((c : Comparison) → (c ≡ Unfinished → ⊥) → make c ≡ NoAnswer → ⊥)
       → Settles (λ n. make (comparison n g l r))
   settles_comparing make ends =
       record {
@@ -123,23 +127,27 @@ compared_ends at Unfinished done e = done refl
 compared_ends at Mismatch done e = cc
 compared_ends at (Matches ds) done e = cc
 
-demanded_ends : (at : Place) (first : List Demand) (c : Comparison) → (c ≡ Unfinished → ⊥) → compared_at at (and_then (Matches first) c) ≡ NoAnswer → ⊥
+demanded_ends : (at : Place) (first : List Demand) (c : Comparison) → (c ≡ Unfinished → ⊥)
+    → compared_at at (and_then (Matches first) c) ≡ NoAnswer → ⊥
 demanded_ends at first Unfinished done e = done refl
 demanded_ends at first Mismatch done e = cc
 demanded_ends at first (Matches ds) done e = cc
 
-pub settles_against : (at : Place) (g : Context) → IsKindedContext g → (l r : Shape) → IsKinded (kinds_of g) [] l → IsKinded (kinds_of g) [] r
+pub settles_against : (at : Place) (g : Context) → IsKindedContext g → (l r : Shape) → IsKinded (kinds_of g) [] l
+    → IsKinded (kinds_of g) [] r
     → Settles (λ n. against (comparison n) at g l r)
 settles_against at g formed l r kl kr = settles_comparing g formed l r kl kr (compared_at at) (compared_ends at)
 
-pub settles_below : (at : Place) (g : Context) → IsKindedContext g → (l r : CapturingType) → IsKinded (kinds_of g) [] l.shape → IsKinded (kinds_of g) [] r.shape
+pub settles_below : (at : Place) (g : Context) → IsKindedContext g → (l r : CapturingType)
+    → IsKinded (kinds_of g) [] l.shape → IsKinded (kinds_of g) [] r.shape
     → Settles (λ n. below (comparison n) at g l r)
 settles_below at g formed l r kl kr =
     settles_comparing g formed l.shape r.shape kl kr (λ c. compared_at at (and_then (Matches (demanded g l.set r.set ∷ [])) c))
     (demanded_ends at (demanded g l.set r.set ∷ []))
 
 -- variables
-entry_answers : (v : Var) (o : Option Bind) (s : Shape) (d : Set) → o ≡ Some (TermEntry s d) → entry_type v o ≡ NoAnswer → ⊥
+entry_answers : (v : Var) (o : Option Bind) (s : Shape) (d : Set) → o ≡ Some (TermEntry s d)
+    → entry_type v o ≡ NoAnswer → ⊥
 entry_answers v o s d there e = let found : entry_type v (Some (TermEntry s d)) ≡ NoAnswer = ap (entry_type v) (sym there) ∙ e in cc
 
 variable_answers : (g : Context) (v : Var) → IsOfKind (kinds_of g) [] v TermKind → variable_type g v ≡ NoAnswer → ⊥
@@ -222,20 +230,24 @@ pub settles_or : {A : Type 0} (code : Code) (at : Place) (o : Option A) → Sett
 settles_or code at o = settles_now (found_or code at o) (avoided_answers code at o)
 
 -- the shape of a variable that is found is well formed
-pub found_shape : (g : Context) (v : Var) → IsKindedContext g → (n : ℕ) {t : CapturingType} {qs : List Asked} → Came (variable_type g v) t qs
+pub found_shape : (g : Context) (v : Var) → IsKindedContext g → (n : ℕ) {t : CapturingType} {qs : List Asked}
+    → Came (variable_type g v) t qs
     → IsKinded (kinds_of g) [] t.shape
 found_shape g v formed n c =
     let x = variable_came g v c in subst (λ (t : CapturingType). IsKinded (kinds_of g) [] t.shape) (sym x.type) (has_kinded formed x.has).0
 
 -- steps at a place of a context, for what is well formed under the binders passed
 module _ {base g : Context} {passed : List Kind} (i : Inside base g passed) (formed : IsKindedContext g) where
-  pub in_kind : (v : Var) → IsOfKind (kinds_of base) passed v TermKind → IsOfKind (kinds_of g) [] (in_context g v) TermKind
+  pub in_kind : (v : Var) → IsOfKind (kinds_of base) passed v TermKind
+      → IsOfKind (kinds_of g) [] (in_context g v) TermKind
   in_kind v k = reading_moves i [] v TermKind k
 
-  pub settles_there : (v : Var) → IsOfKind (kinds_of base) passed v TermKind → Settles (λ n. variable_type g (in_context g v))
+  pub settles_there : (v : Var) → IsOfKind (kinds_of base) passed v TermKind
+      → Settles (λ n. variable_type g (in_context g v))
   settles_there v k = settles_variable g (in_context g v) (in_kind v k)
 
-  pub settles_operand : (at : Place) (v : Var) (s : Shape) → IsOfKind (kinds_of base) passed v TermKind → IsKinded (kinds_of g) [] s
+  pub settles_operand : (at : Place) (v : Var) (s : Shape) → IsOfKind (kinds_of base) passed v TermKind
+      → IsKinded (kinds_of g) [] s
       → Settles (λ n. operand (comparison n) at g v s)
   settles_operand at v s k ks =
       settles_then (settles_there v k) (λ t n qs c. settles_against at g formed t.shape s (found_shape g (in_context g v) formed n c) ks)
@@ -247,7 +259,8 @@ module _ {base g : Context} {passed : List Kind} (i : Inside base g passed) (for
   settles_argument at None (Some v) k = settles_now (Refused E14 at) (λ e. cc)
   settles_argument at None None k = settles_found tt
 
-  pub settles_noted : (root : ℕ) (at : Place) (note : Note) (t : CapturingType) → IsKindedNote (kinds_of base) passed note → IsKindedType (kinds_of g) [] t
+  pub settles_noted : (root : ℕ) (at : Place) (note : Note) (t : CapturingType)
+      → IsKindedNote (kinds_of base) passed note → IsKindedType (kinds_of g) [] t
       → Settles (λ n. noted (comparison n) root at g note t)
   settles_noted root at Absent t k kt = settles_found _
   settles_noted root at (Written s c) t k kt =
@@ -256,13 +269,15 @@ module _ {base g : Context} {passed : List Kind} (i : Inside base g passed) (for
       settles_then (settles_against at g formed t.shape (shape_in g s) kt.0 (read_kinded i ShapeSort s k)) (λ u n qs c. settles_found _)
 
 -- a part with its comparison
-pub settles_part_below : (at : Place) (g : Context) → IsKindedContext g → (t : CapturingType) → IsKinded (kinds_of g) [] t.shape → {row : ℕ → Outcome Result} → Settles row
+pub settles_part_below : (at : Place) (g : Context) → IsKindedContext g → (t : CapturingType)
+    → IsKinded (kinds_of g) [] t.shape → {row : ℕ → Outcome Result} → Settles row
     → ((r : Result) (n : ℕ) (qs : List Asked) → Came (row n) r qs → IsKindedType (kinds_of g) [] r.type)
     → Settles (λ n. part_below (comparison n) at g t (row n))
 settles_part_below at g formed t kt s found =
     settles_then s (λ r n qs c. settles_then (settles_below at g formed r.type t (found r n qs c).0 kt) (λ u n qs c. settles_found r))
 
-pub settles_part_against : (at : Place) (g : Context) → IsKindedContext g → (x : Shape) → IsKinded (kinds_of g) [] x → {row : ℕ → Outcome Result} → Settles row
+pub settles_part_against : (at : Place) (g : Context) → IsKindedContext g → (x : Shape) → IsKinded (kinds_of g) [] x
+    → {row : ℕ → Outcome Result} → Settles row
     → ((r : Result) (n : ℕ) (qs : List Asked) → Came (row n) r qs → IsKindedType (kinds_of g) [] r.type)
     → Settles (λ n. part_against (comparison n) at g x (row n))
 settles_part_against at g formed x kx s found =
