@@ -75,7 +75,7 @@ pub lookup-from_filled : (f : Filling) (g : Context) (p : ℕ) (s : Shape) (d : 
 lookup-from_filled f g p s d e = entry_from_filled f (lookup g p) s d (sym (lookup-map (filled_entry f) g p) ∙ e)
 
 -- what is forced is global
-comes_global : {root : ℕ} {list : List Placed} {g : Context} {x e : Elem} → Comes root list g x e → IsGlobal root e
+pub comes_global : {root : ℕ} {list : List Placed} {g : Context} {x e : Elem} → Comes root list g x e → IsGlobal root e
 comes_global (global below) = below
 comes_global capability = tt
 comes_global (local from there m c) = comes_global c
