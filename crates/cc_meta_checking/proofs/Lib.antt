@@ -2,6 +2,10 @@ pub mod AlikeSignatures
 pub mod CanonicalSets
 pub mod CanonicalShapes
 pub mod CheckedDefinitions
+pub mod FilledActions
+pub mod FilledComparisons
+pub mod FilledFindings
+pub mod FilledRows
 pub mod FilledSubtyping
 pub mod FilledSyntax
 pub mod FilledTerms
