@@ -59,7 +59,7 @@ module _ (root : ℕ) (f : Filling) (over : IsOverGlobals root f) where
       (MeetsIn-always sort (on_variables (λ d v. Unit {0})) (always_on_variables (λ d v. Unit {0}) (λ d v. tt)) 0 x)
 
 -- the globals are variables of terms
-all_terms : (g : Context) → AreGlobals g → (p : ℕ) → p < length g → lookup (kinds_of g) p ≡ Some TermKind
+pub all_terms : (g : Context) → AreGlobals g → (p : ℕ) → p < length g → lookup (kinds_of g) p ≡ Some TermKind
 all_terms [] a p h = absurd (omega arith)
 all_terms (TermEntry s c ∷ g) a p h =
     elim (cases_eq p (length g)) as (λ _. lookup (TermKind ∷ kinds_of g) p ≡ Some TermKind) [

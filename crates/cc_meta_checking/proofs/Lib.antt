@@ -18,7 +18,9 @@ pub mod InferredSizes
 pub mod LeastFillings
 pub mod OneOutcome
 pub mod OneVerdict
+pub mod ReachedFindings
 pub mod ReadingKinds
+pub mod RepeatedFindings
 pub mod Signatures
 pub mod TameFindings
 pub mod Tameness
