@@ -1,5 +1,5 @@
 -- Where a filling serves what a comparison demands, the filled sides compare, and what they demand holds.
-use Rattle.std.proofs.Common.{◌≡◌, ℕ, List, [], ◌∷◌, ◌++◌}
+use Rattle.std.proofs.Common.{ℕ, List, [], ◌∷◌, ◌++◌}
 use Rattle.cc_core.specs.Shapes.{Shape, CapturingType}
 use Rattle.cc_core.specs.Contexts.{Context}
 use Rattle.cc_core.specs.Substitution.{filled, filled_type}

@@ -4,10 +4,10 @@ use Rattle.cc_base.specs.declared.literal.Base.TheVariants as bases
 use Rattle.cc_capture.specs.declared.var.Elem.TheVariants.{Cap}
 use Rattle.cc_capture.specs.Sets.{empty, union}
 use Rattle.cc_capture.proofs.Membership.{Member-union}
-use Rattle.cc_core.specs.Shapes.{Shape, BaseShape, FunctionShape, capturing}
+use Rattle.cc_core.specs.Shapes.{BaseShape, FunctionShape, capturing}
 use Rattle.cc_core.specs.Terms.{Term}
 use Rattle.cc_core.specs.Contexts.{TypeEntry, Context, lookup, entry_of}
-use Rattle.cc_core.specs.Substitution.{filled, filled_set, filled_type}
+use Rattle.cc_core.specs.Substitution.{filled_set, filled_type}
 use Rattle.cc_core.specs.WellFormed.{Kind, TermKind, kinds_of}
 use Rattle.cc_core.proofs.CapturedKinds.{union_kinded}
 use Rattle.cc_core.proofs.KindFacts.{IsKindedTerm}

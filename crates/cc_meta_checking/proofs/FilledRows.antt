@@ -1,5 +1,5 @@
 -- The completed and filled term is inferred again: a lemma for each form.
-use Rattle.std.proofs.Common.{◌≡◌, ℕ, ◌<◌, ◌≤◌, List, [], ◌∷◌, ◌++◌, length, Some, None, refl, sym, ap, ◌∙◌, subst, arith}
+use Rattle.std.proofs.Common.{◌≡◌, ℕ, ◌<◌, ◌≤◌, List, [], ◌∷◌, ◌++◌, length, Some, None, sym, ap, ◌∙◌, subst, arith}
 use Rattle.cc_base.specs.declared.literal.Base.{Base}
 use Rattle.cc_base.specs.declared.literal.Base.TheVariants as bases
 use Rattle.cc_base.specs.declared.literal.Operator.{Operator}
@@ -12,13 +12,13 @@ use Rattle.cc_core.specs.Shapes.{Shape, BaseShape, FunctionShape, TypeFunctionSh
 use Rattle.cc_core.specs.Terms.{Note, Written, Term, VariableTerm, LiteralTerm, FunctionTerm, TypeFunctionTerm, BoxTerm, Application, TypeApplication, Unboxing, Let, Primitive, Conditional, Repetition, Operation, Boundary, Leave}
 use Rattle.cc_core.specs.Contexts.{Bind, TermEntry, TypeEntry, Context, lookup, entry_of}
 use Rattle.cc_core.specs.Traversal.{act, act_set, act_note, act_term}
-use Rattle.cc_core.specs.Substitution.{filled_element, filling_in, filled, filled_set, filled_type, filled_term, closed, closed_set, putting_shape, replaced_type, replaced_type_by_shape}
+use Rattle.cc_core.specs.Substitution.{filled_element, filling_in, filled, filled_set, filled_type, filled_term, closed, closed_set, replaced_type, replaced_type_by_shape}
 use Rattle.cc_core.specs.Reading.{read_variable, reading}
 use Rattle.cc_core.specs.WellFormed.{Kind, TermKind, kinds_of}
 use Rattle.cc_core.specs.Captured.{captured_variables, variable_set}
 use Rattle.cc_core.specs.Subcapturing.{SubcapturesSet}
 use Rattle.cc_core.specs.Typing.{HasNoCap, base_of, base_given, base_operated, base_taken, base_answered}
-use Rattle.cc_core.proofs.KindFacts.{IsKindedSet, IsKindedType, IsKindedNote}
+use Rattle.cc_core.proofs.KindFacts.{IsKindedSet, IsKindedType}
 use Rattle.cc_core.proofs.Moving.{flat_image-of_single}
 use Rattle.cc_core.proofs.Shifting.{shift, shift_term}
 use Rattle.cc_core.proofs.Sorts.{Sort, SetSort, ShapeSort, TypeSort, Syntax, acted}

@@ -1,5 +1,5 @@
 -- What the relation finds, the function finds, with enough steps for its comparisons.
-use Rattle.std.proofs.Common.{◌≡◌, ℕ, zero, ◌+◌, ◌≤◌, true, cond, List, [], ◌∷◌, ◌++◌, length, Some, None, refl, sym, ap, ◌∙◌, subst, inl, inr, arith}
+use Rattle.std.proofs.Common.{◌≡◌, ℕ, zero, ◌+◌, ◌≤◌, cond, List, [], ◌∷◌, ◌++◌, length, Some, None, refl, sym, ap, ◌∙◌, subst, inl, inr, arith}
 use Rattle.std.specs.Prelude.{map}
 use Rattle.cc_base.specs.declared.code.Code.TheVariants.{E13, E17}
 use Rattle.cc_base.specs.declared.place.Place.{Place}
@@ -12,21 +12,21 @@ use Rattle.cc_capture.specs.declared.var.Var.{Var}
 use Rattle.cc_capture.specs.declared.var.Var.TheVariants.{Free}
 use Rattle.cc_capture.specs.Sets.{Set, empty}
 use Rattle.cc_core.specs.Shapes.{Shape, BaseShape, FunctionShape, TypeFunctionShape, BoxShape, ExitShape, CapturingType, capturing}
-use Rattle.cc_core.specs.Terms.{Note, Absent, Written, Own, Term, VariableTerm, LiteralTerm, FunctionTerm, TypeFunctionTerm, BoxTerm, Application, TypeApplication, Unboxing, Let, Primitive, Conditional, Repetition, Operation, Boundary, Leave}
-use Rattle.cc_core.specs.Contexts.{TermEntry, TypeEntry, Context, lookup, entry_of}
+use Rattle.cc_core.specs.Terms.{Note, Written, Own, Term, VariableTerm, LiteralTerm, FunctionTerm, TypeFunctionTerm, BoxTerm, Application, TypeApplication, Unboxing, Let, Primitive, Conditional, Repetition, Operation, Boundary, Leave}
+use Rattle.cc_core.specs.Contexts.{TypeEntry, Context, entry_of}
 use Rattle.cc_core.specs.Captured.{variable_set}
 use Rattle.cc_core.specs.Substitution.{replaced_type, replaced_type_by_shape}
 use Rattle.cc_core.specs.Typing.{base_of, base_given, base_operated, base_taken, base_answered}
 use Rattle.cc_core.specs.Places.{Places, spots, first_part, second_part}
-use Rattle.cc_sets.specs.Comparison.{Demand, demanded, Comparison, Unfinished, Matches, comparison, type_comparison, HasDemands, TypesHaveDemands}
+use Rattle.cc_sets.specs.Comparison.{Demand, demanded, Comparison, Matches, comparison, type_comparison, HasDemands, TypesHaveDemands}
 use Rattle.cc_sets.specs.Exposing.{exposed}
 use Rattle.cc_sets.specs.Avoidance.{Positive, avoided_type}
-use Rattle.cc_sets.specs.Outcomes.{Asked, IsBelow, IsCapless, Placed, placed_at, Outcome, Refused, Found, finds, asked_before, ◌>>=◌, found_or}
-use Rattle.cc_sets.specs.Inference.{Result, result, in_context, set_in, shape_in, type_in, written_in, base_type, entry_type, variable_type, function_head, type_function_head, box_head, exit_head, device_head, demand_at, compared_at, below, against, operand, opening_set, operation_argument, capless, Named, noted, left_behind, part_below, part_against, sized, function_found, type_function_found, choice_found, exit_entry, inferred, unlimited}
+use Rattle.cc_sets.specs.Outcomes.{Asked, IsBelow, IsCapless, placed_at, Outcome, Refused, Found, finds, asked_before, ◌>>=◌, found_or}
+use Rattle.cc_sets.specs.Inference.{Result, result, in_context, set_in, shape_in, type_in, written_in, base_type, entry_type, variable_type, function_head, type_function_head, box_head, exit_head, device_head, demand_at, compared_at, operand, operation_argument, Named, noted, part_below, part_against, sized, function_found, type_function_found, choice_found, exit_entry, inferred, unlimited}
 use Rattle.cc_sets.proofs.ShapeEquality.{same_shape-itself}
 use Rattle.cc_meta_typing.proofs.ComparisonLemmas.{Keeps, keeps_then, comparison_keeps}
 use Rattle.cc_meta_checking.proofs.Findings.{Has, its_type, below_all, Operand, Notes, notes-absent, notes-written, notes-own, Finds, finds-variable, finds-literal, finds-function, finds-type_function, finds-box, finds-application, finds-type_application, finds-unboxing, finds-unboxing_own, finds-let, finds-primitive, finds-choice, finds-choice_own, finds-repetition, finds-operation, finds-operation_alone, finds-boundary, finds-exit}
-use Rattle.cc_meta_checking.proofs.FoundFindings.{asked_of, asked_of-append, asked_of-demands, Came, append_none}
+use Rattle.cc_meta_checking.proofs.FoundFindings.{asked_of-append, asked_of-demands, Came, append_none}
 
 -- a step and the rest
 pub then_reaches : {A B : Type 0} {o : Outcome A} (next : A → Outcome B) {a : A} {b : B} {qs ps all : List Asked} → Came o a qs → Came (next a) b ps → all ≡ qs ++ ps
