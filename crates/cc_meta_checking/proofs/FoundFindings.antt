@@ -195,7 +195,7 @@ pub avoided_came : (at : Place) (o : Option CapturingType) {t : CapturingType} {
 avoided_came at (Some x) c = let p = finds_came c in (ap (λ y. Some y) (sym p.0), p.1)
 avoided_came at None (list, e, q) = cc
 
-append_none : (qs : List Asked) → qs ++ [] ≡ qs
+pub append_none : (qs : List Asked) → qs ++ [] ≡ qs
 append_none [] = refl
 append_none (q ∷ qs) = ap (λ l. q ∷ l) (append_none qs)
 

@@ -6,6 +6,10 @@ pub mod ComputedFillings
 pub mod ComputedVerdicts
 pub mod DecidedDemands
 pub mod Decisions
+pub mod FilledActions
+pub mod FilledComparisons
+pub mod FilledFindings
+pub mod FilledRows
 pub mod FilledSubtyping
 pub mod FilledSyntax
 pub mod FilledTerms
@@ -19,7 +23,9 @@ pub mod InferredSizes
 pub mod LeastFillings
 pub mod OneOutcome
 pub mod OneVerdict
+pub mod ReachedFindings
 pub mod ReadingKinds
+pub mod RepeatedFindings
 pub mod ServedDemands
 pub mod SettledSteps
 pub mod SettledTerms
