@@ -59,7 +59,7 @@ module _ (root : ℕ) (f : Filling) (over : IsOverGlobals root f) where
       (MeetsIn-always sort (on_variables (λ d v. Unit {0})) (always_on_variables (λ d v. Unit {0}) (λ d v. tt)) 0 x)
 
 -- the globals are variables of terms
-all_terms : (g : Context) → AreGlobals g → (p : ℕ) → p < length g → lookup (kinds_of g) p ≡ Some TermKind
+pub all_terms : (g : Context) → AreGlobals g → (p : ℕ) → p < length g → lookup (kinds_of g) p ≡ Some TermKind
 all_terms [] a p h = absurd (omega arith)
 all_terms (TermEntry s c ∷ g) a p h =
     elim (cases_eq p (length g)) as (λ _. lookup (TermKind ∷ kinds_of g) p ≡ Some TermKind) [
@@ -99,7 +99,7 @@ has_type g t s k kt ks h =
     record { context_formed = IsKindedContext-test g k; term_formed = IsKindedTerm-test (kinds_of g) [] t kt; type_formed = IsKindedType-test (kinds_of g) [] s ks; typing = h }
 
 -- read in a context what is well formed in it
-read_itself : (g : Context) (t : Term) → IsKindedTerm (kinds_of g) [] t → read_term (length g) t ≡ t
+pub read_itself : (g : Context) (t : Term) → IsKindedTerm (kinds_of g) [] t → read_term (length g) t ≡ t
 read_itself g t k = read_term-still (length g) 0 t (HasKinds-meets TermSort (kinds_of g) [] _ (kinds_bound (kinds_of g)) [] t k)
 
 -- both types of an accepted definition

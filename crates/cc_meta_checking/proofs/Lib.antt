@@ -2,6 +2,11 @@ pub mod AlikeSignatures
 pub mod CanonicalSets
 pub mod CanonicalShapes
 pub mod CheckedDefinitions
+pub mod CountedShapes
+pub mod CountedTerms
+pub mod DerivedDefinitions
+pub mod DerivedRows
+pub mod DerivedTerms
 pub mod FilledSubtyping
 pub mod FilledSyntax
 pub mod FilledTerms
