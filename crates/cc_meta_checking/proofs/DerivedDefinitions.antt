@@ -1,5 +1,5 @@
 -- The canonical derivation of an accepted definition is valid and concludes its type and its signature.
-use Rattle.std.proofs.Common.{◌≡◌, ℕ, suc, ◌<◌, ◌≤◌, Bool, true, false, cond, List, [], ◌∷◌, length, Option, Some, None, refl, sym, ap, ◌∙◌, subst, arith}
+use Rattle.std.proofs.Common.{◌≡◌, ℕ, suc, ◌<◌, ◌≤◌, Bool, true, false, cond, List, [], ◌∷◌, length, Some, refl, sym, ap, ◌∙◌, subst, arith}
 use Rattle.cc_capture.specs.Sets.{Set}
 use Rattle.cc_core.specs.Shapes.{Shape, CapturingType, capturing}
 use Rattle.cc_core.specs.Terms.{Note, Absent, Written, Own, Term}
@@ -14,14 +14,14 @@ use Rattle.cc_core.specs.Derivations.{Derivation, OfType, IsValidTyping, Conclud
 use Rattle.cc_core.proofs.KindFacts.{IsKindedType, IsKindedTerm, IsKindedNote, IsKindedNote-from, IsKindedTerm-from, IsKinded-test, IsKindedType-test}
 use Rattle.cc_core.proofs.Lookups.{lookup-older}
 use Rattle.cc_core.proofs.ReadingAndWriting.{read_type-still}
-use Rattle.cc_core.proofs.Sorts.{SetSort, ShapeSort, TypeSort, TermSort, HasKinds-meets}
+use Rattle.cc_core.proofs.Sorts.{ShapeSort, TypeSort, TermSort, HasKinds-meets}
 use Rattle.cc_core.proofs.SubcapturingContexts.{IsKindedContext, IsKindedContext-from, IsKinded-added, IsKindedSet-added}
 use Rattle.cc_core.proofs.SubcapturingLemmas.{subcaptures_reflexive}
 use Rattle.cc_sets.specs.Outcomes.{Asked, Placed, Found}
 use Rattle.cc_sets.specs.Fillings.{Filling, filled_context, AllServed, IsOverGlobals}
-use Rattle.cc_sets.specs.Inference.{Result, result, set_in, shape_in, type_in, Named, limited}
-use Rattle.cc_sets.specs.CanonicalDerivations.{canonical_shapes, raised, raised_if, noted_derived, term_derived, definition_derived}
-use Rattle.cc_sets.specs.Verdicts.{Definition, Checking, plain_checked, recursive_checked, Accepted, IsAccepted, accepted_with, signature_under, signature_of, HasVerdict}
+use Rattle.cc_sets.specs.Inference.{Result, result, shape_in, type_in, Named, limited}
+use Rattle.cc_sets.specs.CanonicalDerivations.{canonical_shapes, raised, noted_derived, term_derived, definition_derived}
+use Rattle.cc_sets.specs.Verdicts.{Definition, Checking, plain_checked, recursive_checked, Accepted, IsAccepted, signature_under, signature_of, HasVerdict}
 use Rattle.cc_meta_typing.proofs.FormedContexts.{kinds_bound, IsKindedContext-test, some_is}
 use Rattle.cc_meta_checking.specs.FillingLaws.{AreGlobals}
 use Rattle.cc_meta_checking.specs.CheckingLaws.{Fits, definition_context}
@@ -35,7 +35,7 @@ use Rattle.cc_meta_checking.proofs.LeastFillings.{filled-still, globals_still, l
 use Rattle.cc_meta_checking.proofs.FilledSubtyping.{Serves, serves_parts, serves_asked, shapes_below, types_below}
 use Rattle.cc_meta_checking.proofs.FilledTyping.{fill_kinded, read_fill, read_written}
 use Rattle.cc_meta_checking.proofs.Signatures.{signed}
-use Rattle.cc_meta_checking.proofs.CheckedDefinitions.{no_hole, all_terms, accepted_parts, read_itself}
+use Rattle.cc_meta_checking.proofs.CheckedDefinitions.{all_terms, accepted_parts, read_itself}
 use Rattle.cc_meta_checking.proofs.DerivedRows.{AskedHold, Derives, DerivesAll, of_term, raised_valid, raised_if_valid}
 use Rattle.cc_meta_checking.proofs.DerivedTerms.{finds_derived}
 

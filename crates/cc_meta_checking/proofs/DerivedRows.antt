@@ -1,52 +1,47 @@
 -- The canonical derivation of each form is valid where those of its parts are.
-use Rattle.std.proofs.Common.{◌≡◌, ℕ, suc, Bool, true, false, cond, List, [], ◌∷◌, ◌++◌, length, Option, Some, None, refl, sym, ap, ◌∙◌, subst}
+use Rattle.std.proofs.Common.{◌≡◌, ℕ, suc, Bool, true, false, cond, List, [], ◌∷◌, ◌++◌, length, Some, None, refl, sym, ap, ◌∙◌, subst}
 use Rattle.cc_base.specs.declared.literal.Base.TheVariants as bases
 use Rattle.cc_base.specs.declared.literal.Base.{Base}
 use Rattle.cc_base.specs.declared.literal.Operator.{Operator}
 use Rattle.cc_base.specs.declared.literal.Op.{Op}
 use Rattle.cc_capture.specs.declared.var.Var.{Var}
-use Rattle.cc_capture.specs.declared.var.Var.TheVariants.{Bound, Free}
+use Rattle.cc_capture.specs.declared.var.Var.TheVariants.{Free}
 use Rattle.cc_capture.specs.declared.var.Elem.TheVariants.{Var as Variable, Cap}
 use Rattle.cc_capture.specs.Sets.{Set, empty}
 use Rattle.cc_core.specs.Shapes.{Shape, BaseShape, FunctionShape, TypeFunctionShape, BoxShape, ExitShape, CapturingType, capturing}
-use Rattle.cc_core.specs.Terms.{Note, Absent, Written, Own, Term, VariableTerm, FunctionTerm, TypeFunctionTerm, BoxTerm, Application, TypeApplication, Unboxing, Let, Primitive, Conditional, Repetition, Operation, Boundary, Leave}
-use Rattle.cc_core.specs.Contexts.{Bind, TermEntry, TypeEntry, Context, lookup, entry_of}
-use Rattle.cc_core.specs.Traversal.{act, act_set, act_note, act_term}
-use Rattle.cc_core.specs.Substitution.{opened_term, replaced_type, replaced_type_by_shape}
-use Rattle.cc_core.specs.Reading.{reading, read_set, read_term}
+use Rattle.cc_core.specs.Terms.{Written, Term, VariableTerm, FunctionTerm, TypeFunctionTerm, BoxTerm, Application, TypeApplication, Unboxing, Primitive, Conditional, Repetition, Operation, Boundary, Leave}
+use Rattle.cc_core.specs.Contexts.{TermEntry, TypeEntry, Context, lookup, entry_of}
+use Rattle.cc_core.specs.Traversal.{act_term}
+use Rattle.cc_core.specs.Substitution.{replaced_type, replaced_type_by_shape}
+use Rattle.cc_core.specs.Reading.{reading, read_term}
 use Rattle.cc_core.specs.WellFormed.{kinds_of, TermKind}
 use Rattle.cc_core.specs.Comparison.{same_type}
-use Rattle.cc_core.specs.Captured.{captured_variables, variable_set}
+use Rattle.cc_core.specs.Captured.{variable_set}
 use Rattle.cc_core.specs.Subcapturing.{SubcapturesSet}
 use Rattle.cc_core.specs.Subtyping.{Subtypes, SubtypesType, reflexive, transitive, box}
-use Rattle.cc_core.specs.Typing.{base_given, base_operated, base_taken, base_answered, IsNoteOf, HasNoCap}
+use Rattle.cc_core.specs.Typing.{base_given, base_operated, base_taken, base_answered, HasNoCap}
 use Rattle.cc_core.specs.Derivations.{t-box, t-prim, t-if, t-repeat, Node, one, two, three, Derivation, OfType, TypeBelow, IsValidComparison, IsValidTyping, Concludes, ConcludesShapes}
 use Rattle.cc_core.proofs.CapturedActions.{captured_variables-act}
 use Rattle.cc_core.proofs.CapturedKinds.{empty_kinded}
 use Rattle.cc_core.proofs.Comparisons.{same_type-decides}
-use Rattle.cc_core.proofs.KindFacts.{IsKindedSet, IsKinded, IsKindedType, IsKindedNote, IsKinded-test, IsKindedSet-test, IsKindedType-test}
-use Rattle.cc_core.proofs.KindRespecting.{single_kinded}
-use Rattle.cc_core.proofs.Lookups.{lookup-newest}
+use Rattle.cc_core.proofs.KindFacts.{IsKindedSet, IsKinded, IsKindedType, IsKinded-test, IsKindedSet-test, IsKindedType-test}
 use Rattle.cc_core.proofs.Moving.{Member-single}
 use Rattle.cc_core.proofs.ReadingAndWriting.{opened_term-read}
-use Rattle.cc_core.proofs.SubcapturingContexts.{IsKindedContext, IsKinded-added, IsKindedSet-added}
+use Rattle.cc_core.proofs.SubcapturingContexts.{IsKindedContext}
 use Rattle.cc_core.proofs.SubcapturingLemmas.{subcaptures_reflexive}
 use Rattle.cc_sets.specs.Comparison.{Demand, HasDemands, TypesHaveDemands, AllHold}
 use Rattle.cc_sets.specs.Exposing.{exposed}
-use Rattle.cc_sets.specs.Avoidance.{Positive, avoided_type}
 use Rattle.cc_sets.specs.Outcomes.{Asked}
 use Rattle.cc_sets.specs.Inference.{Result, result, in_context, set_in, shape_in, type_in, base_type, function_found, type_function_found, exit_entry}
-use Rattle.cc_sets.specs.CanonicalDerivations.{Deriving, set_derived, type_derived, claimed_type, typed, raised, raised_if, shape_of_entry, shape_at, variable_derived, head_derived, operand_derived, given_derived, application_derived, type_application_derived, unboxing_derived, operation_derived, exit_derived, avoided_or, left_derived, let_node, let_derived, function_node, type_function_node, choice_derived, boundary_node}
-use Rattle.cc_meta_typing.proofs.Avoiding.{positive_above}
+use Rattle.cc_sets.specs.CanonicalDerivations.{Deriving, type_derived, claimed_type, typed, raised, raised_if, shape_of_entry, shape_at, variable_derived, head_derived, operand_derived, given_derived, application_derived, type_application_derived, unboxing_derived, operation_derived, exit_derived, function_node, type_function_node, boundary_node}
 use Rattle.cc_meta_typing.proofs.ComparisonLemmas.{subtyping_compares, subtyping_of_types_compares}
 use Rattle.cc_meta_typing.proofs.ExposingShapes.{exposed_above}
 use Rattle.cc_meta_typing.proofs.FormedContexts.{IsKindedContext-test}
-use Rattle.cc_meta_typing.proofs.InternalConversions.{fresh_in, fresh_in_set, closed_in_set}
 use Rattle.cc_meta_checking.specs.RepetitionLaws.{Holds}
 use Rattle.cc_meta_checking.proofs.CanonicalSets.{set_derived_valid}
 use Rattle.cc_meta_checking.proofs.Findings.{Has, below_all, Operand}
 use Rattle.cc_meta_checking.proofs.FilledSyntax.{PassesBinders-reading}
-use Rattle.cc_meta_checking.proofs.FoundTypes.{has_kinded, has_exposed, variable_set_kinded, exposed_kinded, left_kinded}
+use Rattle.cc_meta_checking.proofs.FoundTypes.{has_kinded, has_exposed, variable_set_kinded}
 
 -- all that is asked holds as it stands
 abbrev pub AskedHold : List Asked → Type 0

@@ -1,19 +1,19 @@
 -- Where all that is asked holds as it stands, the canonical derivation of a completed term is valid and concludes the type that
 -- was found.
-use Rattle.std.proofs.Common.{◌≡◌, ℕ, suc, List, [], ◌∷◌, ◌++◌, length, Option, Some, None, refl, sym, ap, ◌∙◌, subst}
+use Rattle.std.proofs.Common.{◌≡◌, ℕ, suc, List, [], ◌∷◌, ◌++◌, length, Some, refl, sym, ap, ◌∙◌, subst}
 use Rattle.cc_base.specs.declared.literal.Base.TheVariants as bases
 use Rattle.cc_capture.specs.declared.var.Elem.TheVariants.{Cap}
 use Rattle.cc_capture.specs.Sets.{Set, empty}
-use Rattle.cc_core.specs.Shapes.{Shape, BaseShape, CapturingType, capturing}
-use Rattle.cc_core.specs.Terms.{Note, Absent, Written, Own, Term, LiteralTerm, FunctionTerm, TypeFunctionTerm, Application, Unboxing, Let, Conditional, Boundary}
-use Rattle.cc_core.specs.Contexts.{Bind, TermEntry, TypeEntry, Context, entry_of}
+use Rattle.cc_core.specs.Shapes.{Shape, CapturingType, capturing}
+use Rattle.cc_core.specs.Terms.{Note, Term, FunctionTerm, TypeFunctionTerm, Let, Conditional, Boundary}
+use Rattle.cc_core.specs.Contexts.{Bind, TypeEntry, Context, entry_of}
 use Rattle.cc_core.specs.Traversal.{act_note, act_term}
 use Rattle.cc_core.specs.Reading.{reading, read_term}
 use Rattle.cc_core.specs.WellFormed.{Kind, TermKind, kinds_of}
 use Rattle.cc_core.specs.Typing.{IsNoteOf}
-use Rattle.cc_core.specs.Derivations.{Derivation, OfType, IsValidTyping, Concludes}
+use Rattle.cc_core.specs.Derivations.{Derivation, OfType}
 use Rattle.cc_core.proofs.CapturedKinds.{empty_kinded}
-use Rattle.cc_core.proofs.KindFacts.{IsKindedType, IsKindedNote, IsKindedTerm, IsKinded}
+use Rattle.cc_core.proofs.KindFacts.{IsKindedType, IsKindedTerm}
 use Rattle.cc_core.proofs.KindRespecting.{single_kinded}
 use Rattle.cc_core.proofs.Lookups.{lookup-newest}
 use Rattle.cc_core.proofs.ReadingAndWriting.{opened_term-read}
@@ -22,7 +22,7 @@ use Rattle.cc_core.proofs.SubcapturingContexts.{IsKindedContext, IsKinded-added,
 use Rattle.cc_sets.specs.Comparison.{Demand, TypesHaveDemands}
 use Rattle.cc_sets.specs.Avoidance.{Positive, avoided_type}
 use Rattle.cc_sets.specs.Outcomes.{Asked}
-use Rattle.cc_sets.specs.Inference.{Result, in_context, set_in, shape_in, type_in, Named, exit_entry}
+use Rattle.cc_sets.specs.Inference.{Result, set_in, shape_in, type_in, Named, exit_entry}
 use Rattle.cc_sets.specs.CanonicalDerivations.{Deriving, typed, raised, raised_if, avoided_or, noted_derived, left_derived, let_node, let_derived, term_derived}
 use Rattle.cc_meta_typing.proofs.Avoiding.{positive_above}
 use Rattle.cc_meta_typing.proofs.InternalConversions.{fresh_in, fresh_in_set, closed_in_set}
