@@ -34,12 +34,14 @@ one_deeper a b e = omega arith
 beside_leaf : (a b : ℕ) → a ≡ b → 1 + (1 + (a + 0)) ≡ 2 + b
 beside_leaf a b e = omega arith
 
-premises_counted : (derive : Elem → Derivation) (count : Elem → ℕ) → ((e : Elem) → nodes (derive e) ≡ count e) → (xs : List Elem)
+premises_counted : (derive : Elem → Derivation) (count : Elem → ℕ) → ((e : Elem) → nodes (derive e) ≡ count e)
+    → (xs : List Elem)
     → nodes_of (premises_for derive xs) ≡ sum_of count xs
 premises_counted derive count each [] = refl
 premises_counted derive count each (x ∷ xs) = cc (each x, premises_counted derive count each xs)
 
-at_counted : (derive : Elem → Derivation) (count : Elem → ℕ) → ((e : Elem) → nodes (derive e) ≡ count e) → (b : Bind) (p : ℕ) (right : Set) (e : Elem)
+at_counted : (derive : Elem → Derivation) (count : Elem → ℕ) → ((e : Elem) → nodes (derive e) ≡ count e)
+    → (b : Bind) (p : ℕ) (right : Set) (e : Elem)
     → nodes (derived_at derive b p right e) ≡ nodes_at count b p e
 at_counted derive count each (TermEntry s d) p right (Variable (Free q)) =
     elim (nat_eq q p) as (λ t. nodes (cond t (Node ByVariable (one (elements_derived derive d right)) (SetBelow (variable_set (Free q)) right)) (derive (Variable (Free q)))) ≡ cond t (2 + sum_of count d.list) (count (Variable (Free q)))) [
@@ -69,34 +71,40 @@ set_counted g left right = whole _ _ (premises_counted (element_derived g right)
 abbrev pub AreCounted : Deriving → Counting → Type 0
 AreCounted derive count = (g : Context) (l r : Shape) → nodes (derive g l r) ≡ count g l r
 
-pub types_counted : (derive : Deriving) (count : Counting) → AreCounted derive count → (g : Context) (l r : CapturingType)
+pub types_counted : (derive : Deriving) (count : Counting) → AreCounted derive count
+    → (g : Context) (l r : CapturingType)
     → nodes (type_derived derive g l r) ≡ type_nodes count g l r
 types_counted derive count each g l r = two_more _ _ _ _ (set_counted g l.set r.set) (each g l.shape r.shape)
 
-bound_counted : (derive : Deriving) (count : Counting) → AreCounted derive count → (g : Context) (v : Var) (found : Option Shape) (r : Shape)
+bound_counted : (derive : Deriving) (count : Counting) → AreCounted derive count
+    → (g : Context) (v : Var) (found : Option Shape) (r : Shape)
     → nodes (bound_derived derive g v found r) ≡ bound_nodes count g found r
 bound_counted derive count each g v (Some b) r = beside_leaf _ _ (each g b r)
 bound_counted derive count each g v None r = refl
 
-functions_counted : (derive : Deriving) (count : Counting) → AreCounted derive count → (g : Context) (takes gives : CapturingType) (r : Shape)
+functions_counted : (derive : Deriving) (count : Counting) → AreCounted derive count
+    → (g : Context) (takes gives : CapturingType) (r : Shape)
     → nodes (functions_derived derive g takes gives r) ≡ function_nodes count g takes gives r
 functions_counted derive count each g takes gives (FunctionShape t' c' u' d') =
     two_more _ _ _ _ (types_counted derive count each g (capturing t' c') takes)
     (types_counted derive count each (TermEntry t' c' ∷ g) (opened_type (length g) gives) (opened_type (length g) (capturing u' d')))
 functions_counted derive count each g takes gives _ = refl
 
-type_functions_counted : (derive : Deriving) (count : Counting) → AreCounted derive count → (g : Context) (b : Shape) (gives : CapturingType) (r : Shape)
+type_functions_counted : (derive : Deriving) (count : Counting) → AreCounted derive count
+    → (g : Context) (b : Shape) (gives : CapturingType) (r : Shape)
     → nodes (type_functions_derived derive g b gives r) ≡ type_function_nodes count g b gives r
 type_functions_counted derive count each g b gives (TypeFunctionShape b' u' d') =
     beside_leaf _ _ (types_counted derive count each (TypeEntry b ∷ g) (opened_type (length g) gives) (opened_type (length g) (capturing u' d')))
 type_functions_counted derive count each g b gives _ = refl
 
-boxes_counted : (derive : Deriving) (count : Counting) → AreCounted derive count → (g : Context) (content : CapturingType) (r : Shape)
+boxes_counted : (derive : Deriving) (count : Counting) → AreCounted derive count
+    → (g : Context) (content : CapturingType) (r : Shape)
     → nodes (boxes_derived derive g content r) ≡ box_nodes count g content r
 boxes_counted derive count each g content (BoxShape t' c') = one_more _ _ (types_counted derive count each g content (capturing t' c'))
 boxes_counted derive count each g content _ = refl
 
-form_counted : (derive : Deriving) (count : Counting) → AreCounted derive count → AreCounted (form_derived derive) (form_nodes count)
+form_counted : (derive : Deriving) (count : Counting) → AreCounted derive count
+    → AreCounted (form_derived derive) (form_nodes count)
 unfolding form_derived form_nodes
 form_counted derive count each g (BaseShape b) r = refl
 form_counted derive count each g AnyShape r = refl

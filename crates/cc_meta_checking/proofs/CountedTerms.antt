@@ -25,7 +25,8 @@ use Rattle.cc_meta_checking.proofs.CountedShapes.{one_more, two_more, three_more
 abbrev pub Counts : Derivation → Counted → Type 0
 Counts d c = (typed d ≡ c.type) × (nodes d ≡ c.nodes)
 
-either_counts : (d d' : Derivation) (c c' : Counted) (t u : Bool) → t ≡ u → Counts d c → Counts d' c' → Counts (cond t d d') (cond u c c')
+either_counts : (d d' : Derivation) (c c' : Counted) (t u : Bool) → t ≡ u → Counts d c → Counts d' c'
+    → Counts (cond t d d') (cond u c c')
 either_counts d d' c c' t u e p q =
     subst (λ x. Counts (cond t d d') (cond x c c')) e (elim t as (λ x. Counts (cond x d d') (cond x c c')) [
       | true ↦ p
@@ -33,58 +34,70 @@ either_counts d d' c c' t u e p q =
     ])
 
 module _ (derive : Deriving) (count : Counting) (each : AreCounted derive count) where
-  raised_counts : (g : Context) (d : Derivation) (c : Counted) (t : CapturingType) → Counts d c → Counts (raised derive g d t) (raised_counted count g c t)
+  raised_counts : (g : Context) (d : Derivation) (c : Counted) (t : CapturingType) → Counts d c
+      → Counts (raised derive g d t) (raised_counted count g c t)
   raised_counts g d c t p = (
     refl,
     two_more _ _ _ _ p.1 (types_counted derive count each g (typed d) t ∙ ap (λ (x : CapturingType). type_nodes count g x t) p.0),
   )
 
-  raised_if_counts : (g : Context) (d : Derivation) (c : Counted) (t : CapturingType) → Counts d c → Counts (raised_if derive g d t) (raised_counted_if count g c t)
+  raised_if_counts : (g : Context) (d : Derivation) (c : Counted) (t : CapturingType) → Counts d c
+      → Counts (raised_if derive g d t) (raised_counted_if count g c t)
   raised_if_counts g d c t p =
       either_counts d (raised derive g d t) c (raised_counted count g c t) (same_type (typed d) t) (same_type c.type t) (ap (λ (x : CapturingType). same_type x t) p.0) p (raised_counts g d c t p)
 
-  given_counts : (g : Context) (v : Var) (t : CapturingType) → Counts (given_derived derive g v t) (given_counted count g v t)
+  given_counts : (g : Context) (v : Var) (t : CapturingType)
+      → Counts (given_derived derive g v t) (given_counted count g v t)
   given_counts g v t = raised_counts g (variable_derived g v) (variable_counted g v) t (refl, refl)
 
   head_counts : (g : Context) (v : Var) → Counts (head_derived derive g v) (head_counted count g v)
   head_counts g v = raised_if_counts g (variable_derived g v) (variable_counted g v) (capturing (exposed g (shape_at g v)) (variable_set v)) (refl, refl)
 
-  operand_counts : (g : Context) (v : Var) (s : Shape) → Counts (operand_derived derive g v s) (operand_counted count g v s)
+  operand_counts : (g : Context) (v : Var) (s : Shape)
+      → Counts (operand_derived derive g v s) (operand_counted count g v s)
   operand_counts g v s = given_counts g v (capturing s (variable_set v))
 
-  application_counts : (g : Context) (v w : Var) (s : Shape) → Counts (trees.application_derived derive g v w s) (sizes.application_counted count g v w s)
+  application_counts : (g : Context) (v w : Var) (s : Shape)
+      → Counts (trees.application_derived derive g v w s) (sizes.application_counted count g v w s)
   application_counts g v w (FunctionShape t c u e) = (refl, two_more _ _ _ _ (head_counts g v).1 (given_counts g w (capturing t c)).1)
   application_counts g v w _ = (refl, refl)
 
-  type_application_counts : (g : Context) (v : Var) (x : Shape) (s : Shape) → Counts (trees.type_application_derived derive g v x s) (sizes.type_application_counted count g v x s)
+  type_application_counts : (g : Context) (v : Var) (x : Shape) (s : Shape)
+      → Counts (trees.type_application_derived derive g v x s) (sizes.type_application_counted count g v x s)
   type_application_counts g v x (TypeFunctionShape b u e) = (refl, two_more _ _ _ _ (head_counts g v).1 (each g x b))
   type_application_counts g v x _ = (refl, refl)
 
-  unboxing_counts : (g : Context) (set : Set) (v : Var) (s : Shape) → Counts (trees.unboxing_derived derive g set v s) (sizes.unboxing_counted count g set v s)
+  unboxing_counts : (g : Context) (set : Set) (v : Var) (s : Shape)
+      → Counts (trees.unboxing_derived derive g set v s) (sizes.unboxing_counted count g set v s)
   unboxing_counts g set v (BoxShape t c) = (refl, one_more _ _ (given_counts g v (capturing (BoxShape t set) (variable_set v))).1)
   unboxing_counts g set v _ = (refl, refl)
 
-  operation_counts : (g : Context) (o : Op) (v : Var) (argument : Option Var) (base : Option Base) → Counts (trees.operation_derived derive g o v argument base) (sizes.operation_counted count g o v argument base)
+  operation_counts : (g : Context) (o : Op) (v : Var) (argument : Option Var) (base : Option Base)
+      → Counts (trees.operation_derived derive g o v argument base) (sizes.operation_counted count g o v argument base)
   operation_counts g o v (Some w) (Some b) = (refl, two_more _ _ _ _ (head_counts g v).1 (operand_counts g w (BaseShape b)).1)
   operation_counts g o v None None = (refl, one_more _ _ (head_counts g v).1)
   operation_counts g o v (Some w) None = (refl, refl)
   operation_counts g o v None (Some b) = (refl, refl)
 
-  exit_counts : (g : Context) (t : CapturingType) (v w : Var) (s : Shape) → Counts (trees.exit_derived derive g t v w s) (sizes.exit_counted count g t v w s)
+  exit_counts : (g : Context) (t : CapturingType) (v w : Var) (s : Shape)
+      → Counts (trees.exit_derived derive g t v w s) (sizes.exit_counted count g t v w s)
   exit_counts g t v w (ExitShape u) = (refl, two_more _ _ _ _ (head_counts g v).1 (given_counts g w (capturing u empty)).1)
   exit_counts g t v w _ = (refl, refl)
 
-  noted_counts : (g : Context) (note : Note) (d : Derivation) (c : Counted) → Counts d c → Counts (trees.noted_derived derive g note d) (sizes.noted_counted count g note c)
+  noted_counts : (g : Context) (note : Note) (d : Derivation) (c : Counted) → Counts d c
+      → Counts (trees.noted_derived derive g note d) (sizes.noted_counted count g note c)
   noted_counts g (Written s set) d c p = raised_counts g d c (type_in g (capturing s set)) p
   noted_counts g Absent d c p = p
   noted_counts g (Own s) d c p = p
 
-  left_counts : (g : Context) (named : CapturingType) (d : Derivation) (c : Counted) → Counts d c → Counts (trees.left_derived derive g named d) (sizes.left_counted count g named c)
+  left_counts : (g : Context) (named : CapturingType) (d : Derivation) (c : Counted) → Counts d c
+      → Counts (trees.left_derived derive g named d) (sizes.left_counted count g named c)
   left_counts g named d c p =
       let less : CapturingType → CapturingType = λ (t : CapturingType). avoided_or t (avoided_type Positive (length g) named.set t) in
       subst (λ (t : CapturingType). Counts (trees.left_derived derive g named d) (raised_counted_if count (entry_of named ∷ g) c t)) (ap less p.0) (raised_if_counts (entry_of named ∷ g) d c (less (typed d)) p)
 
-  let_counts : (g : Context) (d : Derivation) (c : Counted) (tree : Bind → Derivation) (size : Bind → Counted) → Counts d c → ((b : Bind) → Counts (tree b) (size b))
+  let_counts : (g : Context) (d : Derivation) (c : Counted) (tree : Bind → Derivation) (size : Bind → Counted)
+      → Counts d c → ((b : Bind) → Counts (tree b) (size b))
       → Counts (trees.let_derived derive g d tree) (sizes.let_counted count g c size)
   let_counts g d c tree size p body =
       let inner : Counts (trees.left_derived derive g (typed d) (tree (entry_of (typed d)))) (sizes.left_counted count g c.type (size (entry_of c.type))) =

@@ -47,7 +47,8 @@ canonical_derives g l r f kl kr below =
 -- what is found is found again when it is filled
 abbrev pub Refinds : Context → Filling → Type 0
 Refinds base f =
-    (t : Term) (r : Result) (qs : List Asked) → Finds (length base) base t r qs → IsKindedContext base → IsKindedTerm (kinds_of base) [] t → Serves f qs
+    (t : Term) (r : Result) (qs : List Asked) → Finds (length base) base t r qs → IsKindedContext base
+    → IsKindedTerm (kinds_of base) [] t → Serves f qs
     → (qs' : List Asked) × Finds (length base) (filled_context f base) (filled_term f r.completed) (result (filled_type f r.type) (filled_term f r.completed)) qs' × AskedHold qs'
 
 -- The canonical derivations of a right side, up to its type and up to its signature.
@@ -64,10 +65,12 @@ module _ (base : Context) (root : ℕ) (within : root ≤ length base) (f : Fill
   kept_term : (t : Term) → IsKindedTerm (kinds_of base) [] t → IsKindedTerm (kinds_of base) [] (filled_term f t)
   kept_term t k = subst (λ g. IsKindedTerm (kinds_of g) [] (filled_term f t)) still (fill_kinded base root within f over terms outermost formed TermSort t k)
 
-  kept_type : (t : CapturingType) → IsKindedType (kinds_of base) [] t → IsKindedType (kinds_of base) [] (filled_type f t)
+  kept_type : (t : CapturingType) → IsKindedType (kinds_of base) [] t
+      → IsKindedType (kinds_of base) [] (filled_type f t)
   kept_type t k = subst (λ g. IsKindedType (kinds_of g) [] (filled_type f t)) still (fill_kinded base root within f over terms outermost formed TypeSort t k)
 
-  right_derived : Refinds base f → (t : Term) (r : Result) (qs : List Asked) → Finds (length base) base t r qs → IsKindedTerm (kinds_of base) [] t → Serves f qs
+  right_derived : Refinds base f → (t : Term) (r : Result) (qs : List Asked) → Finds (length base) base t r qs
+      → IsKindedTerm (kinds_of base) [] t → Serves f qs
       → Derives base (filled_term f r.completed) (term_derived canonical_shapes base (filled_term f r.completed)) (filled_type f r.type)
   right_derived again t r qs found k served =
       let x = again t r qs found formed k served in
@@ -76,17 +79,22 @@ module _ (base : Context) (root : ℕ) (within : root ≤ length base) (f : Fill
       of_term (read_itself base (filled_term f r.completed) kt) (finds_derived canonical_shapes canonical_derives base finding refl outermost formed kt x.2)
 
   -- a filled type below a filled one
-  widened : (t : Term) (d : Derivation) (l r : CapturingType) → IsKindedType (kinds_of base) [] l → IsKindedType (kinds_of base) [] r → SubtypesType (filled_context f base) (filled_type f l) (filled_type f r)
-      → Derives base t d (filled_type f l) → Derives base t (raised canonical_shapes base d (filled_type f r)) (filled_type f r)
+  widened : (t : Term) (d : Derivation) (l r : CapturingType) → IsKindedType (kinds_of base) [] l
+      → IsKindedType (kinds_of base) [] r → SubtypesType (filled_context f base) (filled_type f l) (filled_type f r)
+      → Derives base t d (filled_type f l)
+      → Derives base t (raised canonical_shapes base d (filled_type f r)) (filled_type f r)
   widened t d l r kl kr below p =
       raised_valid canonical_shapes canonical_derives base formed t d (filled_type f l) (filled_type f r) (kept_type l kl) (kept_type r kr)
       (subst (λ g. SubtypesType g (filled_type f l) (filled_type f r)) still below) p
 
-  written_as : (t : Term) (d : Derivation) (s : Shape) (c : Set) (type : CapturingType) → type_in base (capturing s c) ≡ type
-      → Derives base t (raised canonical_shapes base d type) type → Derives base t (noted_derived canonical_shapes base (Written s c) d) type
+  written_as : (t : Term) (d : Derivation) (s : Shape) (c : Set) (type : CapturingType)
+      → type_in base (capturing s c) ≡ type
+      → Derives base t (raised canonical_shapes base d type) type
+      → Derives base t (noted_derived canonical_shapes base (Written s c) d) type
   written_as t d s c type is p = subst (λ (x : CapturingType). Derives base t (raised canonical_shapes base d x) type) (sym is) p
 
-  noted_derives : {note : Note} {t : CapturingType} {m : Named} {ps : List Asked} → Notes (length base) base note t m ps → IsKindedNote (kinds_of base) [] note → IsKindedType (kinds_of base) [] t
+  noted_derives : {note : Note} {t : CapturingType} {m : Named} {ps : List Asked} → Notes (length base) base note t m ps
+      → IsKindedNote (kinds_of base) [] note → IsKindedType (kinds_of base) [] t
       → Serves f ps → (x : Term) (d : Derivation) → Derives base x d (filled_type f t)
       → Derives base x (noted_derived canonical_shapes base (act_note (filling_in f) 0 m.note) d) (filled_type f m.type)
   noted_derives notes-absent kn kt served x d p = p
@@ -103,8 +111,10 @@ module _ (base : Context) (root : ℕ) (within : root ≤ length base) (f : Fill
       (subcaptures_reflexive (filled_context f base) (filled_set f t.set), shapes_below root f over base t.shape (shape_in base s) ds b (serves_parts f _ [] served).0) p)
 
   -- and up to the signature
-  signed_derived : (note : Note) (t : Term) (type signature : CapturingType) → IsKindedType (kinds_of base) [] type → IsKindedType (kinds_of base) [] signature → SubtypesType base type signature
-      → Derives base t (noted_derived canonical_shapes base note (term_derived canonical_shapes base t)) type → BothDerived base note t type signature
+  signed_derived : (note : Note) (t : Term) (type signature : CapturingType) → IsKindedType (kinds_of base) [] type
+      → IsKindedType (kinds_of base) [] signature → SubtypesType base type signature
+      → Derives base t (noted_derived canonical_shapes base note (term_derived canonical_shapes base t)) type
+      → BothDerived base note t type signature
   signed_derived note t type signature k ks above p = record {
     own = p;
     seen = raised_if_valid canonical_shapes canonical_derives base formed t (noted_derived canonical_shapes base note (term_derived canonical_shapes base t)) type signature k ks above p;
@@ -113,8 +123,10 @@ module _ (base : Context) (root : ℕ) (within : root ≤ length base) (f : Fill
 module _ (fills : (base : Context) (root : ℕ) → root ≤ length base → (f : Filling) → IsOverGlobals root f
     → ((p : ℕ) → p < root → lookup (kinds_of base) p ≡ Some TermKind) → Refinds base f) where
   module _ (devices : ℕ) (globals : Context) (formed : IsKindedContext globals) (alone : AreGlobals globals) (f : Filling) (over : IsOverGlobals (length globals) f) where
-    plain_derived : (n : ℕ) (definition : Definition) (found : Checking) (qs : List Asked) → Came (plain_checked (limited n) globals definition) found qs → Serves f qs
-        → IsKindedTerm (kinds_of globals) [] definition.right → IsWellFormedNote globals definition.note → (signature : CapturingType) → signature_under f devices globals found ≡ Some signature
+    plain_derived : (n : ℕ) (definition : Definition) (found : Checking) (qs : List Asked)
+        → Came (plain_checked (limited n) globals definition) found qs → Serves f qs
+        → IsKindedTerm (kinds_of globals) [] definition.right → IsWellFormedNote globals definition.note
+        → (signature : CapturingType) → signature_under f devices globals found ≡ Some signature
         → BothDerived globals (act_note (filling_in f) 0 found.note) (filled_term f found.completed) (filled_type f found.type) signature
     plain_derived n definition found qs c serves kt kn signature signs =
         let k = then_came c in
@@ -138,8 +150,11 @@ module _ (fills : (base : Context) (root : ℕ) → root ≤ length base → (f 
         subst (λ (x : Checking). BothDerived globals (act_note (filling_in f) 0 x.note) (filled_term f x.completed) (filled_type f x.type) signature) (sym fin.0)
         (signed_derived globals (length globals) within f over terms still formed (act_note (filling_in f) 0 k2.value.note) (filled_term f k.value.completed) (filled_type f k2.value.type) signature ktype sg.kinded sg.above own)
 
-    recursive_derived : (n : ℕ) (definition : Definition) (note : Note) (found : Checking) (qs : List Asked) → Came (recursive_checked (limited n) devices globals definition note) found qs → Serves f qs
-        → IsKindedTerm (TermKind ∷ kinds_of globals) [] definition.right → IsWellFormedNote globals note → MeetsInNote without_holes 0 note → (signature : CapturingType) → signature_under f devices globals found ≡ Some signature
+    recursive_derived : (n : ℕ) (definition : Definition) (note : Note) (found : Checking) (qs : List Asked)
+        → Came (recursive_checked (limited n) devices globals definition note) found qs → Serves f qs
+        → IsKindedTerm (TermKind ∷ kinds_of globals) [] definition.right → IsWellFormedNote globals note
+        → MeetsInNote without_holes 0 note → (signature : CapturingType)
+        → signature_under f devices globals found ≡ Some signature
         → BothDerived (entry_of signature ∷ globals) (act_note (filling_in f) 0 found.note) (filled_term f found.completed) (filled_type f found.type) signature
     recursive_derived n definition Absent found qs (list, e, q) serves kt kn closed signature signs = cc
     recursive_derived n definition (Own s) found qs (list, e, q) serves kt kn closed signature signs = cc
@@ -193,7 +208,8 @@ module _ (fills : (base : Context) (root : ℕ) → root ≤ length base → (f 
       plain_derived devices globals formed alone f over n definition found (asked_of list) (list, is, refl) (serves_asked f list all)
       (IsKindedTerm-from (kinds_of globals) [] definition.right right) kn signature signs
 
-  pub accepted_derives : (devices : ℕ) (globals : Context) (definition : Definition) (accepted : Accepted) → Fits globals definition → HasVerdict devices globals definition (IsAccepted accepted)
+  pub accepted_derives : (devices : ℕ) (globals : Context) (definition : Definition) (accepted : Accepted)
+      → Fits globals definition → HasVerdict devices globals definition (IsAccepted accepted)
       → BothDerived (definition_context globals definition accepted.signature) accepted.note accepted.filled accepted.type accepted.signature
   accepted_derives devices globals definition accepted fits verdict =
       let p = accepted_parts devices globals definition accepted verdict in
@@ -201,7 +217,8 @@ module _ (fills : (base : Context) (root : ℕ) → root ≤ length base → (f 
       subst (λ (a : Accepted). BothDerived (definition_context globals definition a.signature) a.note a.filled a.type a.signature) (sym p.accepts)
       (by_kind definition.recursive devices globals definition p.steps p.found p.asked p.filling p.signature (IsKindedContext-from globals fits.formed) fits.globals_alone over p.served p.is fits.right_formed fits.note_formed fits.note_closed p.signs)
 
-  pub definitions_valid : (devices : ℕ) (globals : Context) (definition : Definition) (accepted : Accepted) → Fits globals definition → HasVerdict devices globals definition (IsAccepted accepted)
+  pub definitions_valid : (devices : ℕ) (globals : Context) (definition : Definition) (accepted : Accepted)
+      → Fits globals definition → HasVerdict devices globals definition (IsAccepted accepted)
       → IsValidTyping (definition_context globals definition accepted.signature) accepted.filled (right_side_derived (definition_context globals definition accepted.signature) accepted)
       × Concludes (right_side_derived (definition_context globals definition accepted.signature) accepted) (OfType accepted.type)
       × IsValidTyping (definition_context globals definition accepted.signature) accepted.filled (accepted_derived (definition_context globals definition accepted.signature) accepted)

@@ -57,10 +57,12 @@ demands_hold [] h = tt
 demands_hold (d ∷ ds) h = (h.0, demands_hold ds h.1)
 
 -- a comparison whose demands hold is subtyping
-pub shapes_hold : (g : Context) (l r : Shape) (ds : List Demand) → HasDemands g l r ds → AskedHold (below_all ds) → Subtypes g l r
+pub shapes_hold : (g : Context) (l r : Shape) (ds : List Demand) → HasDemands g l r ds → AskedHold (below_all ds)
+    → Subtypes g l r
 shapes_hold g l r ds b h = (subtyping_compares g l r).1 (ds, b, demands_hold ds h)
 
-pub types_hold : (g : Context) (l r : CapturingType) (ds : List Demand) → TypesHaveDemands g l r ds → AskedHold (below_all ds) → SubtypesType g l r
+pub types_hold : (g : Context) (l r : CapturingType) (ds : List Demand) → TypesHaveDemands g l r ds
+    → AskedHold (below_all ds) → SubtypesType g l r
 types_hold g l r ds b h = (subtyping_of_types_compares g l r).1 (ds, b, demands_hold ds h)
 
 -- the derivation is valid for the term, and concludes that it has the type
@@ -78,11 +80,13 @@ DerivesAll derive = (g : Context) (l r : Shape) → IsKindedContext g → IsKind
     → IsValidComparison g (derive g l r) × ConcludesShapes (derive g l r) l r
 
 -- a term that is the same
-pub of_term : {g : Context} {t u : Term} {d : Derivation} {type : CapturingType} → t ≡ u → Derives g t d type → Derives g u d type
+pub of_term : {g : Context} {t u : Term} {d : Derivation} {type : CapturingType} → t ≡ u → Derives g t d type
+    → Derives g u d type
 of_term {g} {t} {u} {d} {type} e p = subst (λ x. Derives g x d type) e p
 
 module _ (derive : Deriving) (derives : DerivesAll derive) (g : Context) (formed : IsKindedContext g) where
-  types_derived : (l r : CapturingType) → IsKindedType (kinds_of g) [] l → IsKindedType (kinds_of g) [] r → SubtypesType g l r
+  types_derived : (l r : CapturingType) → IsKindedType (kinds_of g) [] l → IsKindedType (kinds_of g) [] r
+      → SubtypesType g l r
       → IsValidComparison g (type_derived derive g l r) × Concludes (type_derived derive g l r) (TypeBelow l r)
   types_derived l r kl kr below =
       let sets = set_derived_valid g l.set r.set (IsKindedContext-test g formed) (IsKindedSet-test (kinds_of g) [] l.set kl.1) below.0 in
@@ -90,14 +94,16 @@ module _ (derive : Deriving) (derives : DerivesAll derive) (g : Context) (formed
       ((l, r, sets.0, sets.1, shapes.0, shapes.1, refl), refl)
 
   -- widened to a type above
-  pub raised_valid : (t : Term) (d : Derivation) (l r : CapturingType) → IsKindedType (kinds_of g) [] l → IsKindedType (kinds_of g) [] r → SubtypesType g l r
+  pub raised_valid : (t : Term) (d : Derivation) (l r : CapturingType) → IsKindedType (kinds_of g) [] l
+      → IsKindedType (kinds_of g) [] r → SubtypesType g l r
       → Derives g t d l → Derives g t (raised derive g d r) r
   raised_valid t d l r kl kr below p =
       let types = subst (λ (x : CapturingType). IsValidComparison g (type_derived derive g x r) × Concludes (type_derived derive g x r) (TypeBelow l r)) (sym (gives p)) (types_derived l r kl kr below) in
       record { valid = (l.shape, l.set, r.shape, r.set, p.valid, p.concludes, types.0, types.1, IsKindedType-test (kinds_of g) [] r kr, refl); concludes = refl }
 
   -- widened where it differs
-  pub raised_if_valid : (t : Term) (d : Derivation) (l r : CapturingType) → IsKindedType (kinds_of g) [] l → IsKindedType (kinds_of g) [] r → SubtypesType g l r
+  pub raised_if_valid : (t : Term) (d : Derivation) (l r : CapturingType) → IsKindedType (kinds_of g) [] l
+      → IsKindedType (kinds_of g) [] r → SubtypesType g l r
       → Derives g t d l → Derives g t (raised_if derive g d r) r
   raised_if_valid t d l r kl kr below p =
       elim (same_type (typed d) r) as (λ b. same_type (typed d) r ≡ b → Derives g t (cond b d (raised derive g d r)) r) [
@@ -108,31 +114,37 @@ module _ (derive : Deriving) (derives : DerivesAll derive) (g : Context) (formed
   pub shape_there : {v : Var} {s : Shape} {d : Set} → Has g v s d → shape_at g v ≡ s
   shape_there h = ap (shape_at g) h.is ∙ ap shape_of_entry h.there
 
-  at_position : (p : ℕ) (s : Shape) (d : Set) → lookup g p ≡ Some (TermEntry s d) → Derives g (VariableTerm (Free p)) (variable_derived g (Free p)) (capturing s (variable_set (Free p)))
+  at_position : (p : ℕ) (s : Shape) (d : Set) → lookup g p ≡ Some (TermEntry s d)
+      → Derives g (VariableTerm (Free p)) (variable_derived g (Free p)) (capturing s (variable_set (Free p)))
   at_position p s d there =
       let e = ap (λ o. OfType (capturing (shape_of_entry o) (variable_set (Free p)))) there in record { valid = (p, s, d, refl, there, e); concludes = e }
 
-  pub variable_valid : {v : Var} {s : Shape} {d : Set} → Has g v s d → Derives g (VariableTerm v) (variable_derived g v) (capturing s (variable_set v))
+  pub variable_valid : {v : Var} {s : Shape} {d : Set} → Has g v s d
+      → Derives g (VariableTerm v) (variable_derived g v) (capturing s (variable_set v))
   variable_valid {v} {s} {d} h =
       subst (λ w. Derives g (VariableTerm w) (variable_derived g w) (capturing s (variable_set w))) (sym h.is) (at_position h.position s d h.there)
 
-  its_kinded : {v : Var} {s : Shape} {d : Set} → Has g v s d → IsKindedType (kinds_of g) [] (capturing s (variable_set v))
+  its_kinded : {v : Var} {s : Shape} {d : Set} → Has g v s d
+      → IsKindedType (kinds_of g) [] (capturing s (variable_set v))
   its_kinded h = ((has_kinded formed h).0, variable_set_kinded h)
 
   -- a variable that was compared with a type
-  pub given_valid : {v : Var} {s : Shape} {d : Set} → Has g v s d → (t : CapturingType) → IsKindedType (kinds_of g) [] t → SubtypesType g (capturing s (variable_set v)) t
+  pub given_valid : {v : Var} {s : Shape} {d : Set} → Has g v s d → (t : CapturingType) → IsKindedType (kinds_of g) [] t
+      → SubtypesType g (capturing s (variable_set v)) t
       → Derives g (VariableTerm v) (given_derived derive g v t) t
   given_valid {v} {s} h t k below = raised_valid (VariableTerm v) (variable_derived g v) (capturing s (variable_set v)) t (its_kinded h) k below (variable_valid h)
 
   -- an operand of a shape
-  pub operand_valid : (v : Var) (x : Shape) (ds : List Demand) → Operand g v x ds → IsKinded (kinds_of g) [] x → AskedHold (below_all ds)
+  pub operand_valid : (v : Var) (x : Shape) (ds : List Demand) → Operand g v x ds → IsKinded (kinds_of g) [] x
+      → AskedHold (below_all ds)
       → Derives g (VariableTerm (in_context g v)) (operand_derived derive g (in_context g v) x) (capturing x (variable_set (in_context g v)))
   operand_valid v x ds o k h =
       given_valid o.has (capturing x (variable_set (in_context g v))) (k, variable_set_kinded o.has)
       (subcaptures_reflexive g (variable_set (in_context g v)), shapes_hold g o.shape x ds o.demands h)
 
   -- a head, whose exposed shape is this
-  pub head_valid : {v : Var} {s x : Shape} {d : Set} → Has g v s d → exposed g s ≡ x → Derives g (VariableTerm v) (head_derived derive g v) (capturing x (variable_set v))
+  pub head_valid : {v : Var} {s x : Shape} {d : Set} → Has g v s d → exposed g s ≡ x
+      → Derives g (VariableTerm v) (head_derived derive g v) (capturing x (variable_set v))
   head_valid {v} {s} {x} {d} h e =
       let is : exposed g (shape_at g v) ≡ x = ap (exposed g) (shape_there h) ∙ e in
       subst (λ y. Derives g (VariableTerm v) (raised_if derive g (variable_derived g v) (capturing y (variable_set v))) (capturing x (variable_set v))) (sym is)
@@ -140,7 +152,9 @@ module _ (derive : Deriving) (derives : DerivesAll derive) (g : Context) (formed
       (subcaptures_reflexive g (variable_set v), subst (Subtypes g s) e (exposed_above g s)) (variable_valid h))
 
   -- what depends on the exposed shape
-  at_head : {v : Var} {s x : Shape} {d : Set} → Has g v s d → exposed g s ≡ x → (t : Term) (tree : Shape → Derivation) (type : CapturingType) → Derives g t (tree x) type → Derives g t (tree (exposed g (shape_at g v))) type
+  at_head : {v : Var} {s x : Shape} {d : Set} → Has g v s d → exposed g s ≡ x
+      → (t : Term) (tree : Shape → Derivation) (type : CapturingType) → Derives g t (tree x) type
+      → Derives g t (tree (exposed g (shape_at g v))) type
   at_head h e t tree type p = subst (λ y. Derives g t (tree y) type) (sym (ap (exposed g) (shape_there h) ∙ e)) p
 
   pub row_box : {v : Var} {s : Shape} {d : Set} → Has g v s d
@@ -162,7 +176,8 @@ module _ (derive : Deriving) (derives : DerivesAll derive) (g : Context) (formed
       (record { valid = (v, w, takes, c, give, e, variable_set v, refl, p.valid, p.concludes, q.valid, q.concludes, refl); concludes = refl })
 
   pub row_type_application : {v : Var} {s : Shape} {d : Set} (y bound give : Shape) (e : Set) (ds : List Demand)
-      → Has g v s d → exposed g s ≡ TypeFunctionShape bound give e → HasDemands g y bound ds → AskedHold (below_all ds) → IsKinded (kinds_of g) [] y
+      → Has g v s d → exposed g s ≡ TypeFunctionShape bound give e → HasDemands g y bound ds → AskedHold (below_all ds)
+      → IsKinded (kinds_of g) [] y
       → Derives g (TypeApplication v y) (type_application_derived derive g v y (exposed g (shape_at g v))) (replaced_type_by_shape y (capturing give e))
   row_type_application {v} y bound give e ds h x b holds ky =
       let k = has_exposed formed h x in
@@ -171,7 +186,8 @@ module _ (derive : Deriving) (derives : DerivesAll derive) (g : Context) (formed
       at_head h x (TypeApplication v y) (type_application_derived derive g v y) (replaced_type_by_shape y (capturing give e))
       (record { valid = (v, y, bound, give, e, variable_set v, refl, p.valid, p.concludes, q.0, q.1, IsKinded-test (kinds_of g) [] y ky, refl); concludes = refl })
 
-  pub row_unboxing : {v : Var} {s : Shape} {d : Set} (content : Shape) (c set : Set) → Has g v s d → exposed g s ≡ BoxShape content c
+  pub row_unboxing : {v : Var} {s : Shape} {d : Set} (content : Shape) (c set : Set) → Has g v s d
+      → exposed g s ≡ BoxShape content c
       → SubcapturesSet g c set → HasNoCap set → IsKindedSet (kinds_of g) [] set
       → Derives g (Unboxing (Some set) v) (unboxing_derived derive g set v (exposed g (shape_at g v))) (capturing content set)
   row_unboxing {v} {s} content c set h x below none k =
@@ -181,7 +197,8 @@ module _ (derive : Deriving) (derives : DerivesAll derive) (g : Context) (formed
       at_head h x (Unboxing (Some set) v) (unboxing_derived derive g set v) (capturing content set)
       (record { valid = (v, content, set, variable_set v, refl, p.valid, p.concludes, IsKindedSet-test (kinds_of g) [] set k, none, refl); concludes = refl })
 
-  pub row_operation : {v : Var} {s : Shape} {d : Set} (o : Op) (w : Var) (base : Base) (ds : List Demand) → Has g v s d → exposed g s ≡ BaseShape (base_operated o) → base_taken o ≡ Some base
+  pub row_operation : {v : Var} {s : Shape} {d : Set} (o : Op) (w : Var) (base : Base) (ds : List Demand) → Has g v s d
+      → exposed g s ≡ BaseShape (base_operated o) → base_taken o ≡ Some base
       → Operand g w (BaseShape base) ds → AskedHold (below_all ds)
       → Derives g (Operation o v (Some (in_context g w))) (operation_derived derive g o v (Some (in_context g w)) (base_taken o)) (base_type (base_answered o))
   row_operation {v} o w base ds h x taken a holds =
@@ -190,7 +207,8 @@ module _ (derive : Deriving) (derives : DerivesAll derive) (g : Context) (formed
       subst (λ y. Derives g (Operation o v (Some (in_context g w))) (operation_derived derive g o v (Some (in_context g w)) y) (base_type (base_answered o))) (sym taken)
       (record { valid = (o, v, in_context g w, base, variable_set v, variable_set (in_context g w), refl, p.valid, p.concludes, taken, q.valid, q.concludes, refl); concludes = refl })
 
-  pub row_operation_alone : {v : Var} {s : Shape} {d : Set} (o : Op) → Has g v s d → exposed g s ≡ BaseShape (base_operated o) → base_taken o ≡ None
+  pub row_operation_alone : {v : Var} {s : Shape} {d : Set} (o : Op) → Has g v s d
+      → exposed g s ≡ BaseShape (base_operated o) → base_taken o ≡ None
       → Derives g (Operation o v None) (operation_derived derive g o v None (base_taken o)) (base_type (base_answered o))
   row_operation_alone {v} o h x taken =
       let p = head_valid h x in
@@ -198,7 +216,8 @@ module _ (derive : Deriving) (derives : DerivesAll derive) (g : Context) (formed
       (record { valid = (o, v, variable_set v, refl, p.valid, p.concludes, taken, refl); concludes = refl })
 
   pub row_exit : {v w : Var} {s s' : Shape} {d d' : Set} (t : CapturingType) (takes : Shape) (ds : List Demand)
-      → Has g v s d → exposed g s ≡ ExitShape takes → Has g w s' d' → TypesHaveDemands g (capturing s' (variable_set w)) (capturing takes empty) ds → AskedHold (below_all ds)
+      → Has g v s d → exposed g s ≡ ExitShape takes → Has g w s' d'
+      → TypesHaveDemands g (capturing s' (variable_set w)) (capturing takes empty) ds → AskedHold (below_all ds)
       → IsKindedType (kinds_of g) [] t
       → Derives g (Leave t.shape t.set v w) (exit_derived derive g t v w (exposed g (shape_at g v))) t
   row_exit {v} {w} {s' = s'} t takes ds h x h' b holds k =
@@ -207,7 +226,8 @@ module _ (derive : Deriving) (derives : DerivesAll derive) (g : Context) (formed
       at_head h x (Leave t.shape t.set v w) (exit_derived derive g t v w) t
       (record { valid = (t.shape, t.set, v, w, takes, variable_set v, refl, p.valid, p.concludes, q.valid, q.concludes, IsKindedType-test (kinds_of g) [] t k, refl); concludes = refl })
 
-  pub row_primitive : (o : Operator) (v w : Var) (ds es : List Demand) → Operand g v (BaseShape bases.Int) ds → Operand g w (BaseShape bases.Int) es → AskedHold (below_all ds) → AskedHold (below_all es)
+  pub row_primitive : (o : Operator) (v w : Var) (ds es : List Demand) → Operand g v (BaseShape bases.Int) ds
+      → Operand g w (BaseShape bases.Int) es → AskedHold (below_all ds) → AskedHold (below_all es)
       → Derives g (Primitive o (in_context g v) (in_context g w))
       (Node t-prim (two (operand_derived derive g (in_context g v) (BaseShape bases.Int)) (operand_derived derive g (in_context g w) (BaseShape bases.Int))) (OfType (base_type (base_given o))))
       (base_type (base_given o))
@@ -216,7 +236,8 @@ module _ (derive : Deriving) (derives : DerivesAll derive) (g : Context) (formed
       let q = operand_valid w (BaseShape bases.Int) es b tt hold' in
       record { valid = (o, in_context g v, in_context g w, variable_set (in_context g v), variable_set (in_context g w), refl, p.valid, p.concludes, q.valid, q.concludes, refl); concludes = refl }
 
-  pub row_repetition : (v w : Var) (ds es : List Demand) → Operand g v (BaseShape bases.Int) ds → Operand g w (FunctionShape (BaseShape bases.Int) empty (BaseShape bases.Unit) empty) es
+  pub row_repetition : (v w : Var) (ds es : List Demand) → Operand g v (BaseShape bases.Int) ds
+      → Operand g w (FunctionShape (BaseShape bases.Int) empty (BaseShape bases.Unit) empty) es
       → AskedHold (below_all ds) → AskedHold (below_all es)
       → Derives g (Repetition (in_context g v) (in_context g w))
       (Node t-repeat (two (operand_derived derive g (in_context g v) (BaseShape bases.Int)) (operand_derived derive g (in_context g w) (FunctionShape (BaseShape bases.Int) empty (BaseShape bases.Unit) empty))) (OfType (base_type bases.Unit)))
@@ -227,7 +248,8 @@ module _ (derive : Deriving) (derives : DerivesAll derive) (g : Context) (formed
       record { valid = (in_context g v, in_context g w, variable_set (in_context g v), variable_set (in_context g w), refl, p.valid, p.concludes, q.valid, q.concludes, refl); concludes = refl }
 
   -- a function, whose body was read under its parameter
-  pub row_function : (takes : Shape) (c : Set) (body : Term) (r : Result) (d : Derivation) → r.completed ≡ body → IsKindedType (kinds_of g) [] (type_in g (capturing takes c))
+  pub row_function : (takes : Shape) (c : Set) (body : Term) (r : Result) (d : Derivation) → r.completed ≡ body
+      → IsKindedType (kinds_of g) [] (type_in g (capturing takes c))
       → Derives (entry_of (type_in g (capturing takes c)) ∷ g) (read_term (suc (length g)) body) d r.type
       → Derives g (read_term (length g) (FunctionTerm takes c body)) (function_node g takes c body d) (function_found g takes c r).type
   row_function takes c body r d same k p =
@@ -251,7 +273,8 @@ module _ (derive : Deriving) (derives : DerivesAll derive) (g : Context) (formed
         concludes = ap OfType type;
       }
 
-  pub row_type_function : (bound : Shape) (body : Term) (r : Result) (d : Derivation) → r.completed ≡ body → IsKinded (kinds_of g) [] (shape_in g bound)
+  pub row_type_function : (bound : Shape) (body : Term) (r : Result) (d : Derivation) → r.completed ≡ body
+      → IsKinded (kinds_of g) [] (shape_in g bound)
       → Derives (TypeEntry (shape_in g bound) ∷ g) (read_term (suc (length g)) body) d r.type
       → Derives g (read_term (length g) (TypeFunctionTerm bound body)) (type_function_node g bound body d) (type_function_found g bound r).type
   row_type_function bound body r d same k p =
@@ -281,7 +304,8 @@ module _ (derive : Deriving) (derives : DerivesAll derive) (g : Context) (formed
       let inner = of_term (sym (opened_term-read (length g) body)) p in
       record { valid = (x, act_term (reading (length g)) 1 body, refl, IsKinded-test (kinds_of g) [] x k, inner.valid, inner.concludes, refl); concludes = refl }
 
-  pub row_choice : (v : Var) (type : CapturingType) (t u : Term) (d d' : Derivation) (ds : List Demand) → Operand g v (BaseShape bases.Bool) ds → AskedHold (below_all ds)
+  pub row_choice : (v : Var) (type : CapturingType) (t u : Term) (d d' : Derivation) (ds : List Demand)
+      → Operand g v (BaseShape bases.Bool) ds → AskedHold (below_all ds)
       → Derives g t (raised derive g d type) type → Derives g u (raised derive g d' type) type
       → Derives g (Conditional (Written type.shape type.set) (in_context g v) t u)
       (Node t-if (three (operand_derived derive g (in_context g v) (BaseShape bases.Bool)) (raised derive g d type) (raised derive g d' type)) (OfType type)) type

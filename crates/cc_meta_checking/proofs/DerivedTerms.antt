@@ -44,18 +44,23 @@ boundary_part e = cc
 let_parts : {m n : Note} {t t' u u' : Term} → Let m t t' ≡ Let n u u' → (m ≡ n) × (t ≡ u) × (t' ≡ u')
 let_parts e = (cc, cc, cc)
 
-choice_parts : {m n : Note} {v w : _} {t t' u u' : Term} → Conditional m v t t' ≡ Conditional n w u u' → (m ≡ n) × (t ≡ u) × (t' ≡ u')
+choice_parts : {m n : Note} {v w : _} {t t' u u' : Term} → Conditional m v t t' ≡ Conditional n w u u'
+    → (m ≡ n) × (t ≡ u) × (t' ≡ u')
 choice_parts e = (cc, cc, cc)
 
 module _ (derive : Deriving) (derives : DerivesAll derive) where
   -- what is widened to what is written
-  compared_valid : (g : Context) → IsKindedContext g → (t : Term) (d : Derivation) (l r : CapturingType) (ds : List Demand) → IsKindedType (kinds_of g) [] l → IsKindedType (kinds_of g) [] r
+  compared_valid : (g : Context) → IsKindedContext g
+      → (t : Term) (d : Derivation) (l r : CapturingType) (ds : List Demand) → IsKindedType (kinds_of g) [] l
+      → IsKindedType (kinds_of g) [] r
       → TypesHaveDemands g l r ds → AskedHold (below_all ds) → Derives g t d l → Derives g t (raised derive g d r) r
   compared_valid g f t d l r ds kl kr b h p = raised_valid derive derives g f t d l r kl kr (types_hold g l r ds b h) p
 
   -- with what is written for the type
-  pub noted_valid : {root : ℕ} {g : Context} {note : Note} {t : CapturingType} {m : Named} {ps : List Asked} → Notes root g note t m ps → m.note ≡ note → IsKindedContext g
-      → IsKindedType (kinds_of g) [] t → IsKindedType (kinds_of g) [] m.type → AskedHold ps → (x : Term) (d : Derivation) → Derives g x d t
+  pub noted_valid : {root : ℕ} {g : Context} {note : Note} {t : CapturingType} {m : Named} {ps : List Asked}
+      → Notes root g note t m ps → m.note ≡ note → IsKindedContext g
+      → IsKindedType (kinds_of g) [] t → IsKindedType (kinds_of g) [] m.type → AskedHold ps
+      → (x : Term) (d : Derivation) → Derives g x d t
       → Derives g x (noted_derived derive g note d) m.type × IsNoteOf (act_note (reading (length g)) 0 note) m.type.shape m.type.set
   noted_valid notes-absent e f k km h x d p = (p, tt)
   noted_valid (notes-written {t = t} {s = s} {c = c} {ds = ds} b) e f k km h x d p =
@@ -64,8 +69,10 @@ module _ (derive : Deriving) (derives : DerivesAll derive) where
 
   -- a let, whose body's tree is given for each entry
   row_let : (g : Context) (formed : IsKindedContext g) (note : Note) (x body : Term) (right : Derivation) (tree : Bind → Derivation) (t u v : CapturingType)
-      → IsKindedType (kinds_of g) [] t → IsKindedType (kinds_of (entry_of t ∷ g)) [] u → avoided_type Positive (length g) t.set u ≡ Some v
-      → Derives g x right t → IsNoteOf note t.shape t.set → Derives (entry_of t ∷ g) (read_term (suc (length g)) body) (tree (entry_of t)) u
+      → IsKindedType (kinds_of g) [] t → IsKindedType (kinds_of (entry_of t ∷ g)) [] u
+      → avoided_type Positive (length g) t.set u ≡ Some v
+      → Derives g x right t → IsNoteOf note t.shape t.set
+      → Derives (entry_of t ∷ g) (read_term (suc (length g)) body) (tree (entry_of t)) u
       → Derives g (Let note x (act_term (reading (length g)) 1 body)) (let_derived derive g right tree) v
   row_let g formed note x body right tree t u v kt ku e p is q =
       let n : ℕ = length g in
@@ -104,7 +111,8 @@ module _ (derive : Deriving) (derives : DerivesAll derive) where
       })
 
   module _ (base : Context) where
-    pub finds_derived : {g : Context} {passed : List Kind} {t : Term} {r : Result} {qs : List Asked} → Finds (length base) g t r qs → r.completed ≡ t
+    pub finds_derived : {g : Context} {passed : List Kind} {t : Term} {r : Result} {qs : List Asked}
+        → Finds (length base) g t r qs → r.completed ≡ t
         → Inside base g passed → IsKindedContext g → IsKindedTerm (kinds_of base) passed t → AskedHold qs
         → Derives g (read_term (length g) t) (term_derived derive g t) r.type
     finds_derived (finds-variable {g = g} h) e i k kt holds = variable_valid derive derives g k h
