@@ -157,16 +157,16 @@ module _ (base : Context) (root : ℕ) (within : root ≤ length base) (f : Fill
       (read_fill ShapeSort n w, read_written t.set kt.1),
     )
 
-    closed-filled : (s : Shape) → closed n (filled f s) ≡ act (filling_in f) 1 (closed n s)
+    pub closed-filled : (s : Shape) → closed n (filled f s) ≡ act (filling_in f) 1 (closed n s)
     closed-filled s = sym (filled-moved root f over (closed_variable n) (closing_leaves root f over n more) ShapeSort 0 s) ∙ sym (shift (filling_in f) 0 (closed n s))
 
-    closed_set-filled : (c : Set) → closed_set n (filled_set f c) ≡ act_set (filling_in f) 1 (closed_set n c)
+    pub closed_set-filled : (c : Set) → closed_set n (filled_set f c) ≡ act_set (filling_in f) 1 (closed_set n c)
     closed_set-filled c = sym (filled-moved root f over (closed_variable n) (closing_leaves root f over n more) SetSort 0 c)
 
-    put-filled : (v : Var) (s : Shape) → act (putting v) 0 (act (filling_in f) 1 s) ≡ filled f (act (putting v) 0 s)
+    pub put-filled : (v : Var) (s : Shape) → act (putting v) 0 (act (filling_in f) 1 s) ≡ filled f (act (putting v) 0 s)
     put-filled v s = ap (act (putting v) 0) (shift (filling_in f) 0 s) ∙ sym (filled-moved root f over (put_variable v) (opening_leaves root f over v) ShapeSort 0 s)
 
-    put_set-filled : (v : Var) (c : Set) → act_set (putting v) 0 (act_set (filling_in f) 1 c) ≡ filled_set f (act_set (putting v) 0 c)
+    pub put_set-filled : (v : Var) (c : Set) → act_set (putting v) 0 (act_set (filling_in f) 1 c) ≡ filled_set f (act_set (putting v) 0 c)
     put_set-filled v c = sym (filled-moved root f over (put_variable v) (opening_leaves root f over v) SetSort 0 c)
 
     pub row_function : (takes : Shape) (c : Set) (r : Result) → IsKindedType (kinds_of g) [] (type_in g (capturing takes c))

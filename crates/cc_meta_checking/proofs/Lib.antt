@@ -7,6 +7,10 @@ pub mod CountedTerms
 pub mod DerivedDefinitions
 pub mod DerivedRows
 pub mod DerivedTerms
+pub mod FilledActions
+pub mod FilledComparisons
+pub mod FilledFindings
+pub mod FilledRows
 pub mod FilledSubtyping
 pub mod FilledSyntax
 pub mod FilledTerms
