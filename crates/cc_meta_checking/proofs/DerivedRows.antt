@@ -37,32 +37,28 @@ use Rattle.cc_sets.specs.CanonicalDerivations.{Deriving, type_derived, claimed_t
 use Rattle.cc_meta_typing.proofs.ComparisonLemmas.{subtyping_compares, subtyping_of_types_compares}
 use Rattle.cc_meta_typing.proofs.ExposingShapes.{exposed_above}
 use Rattle.cc_meta_typing.proofs.FormedContexts.{IsKindedContext-test}
-use Rattle.cc_meta_checking.specs.RepetitionLaws.{Holds}
 use Rattle.cc_meta_checking.proofs.CanonicalSets.{set_derived_valid}
 use Rattle.cc_meta_checking.proofs.Findings.{Has, below_all, Operand}
+use Rattle.cc_meta_checking.proofs.FilledComparisons.{EachHolds}
 use Rattle.cc_meta_checking.proofs.FilledSyntax.{PassesBinders-reading}
 use Rattle.cc_meta_checking.proofs.FoundTypes.{has_kinded, has_exposed, variable_set_kinded}
 
--- all that is asked holds as it stands
-abbrev pub AskedHold : List Asked → Type 0
-AskedHold [] = Unit {0}
-AskedHold (q ∷ qs) = Holds q × AskedHold qs
+-- what holds of all that is asked holds of its parts
+pub each_holds-parts : (a b : List Asked) → EachHolds (a ++ b) → EachHolds a × EachHolds b
+each_holds-parts [] b h = (tt, h)
+each_holds-parts (q ∷ a) b h = let p = each_holds-parts a b h.1 in ((h.0, p.0), p.1)
 
-pub asked_hold_parts : (a b : List Asked) → AskedHold (a ++ b) → AskedHold a × AskedHold b
-asked_hold_parts [] b h = (tt, h)
-asked_hold_parts (q ∷ a) b h = let p = asked_hold_parts a b h.1 in ((h.0, p.0), p.1)
-
-demands_hold : (ds : List Demand) → AskedHold (below_all ds) → AllHold ds
+demands_hold : (ds : List Demand) → EachHolds (below_all ds) → AllHold ds
 demands_hold [] h = tt
 demands_hold (d ∷ ds) h = (h.0, demands_hold ds h.1)
 
 -- a comparison whose demands hold is subtyping
-pub shapes_hold : (g : Context) (l r : Shape) (ds : List Demand) → HasDemands g l r ds → AskedHold (below_all ds)
+pub shapes_hold : (g : Context) (l r : Shape) (ds : List Demand) → HasDemands g l r ds → EachHolds (below_all ds)
     → Subtypes g l r
 shapes_hold g l r ds b h = (subtyping_compares g l r).1 (ds, b, demands_hold ds h)
 
 pub types_hold : (g : Context) (l r : CapturingType) (ds : List Demand) → TypesHaveDemands g l r ds
-    → AskedHold (below_all ds) → SubtypesType g l r
+    → EachHolds (below_all ds) → SubtypesType g l r
 types_hold g l r ds b h = (subtyping_of_types_compares g l r).1 (ds, b, demands_hold ds h)
 
 -- the derivation is valid for the term, and concludes that it has the type
@@ -136,7 +132,7 @@ module _ (derive : Deriving) (derives : DerivesAll derive) (g : Context) (formed
 
   -- an operand of a shape
   pub operand_valid : (v : Var) (x : Shape) (ds : List Demand) → Operand g v x ds → IsKinded (kinds_of g) [] x
-      → AskedHold (below_all ds)
+      → EachHolds (below_all ds)
       → Derives g (VariableTerm (in_context g v)) (operand_derived derive g (in_context g v) x) (capturing x (variable_set (in_context g v)))
   operand_valid v x ds o k h =
       given_valid o.has (capturing x (variable_set (in_context g v))) (k, variable_set_kinded o.has)
@@ -166,7 +162,7 @@ module _ (derive : Deriving) (derives : DerivesAll derive) (g : Context) (formed
 
   pub row_application : {v w : Var} {s s' : Shape} {d d' : Set} (takes give : Shape) (c e : Set) (ds : List Demand)
       → Has g v s d → exposed g s ≡ FunctionShape takes c give e → Has g w s' d'
-      → TypesHaveDemands g (capturing s' (variable_set w)) (capturing takes c) ds → AskedHold (below_all ds)
+      → TypesHaveDemands g (capturing s' (variable_set w)) (capturing takes c) ds → EachHolds (below_all ds)
       → Derives g (Application v w) (application_derived derive g v w (exposed g (shape_at g v))) (replaced_type w (capturing give e))
   row_application {v} {w} {s' = s'} takes give c e ds h x h' b holds =
       let k = has_exposed formed h x in
@@ -176,7 +172,7 @@ module _ (derive : Deriving) (derives : DerivesAll derive) (g : Context) (formed
       (record { valid = (v, w, takes, c, give, e, variable_set v, refl, p.valid, p.concludes, q.valid, q.concludes, refl); concludes = refl })
 
   pub row_type_application : {v : Var} {s : Shape} {d : Set} (y bound give : Shape) (e : Set) (ds : List Demand)
-      → Has g v s d → exposed g s ≡ TypeFunctionShape bound give e → HasDemands g y bound ds → AskedHold (below_all ds)
+      → Has g v s d → exposed g s ≡ TypeFunctionShape bound give e → HasDemands g y bound ds → EachHolds (below_all ds)
       → IsKinded (kinds_of g) [] y
       → Derives g (TypeApplication v y) (type_application_derived derive g v y (exposed g (shape_at g v))) (replaced_type_by_shape y (capturing give e))
   row_type_application {v} y bound give e ds h x b holds ky =
@@ -199,7 +195,7 @@ module _ (derive : Deriving) (derives : DerivesAll derive) (g : Context) (formed
 
   pub row_operation : {v : Var} {s : Shape} {d : Set} (o : Op) (w : Var) (base : Base) (ds : List Demand) → Has g v s d
       → exposed g s ≡ BaseShape (base_operated o) → base_taken o ≡ Some base
-      → Operand g w (BaseShape base) ds → AskedHold (below_all ds)
+      → Operand g w (BaseShape base) ds → EachHolds (below_all ds)
       → Derives g (Operation o v (Some (in_context g w))) (operation_derived derive g o v (Some (in_context g w)) (base_taken o)) (base_type (base_answered o))
   row_operation {v} o w base ds h x taken a holds =
       let p = head_valid h x in
@@ -217,7 +213,7 @@ module _ (derive : Deriving) (derives : DerivesAll derive) (g : Context) (formed
 
   pub row_exit : {v w : Var} {s s' : Shape} {d d' : Set} (t : CapturingType) (takes : Shape) (ds : List Demand)
       → Has g v s d → exposed g s ≡ ExitShape takes → Has g w s' d'
-      → TypesHaveDemands g (capturing s' (variable_set w)) (capturing takes empty) ds → AskedHold (below_all ds)
+      → TypesHaveDemands g (capturing s' (variable_set w)) (capturing takes empty) ds → EachHolds (below_all ds)
       → IsKindedType (kinds_of g) [] t
       → Derives g (Leave t.shape t.set v w) (exit_derived derive g t v w (exposed g (shape_at g v))) t
   row_exit {v} {w} {s' = s'} t takes ds h x h' b holds k =
@@ -227,7 +223,7 @@ module _ (derive : Deriving) (derives : DerivesAll derive) (g : Context) (formed
       (record { valid = (t.shape, t.set, v, w, takes, variable_set v, refl, p.valid, p.concludes, q.valid, q.concludes, IsKindedType-test (kinds_of g) [] t k, refl); concludes = refl })
 
   pub row_primitive : (o : Operator) (v w : Var) (ds es : List Demand) → Operand g v (BaseShape bases.Int) ds
-      → Operand g w (BaseShape bases.Int) es → AskedHold (below_all ds) → AskedHold (below_all es)
+      → Operand g w (BaseShape bases.Int) es → EachHolds (below_all ds) → EachHolds (below_all es)
       → Derives g (Primitive o (in_context g v) (in_context g w))
       (Node t-prim (two (operand_derived derive g (in_context g v) (BaseShape bases.Int)) (operand_derived derive g (in_context g w) (BaseShape bases.Int))) (OfType (base_type (base_given o))))
       (base_type (base_given o))
@@ -238,7 +234,7 @@ module _ (derive : Deriving) (derives : DerivesAll derive) (g : Context) (formed
 
   pub row_repetition : (v w : Var) (ds es : List Demand) → Operand g v (BaseShape bases.Int) ds
       → Operand g w (FunctionShape (BaseShape bases.Int) empty (BaseShape bases.Unit) empty) es
-      → AskedHold (below_all ds) → AskedHold (below_all es)
+      → EachHolds (below_all ds) → EachHolds (below_all es)
       → Derives g (Repetition (in_context g v) (in_context g w))
       (Node t-repeat (two (operand_derived derive g (in_context g v) (BaseShape bases.Int)) (operand_derived derive g (in_context g w) (FunctionShape (BaseShape bases.Int) empty (BaseShape bases.Unit) empty))) (OfType (base_type bases.Unit)))
       (base_type bases.Unit)
@@ -305,7 +301,7 @@ module _ (derive : Deriving) (derives : DerivesAll derive) (g : Context) (formed
       record { valid = (x, act_term (reading (length g)) 1 body, refl, IsKinded-test (kinds_of g) [] x k, inner.valid, inner.concludes, refl); concludes = refl }
 
   pub row_choice : (v : Var) (type : CapturingType) (t u : Term) (d d' : Derivation) (ds : List Demand)
-      → Operand g v (BaseShape bases.Bool) ds → AskedHold (below_all ds)
+      → Operand g v (BaseShape bases.Bool) ds → EachHolds (below_all ds)
       → Derives g t (raised derive g d type) type → Derives g u (raised derive g d' type) type
       → Derives g (Conditional (Written type.shape type.set) (in_context g v) t u)
       (Node t-if (three (operand_derived derive g (in_context g v) (BaseShape bases.Bool)) (raised derive g d type) (raised derive g d' type)) (OfType type)) type

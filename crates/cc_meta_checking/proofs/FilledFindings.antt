@@ -87,15 +87,17 @@ module _ (base : Context) (root : ℕ) (within : root ≤ length base) (f : Fill
       (λ j. capturing (in_filled base root within f over terms i k ShapeSort x j) (written_filled base root within f over terms i k both kboth j))
       (operand_filled base root within f over terms i k v (BaseShape bases.Bool) ds o s.0)
       (fills a i k kt.2 s2.0)
-      (types_compare (filled_context f g) (filled_type f r.type) (filled_type f type)
-      (subcaptures_subset (filled_context f g) (filled_set f r.type.set) (filled_set f both)
-      (λ e m. let m' = Member-from_filled f e r.type.set m in Member-filled f m'.0 e both ((Member-union m'.0 r.type.set r'.type.set).1 (inl m'.1)) m'.2),
-      shapes_below root f over g r.type.shape (shape_in g x) es p (serves_parts f (below_all es) [] s2.1).0))
+      (types_compare (filled_context f g) (filled_type f r.type) (filled_type f type) (
+        subcaptures_subset (filled_context f g) (filled_set f r.type.set) (filled_set f both)
+            (λ e m. let m' = Member-from_filled f e r.type.set m in Member-filled f m'.0 e both ((Member-union m'.0 r.type.set r'.type.set).1 (inl m'.1)) m'.2),
+        shapes_below root f over g r.type.shape (shape_in g x) es p (serves_parts f (below_all es) [] s2.1).0,
+      ))
       (fills b i k kt.3 s4.0)
-      (types_compare (filled_context f g) (filled_type f r'.type) (filled_type f type)
-      (subcaptures_subset (filled_context f g) (filled_set f r'.type.set) (filled_set f both)
-      (λ e m. let m' = Member-from_filled f e r'.type.set m in Member-filled f m'.0 e both ((Member-union m'.0 r.type.set r'.type.set).1 (inr m'.1)) m'.2),
-      shapes_below root f over g r'.type.shape (shape_in g x) es' q (serves_parts f (below_all es') [] s4.1).0))
+      (types_compare (filled_context f g) (filled_type f r'.type) (filled_type f type) (
+        subcaptures_subset (filled_context f g) (filled_set f r'.type.set) (filled_set f both)
+            (λ e m. let m' = Member-from_filled f e r'.type.set m in Member-filled f m'.0 e both ((Member-union m'.0 r.type.set r'.type.set).1 (inr m'.1)) m'.2),
+        shapes_below root f over g r'.type.shape (shape_in g x) es' q (serves_parts f (below_all es') [] s4.1).0,
+      ))
   fills (finds-repetition {v = v} {w = w} {ds = ds} {es = es} a b) i k kt serves =
       let p = serves_parts f (below_all ds) (below_all es ++ []) serves in
       let q = serves_parts f (below_all es) [] p.1 in
