@@ -99,7 +99,7 @@ has_type g t s k kt ks h =
     record { context_formed = IsKindedContext-test g k; term_formed = IsKindedTerm-test (kinds_of g) [] t kt; type_formed = IsKindedType-test (kinds_of g) [] s ks; typing = h }
 
 -- read in a context what is well formed in it
-read_itself : (g : Context) (t : Term) → IsKindedTerm (kinds_of g) [] t → read_term (length g) t ≡ t
+pub read_itself : (g : Context) (t : Term) → IsKindedTerm (kinds_of g) [] t → read_term (length g) t ≡ t
 read_itself g t k = read_term-still (length g) 0 t (HasKinds-meets TermSort (kinds_of g) [] _ (kinds_bound (kinds_of g)) [] t k)
 
 -- both types of an accepted definition

@@ -4,8 +4,13 @@ pub mod CanonicalShapes
 pub mod CheckedDefinitions
 pub mod ComputedFillings
 pub mod ComputedVerdicts
+pub mod CountedShapes
+pub mod CountedTerms
 pub mod DecidedDemands
 pub mod Decisions
+pub mod DerivedDefinitions
+pub mod DerivedRows
+pub mod DerivedTerms
 pub mod FilledActions
 pub mod FilledComparisons
 pub mod FilledFindings
