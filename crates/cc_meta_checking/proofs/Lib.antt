@@ -30,11 +30,14 @@ pub mod OneOutcome
 pub mod OneVerdict
 pub mod ReachedFindings
 pub mod ReadingKinds
+pub mod Reordering
 pub mod RepeatedFindings
 pub mod ServedDemands
 pub mod SettledSteps
 pub mod SettledTerms
+pub mod SignatureSets
 pub mod Signatures
+pub mod SignedSets
 pub mod TameFindings
 pub mod Tameness
 pub mod VerdictsExist

@@ -1,4 +1,5 @@
 use Rattle.cc_meta_checking.proofs.CheckedDefinitions.{accepted_sound}
+use Rattle.cc_meta_checking.proofs.SignedSets.{signature_sets}
 use Rattle.cc_meta_checking.proofs.checking_laws.accepted_definitions.Goals as goal
 
 pub returns : goal.returns
@@ -11,4 +12,5 @@ returns c =
       no_hole =
           λ devices globals definition accepted fits verdict.
           let s = accepted_sound devices globals definition accepted fits verdict in (s.term_closed, s.type_closed);
+      sets = signature_sets;
     }
