@@ -1,5 +1,5 @@
 -- The least filling, found in so many rounds, where the last one adds nothing.
-use Rattle.std.proofs.Common.{◌≡◌, ◌↔◌, ◌⊎◌, ℕ, ◌<◌, ◌≤◌, zero, suc, nat_eq, nat_lt, Bool, true, false, ◌&&◌, cond, List, [], ◌∷◌, ◌++◌, Option, Some, None, refl, sym, ap, ◌∙◌, subst, inl, inr, arith}
+use Rattle.std.proofs.Common.{◌≡◌, ℕ, ◌≤◌, zero, suc, nat_eq, nat_lt, Bool, true, false, ◌&&◌, cond, List, [], ◌∷◌, ◌++◌, Option, Some, None, refl, sym, ap, ◌∙◌, subst, inl, inr}
 use Rattle.std.proofs.lemmas.Bool.{and_parts, both_ways, lt-ltb, le-ltb, ltb-true, ltb-false, eqb-true}
 use Rattle.std.proofs.lemmas.List.{append_assoc}
 use Rattle.cc_capture.specs.declared.var.Var.TheVariants.{Bound, Free}
@@ -8,7 +8,6 @@ use Rattle.cc_capture.specs.declared.var.Elem.TheVariants.{Var as Variable, Cap,
 use Rattle.cc_capture.specs.Rising.{is_listed, placed}
 use Rattle.cc_capture.specs.Sets.{Set, Member, same_list, contains, empty, insert, union, is_subset}
 use Rattle.cc_capture.proofs.Membership.{Member-empty, Member-union, is_subset-Member}
-use Rattle.cc_core.specs.Shapes.{Shape}
 use Rattle.cc_core.specs.Contexts.{Bind, TermEntry, TypeEntry, Context, lookup}
 use Rattle.cc_core.specs.Substitution.{single}
 use Rattle.cc_core.proofs.Moving.{Member-single, Member-single_itself}

@@ -1,5 +1,5 @@
 -- The verdict of a definition, found in so many steps and rounds.
-use Rattle.std.proofs.Common.{◌≡◌, ◌⊎◌, ℕ, Bool, true, false, cond, List, length, Option, Some, None, refl, sym, ap, ◌∙◌, subst, inl, inr}
+use Rattle.std.proofs.Common.{◌≡◌, ◌⊎◌, ℕ, Bool, true, false, List, length, Option, Some, None, refl, inl, inr}
 use Rattle.cc_base.specs.declared.code.Code.{Code}
 use Rattle.cc_base.specs.declared.place.Place.{Place}
 use Rattle.std.proofs.lemmas.Bool.{both_ways}
@@ -10,7 +10,7 @@ use Rattle.cc_core.specs.Contexts.{Context}
 use Rattle.cc_sets.specs.Outcomes.{Placed, Outcome, NoAnswer, Refused, Found}
 use Rattle.cc_sets.specs.Inference.{limited}
 use Rattle.cc_sets.specs.Fillings.{Filling, AllServed, FailsFirst}
-use Rattle.cc_sets.specs.Verdicts.{Definition, Checking, checked, IsChecked, Verdict, Accepted, IsAccepted, IsRefused, signature_under, signature_verdict, Deserves, HasVerdict}
+use Rattle.cc_sets.specs.Verdicts.{Definition, Checking, checked, Verdict, Accepted, IsAccepted, IsRefused, signature_under, signature_verdict, Deserves, HasVerdict}
 use Rattle.cc_meta_checking.proofs.DecidedDemands.{Judged, NotKnown, AllPass, FailsAt, judged, Says, judged_says}
 use Rattle.cc_meta_checking.proofs.ComputedFillings.{rounds, is_closed, rounds_are_least}
 

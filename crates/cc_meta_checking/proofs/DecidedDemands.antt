@@ -1,5 +1,5 @@
 -- Whether what is asked is served, found with so many steps; and the first that is not.
-use Rattle.std.proofs.Common.{◌≡◌, ◌⊎◌, ℕ, zero, suc, Bool, true, false, not, cond, List, [], ◌∷◌, ◌++◌, Option, Some, None, refl, sym, ap, ◌∙◌, subst, inl, inr}
+use Rattle.std.proofs.Common.{◌≡◌, ◌⊎◌, ℕ, zero, suc, Bool, true, false, not, cond, List, [], ◌∷◌, Option, Some, None, refl, sym, ap, ◌∙◌, subst, inl, inr}
 use Rattle.std.proofs.lemmas.Bool.{or_cases, or_left, or_right, both_ways}
 use Rattle.cc_base.specs.declared.code.Code.{Code}
 use Rattle.cc_base.specs.declared.place.Place.{Place}
@@ -13,9 +13,8 @@ use Rattle.cc_capture.specs.Sets.{Set, Member, contains}
 use Rattle.cc_core.specs.Shapes.{Shape}
 use Rattle.cc_core.specs.Contexts.{Bind, TermEntry, TypeEntry, Context, lookup}
 use Rattle.cc_core.specs.Substitution.{filled_set}
-use Rattle.cc_core.specs.Subcapturing.{Subcaptures, SubcapturesSet, element, variable}
+use Rattle.cc_core.specs.Subcapturing.{Subcaptures, element, variable}
 use Rattle.cc_core.proofs.SubcapturingLemmas.{subcaptures_variable, subcaptures_other}
-use Rattle.cc_sets.specs.Comparison.{Demand}
 use Rattle.cc_sets.specs.Outcomes.{Asked, IsBelow, IsCapless, Placed}
 use Rattle.cc_sets.specs.Fillings.{Filling, filled_context, IsServed, AllServed, code_of_failure, FailsFirst}
 

@@ -1,10 +1,9 @@
 -- What is asked in another order has the same least filling, and is served by the same.
-use Rattle.std.proofs.Common.{◌≡◌, ◌↔◌, ℕ, List, [], ◌∷◌, ◌++◌, refl, sym, ap, subst}
+use Rattle.std.proofs.Common.{ℕ, List, [], ◌∷◌, ◌++◌, refl, ap, subst}
 use Rattle.cc_capture.specs.declared.var.Elem.{Elem}
-use Rattle.cc_capture.specs.Sets.{Member}
 use Rattle.cc_core.specs.Contexts.{Context}
 use Rattle.cc_sets.specs.Outcomes.{Asked, IsBelow, Placed}
-use Rattle.cc_sets.specs.Fillings.{Filling, IsServed, AllServed, IsAskedIn, Comes, global, capability, local, forced, IsLeast}
+use Rattle.cc_sets.specs.Fillings.{Filling, IsServed, AllServed, IsAskedIn, Comes, global, capability, local, forced}
 use Rattle.cc_meta_checking.specs.FillingLaws.{OrderDoesNotMatter}
 
 -- what comes where less is asked comes where more is

@@ -1,5 +1,5 @@
 -- The outermost set of a signature: its devices come from the type's set, or from the sets of the definitions in it.
-use Rattle.std.proofs.Common.{◌≡◌, ◌↔◌, ◌⊎◌, ℕ, suc, ◌<◌, ◌≤◌, nat_lt, Bool, true, false, cond, List, [], ◌∷◌, length, Option, Some, None, refl, sym, ap, ◌∙◌, subst, inl, inr, arith}
+use Rattle.std.proofs.Common.{◌≡◌, ◌↔◌, ℕ, suc, ◌<◌, ◌≤◌, nat_lt, Bool, true, false, cond, [], ◌∷◌, length, Some, refl, sym, ap, ◌∙◌, subst, inl, inr, arith}
 use Rattle.std.proofs.lemmas.Bool.{cases_eq, ltb-true, ltb-false, both_ways}
 use Rattle.std.specs.Option.{option_and_then}
 use Rattle.cc_capture.specs.declared.var.Var.TheVariants.{Bound, Free}
@@ -9,7 +9,7 @@ use Rattle.cc_capture.specs.Sets.{Set, Member, contains, union, remove}
 use Rattle.cc_capture.proofs.Membership.{Member-union, Member-remove}
 use Rattle.cc_core.specs.Shapes.{Shape, CapturingType}
 use Rattle.cc_core.specs.Contexts.{Bind, TermEntry, TypeEntry, Context, lookup}
-use Rattle.cc_core.proofs.Lookups.{lookup-newest, lookup-older, lookup-below}
+use Rattle.cc_core.proofs.Lookups.{lookup-newest, lookup-older}
 use Rattle.cc_sets.specs.Avoidance.{Positive, has_position, avoided_set, avoided_type}
 use Rattle.cc_sets.specs.Fillings.{IsGlobal}
 use Rattle.cc_sets.specs.Verdicts.{signature_of}

@@ -1,16 +1,15 @@
 -- The outermost set of an accepted definition's signature.
-use Rattle.std.proofs.Common.{◌≡◌, ◌↔◌, ◌⊎◌, ℕ, suc, ◌<◌, ◌≤◌, nat_lt, Bool, true, false, cond, List, [], ◌∷◌, length, Option, Some, None, refl, sym, ap, ◌∙◌, subst, inl, inr, arith}
+use Rattle.std.proofs.Common.{◌≡◌, ◌↔◌, ℕ, ◌<◌, ◌≤◌, nat_lt, Bool, true, false, cond, List, [], ◌∷◌, length, Some, refl, sym, ap, ◌∙◌, subst, arith}
 use Rattle.std.proofs.lemmas.Bool.{ltb-true}
 use Rattle.cc_capture.specs.declared.var.Var.TheVariants.{Bound, Free}
 use Rattle.cc_capture.specs.declared.var.Elem.{Elem}
 use Rattle.cc_capture.specs.declared.var.Elem.TheVariants.{Var as Variable, Cap, Hole}
 use Rattle.cc_capture.specs.Sets.{Set, Member}
-use Rattle.cc_core.specs.Shapes.{CapturingType, capturing}
+use Rattle.cc_core.specs.Shapes.{CapturingType}
 use Rattle.cc_core.specs.Terms.{Note, Absent, Written, Own}
-use Rattle.cc_core.specs.Contexts.{Bind, Context, entry_of}
+use Rattle.cc_core.specs.Contexts.{Context, entry_of}
 use Rattle.cc_core.specs.Occurrences.{IsNoHole, HasNoHoleInSet, HasNoHoleInType}
 use Rattle.cc_core.specs.Substitution.{filled_type}
-use Rattle.cc_core.specs.Typing.{HasType}
 use Rattle.cc_core.specs.WellFormed.{kind_of, kinds_of, IsWellFormedType}
 use Rattle.cc_core.proofs.KindFacts.{IsKindedElement, IsKindedSet, IsKindedType-from}
 use Rattle.cc_core.proofs.Lookups.{lookup-below, length_map}
@@ -18,13 +17,13 @@ use Rattle.cc_core.proofs.Sorts.{TypeSort}
 use Rattle.cc_sets.specs.Outcomes.{Asked, Placed, Found}
 use Rattle.cc_sets.specs.Inference.{limited}
 use Rattle.cc_sets.specs.Fillings.{Filling, IsGlobal}
-use Rattle.cc_sets.specs.Verdicts.{Definition, Checking, Accepted, IsAccepted, HasVerdict, plain_checked, recursive_checked, signature_of, signature_under, accepted_with}
+use Rattle.cc_sets.specs.Verdicts.{Definition, Checking, Accepted, plain_checked, recursive_checked, signature_of, signature_under}
 use Rattle.cc_meta_checking.proofs.FoundFindings.{Came, asked_of, then_came, finds_came}
 use Rattle.cc_meta_checking.proofs.LeastFillings.{filled-still}
-use Rattle.cc_meta_checking.proofs.CheckedDefinitions.{Parts, accepted_parts, accepted_sound}
+use Rattle.cc_meta_checking.proofs.CheckedDefinitions.{accepted_parts, accepted_sound}
 use Rattle.cc_meta_checking.proofs.SignatureSets.{ComesFrom, of_devices, signature_comes}
 use Rattle.cc_meta_checking.specs.FillingLaws.{AreGlobals}
-use Rattle.cc_meta_checking.specs.CheckingLaws.{Fits, definition_context, oldest, SetsAreOverDevices, IsOfSetOrItsDefinitions, SignatureSetsAreOfDevices}
+use Rattle.cc_meta_checking.specs.CheckingLaws.{definition_context, oldest, SetsAreOverDevices, IsOfSetOrItsDefinitions, SignatureSetsAreOfDevices}
 
 -- the elements of a well-formed set without holes
 within_kinds : (g : Context) (c : Set) → IsKindedSet (kinds_of g) [] c → HasNoHoleInSet c → (e : Elem) → Member e c → IsGlobal (length g) e

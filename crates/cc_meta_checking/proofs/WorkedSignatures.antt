@@ -1,5 +1,5 @@
 -- The worked definitions that are accepted, by computation.
-use Rattle.std.proofs.Common.{◌≡◌, true, refl}
+use Rattle.std.proofs.Common.{refl}
 use Rattle.cc_capture.specs.Elements.{element_order, same_element}
 use Rattle.cc_capture.specs.Rising.{placed}
 use Rattle.cc_capture.specs.Variables.{same_variable}
@@ -8,25 +8,20 @@ use Rattle.cc_sets.specs.Comparison.{comparison, by_form}
 use Rattle.cc_sets.specs.Outcomes.{◌>>=◌}
 use Rattle.cc_meta_checking.proofs.ComputedVerdicts.{accepted_in_steps}
 use Rattle.cc_meta_checking.specs.ExampleVerdicts.{WidenedAndNarrowed, CalledTwiceFillsWithBoth, OneHoleFillsTheOther, NothingFillsTheHoles, OpenedForNothing, Identity, OpenedAfterIdentity, NestedBoundaries, ChosenHasBothSets, LowerTower, CountingDown, CountingFromThree, PrintingForEver}
-use Rattle.cc_base.specs.declared.code.Code.TheVariants.{E13, E14, E15, E16, E17, E18}
 use Rattle.cc_base.specs.declared.literal.Base.TheVariants as bases
 use Rattle.cc_capture.specs.declared.var.Elem.TheVariants.{Cap}
-use Rattle.cc_core.specs.Shapes.{BaseShape, FunctionShape, CapturingType, capturing}
-use Rattle.cc_core.specs.Contexts.{Context}
+use Rattle.cc_core.specs.Shapes.{BaseShape, FunctionShape, capturing}
 use Rattle.cc_core.specs.Substitution.{single}
-use Rattle.cc_sets.specs.Examples.{number, nothing, printing, first, parameter, with_console}
-use Rattle.cc_sets.specs.Verdicts.{Definition, Accepted, IsAccepted, IsRefused, HasVerdict}
-use Rattle.cc_sets.specs.ExampleChecks.{place, from_nothing, console, console_given, box_of_cap_opened, printing_again}
-use Rattle.cc_meta_checking.specs.ExampleDefinitions.{with_devices, both_devices, pure_printer, content_of_cap}
-use Rattle.cc_meta_checking.specs.ExampleDefinitions.{widened_and_narrowed, exit_that_would_leave}
-use Rattle.cc_meta_checking.specs.ExampleDefinitions.{boxed_exit_that_would_leave, called_twice, depending, not_depending}
-use Rattle.cc_meta_checking.specs.ExampleDefinitions.{opened_for_a_parameter, opened_for_nothing, counting}
+use Rattle.cc_sets.specs.Examples.{number, nothing, printing, first, parameter}
+use Rattle.cc_sets.specs.ExampleChecks.{from_nothing, console}
+use Rattle.cc_meta_checking.specs.ExampleDefinitions.{with_devices, both_devices}
+use Rattle.cc_meta_checking.specs.ExampleDefinitions.{widened_and_narrowed}
+use Rattle.cc_meta_checking.specs.ExampleDefinitions.{called_twice, depending, not_depending}
+use Rattle.cc_meta_checking.specs.ExampleDefinitions.{opened_for_nothing, counting}
 use Rattle.cc_meta_checking.specs.ExampleDefinitions.{counting_down, after_down, counting_from_three, after_main}
 use Rattle.cc_meta_checking.specs.ExampleDefinitions.{printing_for_ever, identity, identity_shape, after_identity}
 use Rattle.cc_meta_checking.specs.ExampleDefinitions.{opened_after_identity, nested_boundaries, after_two, chosen}
-use Rattle.cc_meta_checking.specs.ExampleDefinitions.{tower, taking_tower, taking_tower_inside, unit_applied}
-use Rattle.cc_meta_checking.specs.ExampleDefinitions.{name_in_bound, wrong_twice, impure_and_wrong}
-use Rattle.std.specs.Prelude.{[]}
+use Rattle.cc_meta_checking.specs.ExampleDefinitions.{tower, taking_tower}
 
 pub widened_and_narrowed_is_accepted : WidenedAndNarrowed
 unfolding ◌>>=◌ comparison by_form same_set contains flat_image from_list union retain remove insert placed element_order same_element empty is_subset

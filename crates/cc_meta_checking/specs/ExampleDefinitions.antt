@@ -1,6 +1,6 @@
 -- Definitions to be checked, each as its text in a comment, with the places of that text, as LINE:COL. What stands for an
 -- operand that is no name is a `let` of its own, and a hole for each omitted set of a parameter.
-use Rattle.std.specs.Prelude.{ℕ, zero, suc, pos, false, true, [], ◌∷◌, Some, None}
+use Rattle.std.specs.Prelude.{ℕ, zero, suc, pos, false, true, ◌∷◌, Some, None}
 use Rattle.cc_base.specs.Literals.{UnitLiteral, NumberLiteral}
 use Rattle.cc_base.specs.declared.literal.Base.TheVariants as bases
 use Rattle.cc_base.specs.declared.literal.Op.TheVariants as operations
@@ -8,18 +8,16 @@ use Rattle.cc_base.specs.declared.literal.Operator.TheVariants as operators
 use Rattle.cc_base.specs.declared.place.Place.{Place}
 use Rattle.cc_capture.specs.declared.var.Var.{Var}
 use Rattle.cc_capture.specs.declared.var.Var.TheVariants.{Bound, Free}
-use Rattle.cc_capture.specs.declared.var.Elem.{Elem}
 use Rattle.cc_capture.specs.declared.var.Elem.TheVariants.{Cap, Hole}
 use Rattle.cc_capture.specs.Sets.{Set, empty, union}
 use Rattle.cc_core.specs.Shapes.{Shape, BaseShape, AnyShape, TypeVariable, FunctionShape, TypeFunctionShape, BoxShape}
-use Rattle.cc_core.specs.Shapes.{CapturingType, capturing}
 use Rattle.cc_core.specs.Terms.{Note, Absent, Written, Own, Term, VariableTerm, LiteralTerm, FunctionTerm}
 use Rattle.cc_core.specs.Terms.{TypeFunctionTerm, BoxTerm, Application, TypeApplication, Unboxing, Let, Primitive}
 use Rattle.cc_core.specs.Terms.{Conditional, Operation, Boundary, Leave}
-use Rattle.cc_core.specs.Contexts.{TermEntry, Context, entry_of}
+use Rattle.cc_core.specs.Contexts.{TermEntry, Context}
 use Rattle.cc_core.specs.Substitution.{single}
 use Rattle.cc_core.specs.Places.{Places, Alone, Around, Between, spots_at}
-use Rattle.cc_sets.specs.Examples.{number, nothing, printing, first, second, third, parameter, with_console}
+use Rattle.cc_sets.specs.Examples.{number, nothing, printing, first, second, parameter, with_console}
 use Rattle.cc_sets.specs.ExampleChecks.{place, defined, from_nothing, console}
 use Rattle.cc_sets.specs.Verdicts.{Definition}
 
