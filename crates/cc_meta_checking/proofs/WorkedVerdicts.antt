@@ -1,4 +1,4 @@
--- The worked refusals, by computation.
+-- The worked refusals, and one whole accepted definition, by computation.
 use Rattle.std.proofs.Common.{refl}
 use Rattle.cc_capture.specs.Elements.{element_order, same_element}
 use Rattle.cc_capture.specs.Rising.{placed}
@@ -6,10 +6,11 @@ use Rattle.cc_capture.specs.Sets.{contains, empty, insert, from_list, retain, re
 use Rattle.cc_sets.specs.Comparison.{comparison, by_form}
 use Rattle.cc_sets.specs.Outcomes.{◌>>=◌}
 use Rattle.cc_meta_checking.proofs.ComputedVerdicts.{verdict_in_steps}
-use Rattle.cc_meta_checking.specs.ExampleVerdicts.{ConsoleGivenIsRefused, BoxOfCapIsRefused, PrintingAgainIsRefused, PurePrinterIsRefused, ContentOfCapIsRefused, ExitMayNotLeave, BoxedExitMayNotLeave, OpenedForAParameterIsRefused, UnitAppliedIsRefused, NameInBoundIsRefused, TowerIsTooLarge, TowerInsideIsTooLarge, WrittenTypesComeFirst, DemandsAreJudgedLast}
+use Rattle.cc_meta_checking.specs.ExampleDefinitions.{passing_itself}
+use Rattle.cc_meta_checking.specs.ExampleVerdicts.{itself_passed, OwnNamesAreNoGlobals, ConsoleGivenIsRefused, BoxOfCapIsRefused, PrintingAgainIsRefused, PurePrinterIsRefused, ContentOfCapIsRefused, ExitMayNotLeave, BoxedExitMayNotLeave, OpenedForAParameterIsRefused, UnitAppliedIsRefused, NameInBoundIsRefused, TowerIsTooLarge, TowerInsideIsTooLarge, WrittenTypesComeFirst, DemandsAreJudgedLast}
 use Rattle.cc_base.specs.declared.code.Code.TheVariants.{E13, E14, E15, E16, E17, E18}
 use Rattle.cc_sets.specs.Examples.{with_console}
-use Rattle.cc_sets.specs.Verdicts.{IsRefused}
+use Rattle.cc_sets.specs.Verdicts.{IsAccepted, IsRefused}
 use Rattle.cc_sets.specs.ExampleChecks.{place, console_given, box_of_cap_opened, printing_again}
 use Rattle.cc_meta_checking.specs.ExampleDefinitions.{with_devices, pure_printer, content_of_cap}
 use Rattle.cc_meta_checking.specs.ExampleDefinitions.{exit_that_would_leave}
@@ -74,3 +75,7 @@ written_types_come_first = verdict_in_steps 9 2 with_devices wrong_twice (IsRefu
 pub demands_are_judged_last : DemandsAreJudgedLast
 unfolding ◌>>=◌ comparison by_form same_set contains flat_image from_list union retain remove insert placed element_order same_element empty is_subset
 demands_are_judged_last = verdict_in_steps 9 2 with_devices impure_and_wrong (IsRefused E13 (place 1 82)) refl
+
+pub own_names_are_no_globals : OwnNamesAreNoGlobals
+unfolding ◌>>=◌ comparison by_form same_set contains flat_image from_list union retain remove insert placed element_order same_element empty is_subset
+own_names_are_no_globals = verdict_in_steps 9 2 with_devices passing_itself (IsAccepted itself_passed) refl

@@ -289,6 +289,29 @@ printing_for_ever =
           (operands (place 1 82) (place 1 82) (place 1 87)));
     }
 
+-- the function h is applied to f: its body, where the set of what it takes is given
+abbrev pub passed_to : Set → Term
+passed_to set =
+    FunctionTerm nothing empty
+    (Let Absent
+    (FunctionTerm (from_nothing nothing empty) set
+    (Let Absent (LiteralTerm UnitLiteral) (Application (Bound 1) (Bound 0))))
+    (Application (Bound 0) (Free 2)))
+
+-- def rec f: (u: Unit) -> Unit = fun (u: Unit) => val h = fun (k: ((v: Unit) -> Unit)^?) => k(unit); h(f)
+abbrev pub passing_itself : Definition
+passing_itself =
+    record {
+      name_at = place 1 9;
+      note = Written (from_nothing nothing empty) empty;
+      recursive = true;
+      right = passed_to (single (Hole 0));
+      places =
+          around (place 1 32)
+          (let_at (place 1 49) (place 1 49) (around (place 1 57) (applied_at (place 1 91) (place 1 93)))
+          (operands (place 1 100) (place 1 100) (place 1 102)));
+    }
+
 -- def id = fun [X <: Any] => fun (x: X) => x
 abbrev pub identity : Definition
 identity =

@@ -6,6 +6,7 @@ use Rattle.cc_base.specs.declared.literal.Base.TheVariants as bases
 use Rattle.cc_capture.specs.declared.var.Elem.TheVariants.{Cap}
 use Rattle.cc_capture.specs.Sets.{empty}
 use Rattle.cc_core.specs.Shapes.{BaseShape, FunctionShape, CapturingType, capturing}
+use Rattle.cc_core.specs.Terms.{Written}
 use Rattle.cc_core.specs.Contexts.{Context}
 use Rattle.cc_core.specs.Substitution.{single}
 use Rattle.cc_sets.specs.Examples.{number, nothing, printing, first, parameter, with_console}
@@ -16,7 +17,7 @@ use Rattle.cc_meta_checking.specs.ExampleDefinitions.{widened_and_narrowed, exit
 use Rattle.cc_meta_checking.specs.ExampleDefinitions.{boxed_exit_that_would_leave, called_twice, depending, not_depending}
 use Rattle.cc_meta_checking.specs.ExampleDefinitions.{opened_for_a_parameter, opened_for_nothing, counting}
 use Rattle.cc_meta_checking.specs.ExampleDefinitions.{counting_down, after_down, counting_from_three, after_main}
-use Rattle.cc_meta_checking.specs.ExampleDefinitions.{printing_for_ever, identity, identity_shape, after_identity}
+use Rattle.cc_meta_checking.specs.ExampleDefinitions.{printing_for_ever, passed_to, passing_itself, identity, identity_shape, after_identity}
 use Rattle.cc_meta_checking.specs.ExampleDefinitions.{opened_after_identity, nested_boundaries, after_two, chosen}
 use Rattle.cc_meta_checking.specs.ExampleDefinitions.{tower, taking_tower, taking_tower_inside, unit_applied}
 use Rattle.cc_meta_checking.specs.ExampleDefinitions.{name_in_bound, wrong_twice, impure_and_wrong}
@@ -123,6 +124,20 @@ CountingFromThree = IsAcceptedAs after_down counting_from_three (capturing (from
 
 abbrev pub PrintingForEver : Type 0
 PrintingForEver = IsAcceptedAs after_main printing_for_ever (capturing (from_nothing nothing empty) (single first))
+
+-- what is accepted of it: f's omitted set is empty
+abbrev pub itself_passed : Accepted
+itself_passed =
+    record {
+      note = Written (from_nothing nothing empty) empty;
+      filled = passed_to empty;
+      type = capturing (from_nothing nothing empty) empty;
+      signature = capturing (from_nothing nothing empty) empty;
+    }
+
+-- The name of a recursive definition is no global: it forces what its declared set has, which is nothing.
+abbrev pub OwnNamesAreNoGlobals : Type 0
+OwnNamesAreNoGlobals = HasVerdict 2 with_devices passing_itself (IsAccepted itself_passed)
 
 -- id: [_T0 <: Any] -> (_1: _T0) -> _T0^{_1}; main: ((_0: Unit) -> Int)^{out}
 abbrev pub Identity : Type 0

@@ -42,4 +42,5 @@ pub fn accepted_recursive()
     ensures pure { example.CountingDown }
     ensures after { example.CountingFromThree }
     ensures printing { example.PrintingForEver }
+    ensures own { example.OwnNamesAreNoGlobals }
 {}
