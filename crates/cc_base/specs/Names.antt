@@ -24,8 +24,8 @@ reserved_words =
 unfoldable pub is_reserved : List ℕ → Bool
 is_reserved cs = list_any (λ word. bytes_eq word cs) reserved_words
 
--- A name begins with a character that may start an identifier and goes on with those that may continue one (XID start and
--- XID continue of Unicode's annex 31), and is no reserved word.
+-- A name begins with a character that may start an identifier and goes on with those that may continue one (XID start
+-- and XID continue of Unicode's annex 31), and is no reserved word.
 abbrev pub spells_name : List ℕ → Bool
 spells_name cs = first_passes is_xid_start cs && list_all is_xid_continue cs && not (is_reserved cs)
 

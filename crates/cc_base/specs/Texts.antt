@@ -3,7 +3,9 @@ use Rattle.std.specs.Prelude.{ℕ, List, ◌++◌, codes}
 use Rattle.std.specs.Fmt.{decimal}
 use Rattle.cc_base.specs.declared.place.Place.{Place}
 use Rattle.cc_base.specs.declared.code.Code.{Code}
-use Rattle.cc_base.specs.declared.code.Code.TheVariants.{E01, E02, E03, E04, E05, E06, E07, E08, E09, E10, E11, E12, E13, E14, E15, E16, E17, E18, E19, E20, E30, E31, E32, E33, E34, E35, E36}
+use Rattle.cc_base.specs.declared.code.Code.TheVariants.{E01, E02, E03, E04, E05, E06, E07, E08, E09, E10, E11, E12}
+use Rattle.cc_base.specs.declared.code.Code.TheVariants.{E13, E14, E15, E16, E17, E18, E19, E20, E30, E31, E32, E33}
+use Rattle.cc_base.specs.declared.code.Code.TheVariants.{E34, E35, E36}
 
 -- the line and the column in decimal, with a colon between them
 abbrev pub place_text : Place → List ℕ
