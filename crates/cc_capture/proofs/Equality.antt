@@ -40,5 +40,8 @@ same_elements-itself (x ∷ xs) = and_from _ _ (same_element-itself x) (same_ele
 
 pub same_set-decides : (a b : Set) → (same_set a b ≡ true) ↔ (a ≡ b)
 unfolding same_set
-same_set-decides a b =
-    (λ e. same_list a b (same_elements-true a.list b.list e), λ e. ap (λ s. same_elements a.list s.list) (sym e) ∙ same_elements-itself a.list)
+same_set-decides a b = (
+  λ e. same_list a b (same_elements-true a.list b.list e),
+  λ e. ap (λ s. same_elements a.list s.list) (sym e)
+      ∙ same_elements-itself a.list,
+)

@@ -2,7 +2,8 @@
 use Rattle.std.proofs.Common.{◌≡◌, inl, inr, refl, sym, ap, ◌∙◌, subst}
 use Rattle.cc_capture.specs.declared.var.Elem.{Elem}
 use Rattle.cc_capture.specs.Sets.{Set, Member, empty, insert, union, image, flat_image}
-use Rattle.cc_capture.proofs.Membership.{same_members, Member-empty, Member-insert, Member-union, Member-image, Member-flat_image}
+use Rattle.cc_capture.proofs.Membership.{same_members, Member-empty, Member-insert, Member-union, Member-image}
+use Rattle.cc_capture.proofs.Membership.{Member-flat_image}
 
 -- what a function makes of a member is a member of the image
 pub Member-image_of : (f : Elem → Elem) (e : Elem) (s : Set) → Member e s → Member (f e) (image f s)
@@ -29,8 +30,10 @@ image-identity s =
 pub image-congruent : (f g : Elem → Elem) (s : Set) → ((e : Elem) → Member e s → f e ≡ g e) → image f s ≡ image g s
 image-congruent f g s agree =
     same_members _ _
-    (λ e h. let from = (Member-image f e s).0 h in (Member-image g e s).1 (from.0, from.1, sym (agree from.0 from.1) ∙ from.2))
-    (λ e h. let from = (Member-image g e s).0 h in (Member-image f e s).1 (from.0, from.1, agree from.0 from.1 ∙ from.2))
+    (λ e h. let from = (Member-image f e s).0 h in (Member-image g e s).1
+    (from.0, from.1, sym (agree from.0 from.1) ∙ from.2))
+    (λ e h. let from = (Member-image g e s).0 h in (Member-image f e s).1
+    (from.0, from.1, agree from.0 from.1 ∙ from.2))
 
 pub image-empty : (f : Elem → Elem) → image f empty ≡ empty
 image-empty f =
@@ -52,7 +55,8 @@ image-insert f x s =
     (Member-image f e (insert x s)).1
     (elim ((Member-insert e (f x) (image f s)).0 h) [
       | inl same ↦ (x, (Member-insert x x s).1 (inl refl), sym same)
-      | inr there ↦ let from = (Member-image f e s).0 there in (from.0, (Member-insert from.0 x s).1 (inr from.1), from.2)
+      | inr there ↦
+          let from = (Member-image f e s).0 there in (from.0, (Member-insert from.0 x s).1 (inr from.1), from.2)
     ]))
 
 pub image-union : (f : Elem → Elem) (a b : Set) → image f (union a b) ≡ union (image f a) (image f b)
@@ -69,11 +73,13 @@ image-union f a b =
     (Member-image f e (union a b)).1
     (elim ((Member-union e (image f a) (image f b)).0 h) [
       | inl left ↦ let from = (Member-image f e a).0 left in (from.0, (Member-union from.0 a b).1 (inl from.1), from.2)
-      | inr right ↦ let from = (Member-image f e b).0 right in (from.0, (Member-union from.0 a b).1 (inr from.1), from.2)
+      | inr right ↦
+          let from = (Member-image f e b).0 right in (from.0, (Member-union from.0 a b).1 (inr from.1), from.2)
     ]))
 
 -- the same of functions that make sets
-pub flat_image-flat_image : (f g : Elem → Set) (s : Set) → flat_image f (flat_image g s) ≡ flat_image (λ e. flat_image f (g e)) s
+pub flat_image-flat_image : (f g : Elem → Set) (s : Set)
+    → flat_image f (flat_image g s) ≡ flat_image (λ e. flat_image f (g e)) s
 flat_image-flat_image f g s =
     same_members _ _
     (λ e h.
@@ -102,7 +108,8 @@ flat_image-single f s =
     (Member-flat_image (λ x. insert (f x) empty) e s).1
     (from.0, from.1, (Member-insert e (f from.0) empty).1 (inl (sym from.2))))
 
-pub flat_image-congruent : (f g : Elem → Set) (s : Set) → ((e : Elem) → Member e s → f e ≡ g e) → flat_image f s ≡ flat_image g s
+pub flat_image-congruent : (f g : Elem → Set) (s : Set) → ((e : Elem) → Member e s → f e ≡ g e)
+    → flat_image f s ≡ flat_image g s
 flat_image-congruent f g s agree =
     same_members _ _
     (λ e h.
@@ -125,8 +132,10 @@ flat_image-union f a b =
     (λ e h.
     (Member-flat_image f e (union a b)).1
     (elim ((Member-union e (flat_image f a) (flat_image f b)).0 h) [
-      | inl left ↦ let from = (Member-flat_image f e a).0 left in (from.0, (Member-union from.0 a b).1 (inl from.1), from.2)
-      | inr right ↦ let from = (Member-flat_image f e b).0 right in (from.0, (Member-union from.0 a b).1 (inr from.1), from.2)
+      | inl left ↦
+          let from = (Member-flat_image f e a).0 left in (from.0, (Member-union from.0 a b).1 (inl from.1), from.2)
+      | inr right ↦
+          let from = (Member-flat_image f e b).0 right in (from.0, (Member-union from.0 a b).1 (inr from.1), from.2)
     ]))
 
 pub flat_image-empty : (f : Elem → Set) → flat_image f empty ≡ empty
@@ -149,5 +158,6 @@ flat_image-insert f x s =
     (Member-flat_image f e (insert x s)).1
     (elim ((Member-union e (f x) (flat_image f s)).0 h) [
       | inl made ↦ (x, (Member-insert x x s).1 (inl refl), made)
-      | inr there ↦ let from = (Member-flat_image f e s).0 there in (from.0, (Member-insert from.0 x s).1 (inr from.1), from.2)
+      | inr there ↦
+          let from = (Member-flat_image f e s).0 there in (from.0, (Member-insert from.0 x s).1 (inr from.1), from.2)
     ]))

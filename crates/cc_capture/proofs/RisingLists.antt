@@ -7,7 +7,8 @@ use Rattle.cc_capture.specs.declared.var.Elem.{Elem}
 use Rattle.cc_capture.specs.Elements.{element_order, same_element}
 use Rattle.cc_capture.specs.Rising.{IsBelow, IsBelowAll, IsRising, is_listed, placed}
 use Rattle.cc_capture.specs.Placing.{IsBelowAll-trans}
-use Rattle.cc_capture.specs.ElementOrder.{element_order-Equal, element_order-back, same_element-true, same_element-itself, same_element-below}
+use Rattle.cc_capture.specs.ElementOrder.{element_order-Equal, element_order-back, same_element-true}
+use Rattle.cc_capture.specs.ElementOrder.{same_element-itself, same_element-below}
 
 or_swap : (a b c : Bool) → (a || (b || c)) ≡ (b || (a || c))
 or_swap true true c = refl
@@ -23,10 +24,16 @@ pub is_listed-placed : (e x : Elem) (ys : List Elem) → is_listed e (placed x y
 unfolding placed
 is_listed-placed e x [] = refl
 is_listed-placed e x (y ∷ ys) =
-    elim (element_order x y) as (λ o. element_order x y ≡ o → is_listed e (match_ordering o (x ∷ y ∷ ys) (y ∷ ys) (y ∷ placed x ys)) ≡ (same_element e x || (same_element e y || is_listed e ys))) [
+    elim (element_order x y) as (λ o. element_order x y ≡ o → is_listed e
+    (match_ordering o (x ∷ y ∷ ys) (y ∷ ys) (y ∷ placed x ys)) ≡
+    (same_element e x || (same_element e y || is_listed e ys))) [
       | Less ↦ λ _. refl
-      | Equal ↦ λ same. sym (or_same (same_element e x) (same_element e y) (is_listed e ys) (ap (same_element e) (element_order-Equal x y same)))
-      | Greater ↦ λ _. ap (λ b. same_element e y || b) (is_listed-placed e x ys) ∙ or_swap (same_element e y) (same_element e x) (is_listed e ys)
+      | Equal ↦
+          λ same. sym (or_same (same_element e x) (same_element e y) (is_listed e ys)
+          (ap (same_element e) (element_order-Equal x y same)))
+      | Greater ↦
+          λ _. ap (λ b. same_element e y || b) (is_listed-placed e x ys)
+          ∙ or_swap (same_element e y) (same_element e x) (is_listed e ys)
     ] refl
 
 -- an element that comes before all of a list is not listed
@@ -50,7 +57,8 @@ IsWithin-tail x xs ys below within e here =
 
 not_below_other : (x y : Elem) (xs ys : List Elem) → IsBelow x y → IsBelowAll y ys → IsWithin (x ∷ xs) (y ∷ ys) → ⊥
 not_below_other x y xs ys less below within =
-    both_ways _ (is_listed-below x (y ∷ ys) (less, IsBelowAll-trans x y ys less below)) (within x (is_listed-first x xs))
+    both_ways _ (is_listed-below x (y ∷ ys) (less, IsBelowAll-trans x y ys less below))
+    (within x (is_listed-first x xs))
 
 -- rising lists with the same elements are equal
 pub rising_same : (xs ys : List Elem) → IsRising xs → IsRising ys → IsWithin xs ys → IsWithin ys xs → xs ≡ ys
@@ -64,7 +72,9 @@ rising_same (x ∷ xs) (y ∷ ys) r s there back =
       | Greater ↦ λ more. absurd (not_below_other y x ys xs (element_order-back x y more) r.0 back)
     ] refl
   where
-    same_tails : (x y : Elem) (xs ys : List Elem) → x ≡ y → IsRising (x ∷ xs) → IsRising (y ∷ ys) → IsWithin (x ∷ xs) (y ∷ ys) → IsWithin (y ∷ ys) (x ∷ xs) → (IsWithin xs ys → IsWithin ys xs → xs ≡ ys) → x ∷ xs ≡ y ∷ ys
+    same_tails : (x y : Elem) (xs ys : List Elem) → x ≡ y → IsRising (x ∷ xs) → IsRising (y ∷ ys)
+        → IsWithin (x ∷ xs) (y ∷ ys) → IsWithin (y ∷ ys) (x ∷ xs) → (IsWithin xs ys → IsWithin ys xs → xs ≡ ys)
+        → x ∷ xs ≡ y ∷ ys
     same_tails x y xs ys same r s there back tails =
         let there' : IsWithin (x ∷ xs) (x ∷ ys) = subst (λ z. IsWithin (x ∷ xs) (z ∷ ys)) (sym same) there in
         let back' : IsWithin (x ∷ ys) (x ∷ xs) = subst (λ z. IsWithin (z ∷ ys) (x ∷ xs)) (sym same) back in

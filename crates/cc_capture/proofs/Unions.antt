@@ -2,7 +2,8 @@
 use Rattle.std.proofs.Common.{◌≡◌, Bool, true, false, ◌||◌, inl, inr, refl, ◌∙◌}
 use Rattle.cc_capture.specs.declared.var.Elem.{Elem}
 use Rattle.cc_capture.specs.Sets.{Set, contains, empty, insert, union, is_subset}
-use Rattle.cc_capture.proofs.Membership.{same_members, same_contains, contains-empty, contains-insert, contains-union, Member-union, is_subset-Member}
+use Rattle.cc_capture.proofs.Membership.{same_members, same_contains, contains-empty, contains-insert, contains-union}
+use Rattle.cc_capture.proofs.Membership.{Member-union, is_subset-Member}
 
 or_associative : (a b c : Bool) → ((a || b) || c) ≡ (a || (b || c))
 or_associative true b c = refl
@@ -19,10 +20,19 @@ or_idempotent true = refl
 or_idempotent false = refl
 
 pub union_associative : (a b c : Set) → union (union a b) c ≡ union a (union b c)
-union_associative a b c = same_contains _ _ (λ e. rw (contains-union e (union a b) c, contains-union e a b, contains-union e a (union b c), contains-union e b c) (or_associative (contains e a) (contains e b) (contains e c)))
+union_associative a b c =
+    same_contains _ _ (λ e. rw (
+      contains-union e (union a b) c,
+      contains-union e a b,
+      contains-union e a
+          (union b c),
+      contains-union e b c,
+    ) (or_associative (contains e a) (contains e b) (contains e c)))
 
 pub union_commutative : (a b : Set) → union a b ≡ union b a
-union_commutative a b = same_contains _ _ (λ e. rw (contains-union e a b, contains-union e b a) (or_commutative (contains e a) (contains e b)))
+union_commutative a b =
+    same_contains _ _ (λ e. rw (contains-union e a b, contains-union e b a)
+    (or_commutative (contains e a) (contains e b)))
 
 pub union_idempotent : (a : Set) → union a a ≡ a
 union_idempotent a = same_contains _ _ (λ e. rw (contains-union e a a) (or_idempotent (contains e a)))
@@ -34,14 +44,22 @@ pub union-empty : (a : Set) → union a empty ≡ a
 union-empty a = union_commutative a empty ∙ empty-union a
 
 pub union-insert : (x : Elem) (a b : Set) → union (insert x a) b ≡ insert x (union a b)
-union-insert x a b = same_contains _ _ (λ e. rw (contains-union e (insert x a) b, contains-insert e x a, contains-insert e x (union a b), contains-union e a b) (or_associative _ (contains e a) (contains e b)))
+union-insert x a b =
+    same_contains _ _ (λ e. rw (
+      contains-union e (insert x a) b,
+      contains-insert e x a,
+      contains-insert e x
+          (union a b),
+      contains-union e a b,
+    ) (or_associative _ (contains e a) (contains e b)))
 
 -- inclusion
 pub is_subset-itself : (a : Set) → is_subset a a ≡ true
 is_subset-itself a = (is_subset-Member a a).1 (λ e h. h)
 
 pub is_subset_transitive : (a b c : Set) → is_subset a b ≡ true → is_subset b c ≡ true → is_subset a c ≡ true
-is_subset_transitive a b c p q = (is_subset-Member a c).1 (λ e h. (is_subset-Member b c).0 q e ((is_subset-Member a b).0 p e h))
+is_subset_transitive a b c p q =
+    (is_subset-Member a c).1 (λ e h. (is_subset-Member b c).0 q e ((is_subset-Member a b).0 p e h))
 
 pub is_subset_antisymmetric : (a b : Set) → is_subset a b ≡ true → is_subset b a ≡ true → a ≡ b
 is_subset_antisymmetric a b p q = same_members a b ((is_subset-Member a b).0 p) ((is_subset-Member b a).0 q)

@@ -1,5 +1,6 @@
 -- A walk over a set by index: what its first members are, and what functions make of them.
-use Rattle.std.proofs.Common.{◌≡◌, zero, suc, ◌<◌, ◌||◌, ◌≤◌, ℕ, ◌+◌, Bool, true, false, Some, List, [], ◌∷◌, ◌++◌, length, take, refl, ap, ◌∙◌, arith}
+use Rattle.std.proofs.Common.{◌≡◌, zero, suc, ◌<◌, ◌||◌, ◌≤◌, ℕ, ◌+◌, Bool, true, false, Some, List, [], ◌∷◌, ◌++◌}
+use Rattle.std.proofs.Common.{length, take, refl, ap, ◌∙◌, arith}
 use Rattle.std.specs.List.{slice_get}
 use Rattle.std.proofs.lemmas.List.{take_more, take_all}
 use Rattle.std.proofs.lemmas.List.Folds.{list_any-append}
@@ -9,7 +10,7 @@ use Rattle.cc_capture.specs.Elements.{same_element}
 use Rattle.cc_capture.specs.Rising.{is_listed}
 use Rattle.cc_capture.specs.Sets.{Set, Member, empty, insert, from_list, first_members, union, image, flat_image}
 use Rattle.cc_capture.proofs.Membership.{same_contains, contains-from_list, contains-insert, Member-list}
-use Rattle.cc_capture.proofs.Merging.{from_list-list}
+use Rattle.cc_capture.proofs.SetLists.{from_list-list}
 use Rattle.cc_capture.proofs.Images.{image-insert, flat_image-insert}
 
 last_first : (a b : Bool) → (a || (b || false)) ≡ (b || a)
@@ -18,20 +19,29 @@ last_first true false = refl
 last_first false true = refl
 last_first false false = refl
 
-from_list-push : (xs : List Elem) (x : Elem) → from_list (xs ++ x ∷ []) ≡ insert x (from_list xs)
+pub from_list-push : (xs : List Elem) (x : Elem) → from_list (xs ++ x ∷ []) ≡ insert x (from_list xs)
 from_list-push xs x =
     same_contains _ _
-    (λ e. rw (contains-from_list e (xs ++ x ∷ []), contains-insert e x (from_list xs), contains-from_list e xs, list_any-append (same_element e) xs (x ∷ [])) (last_first (is_listed e xs) (same_element e x)))
+    (λ e. rw (
+      contains-from_list e (xs ++ x ∷ []),
+      contains-insert e x
+          (from_list xs),
+      contains-from_list e xs,
+      list_any-append (same_element e) xs (x ∷ []),
+    )
+    (last_first (is_listed e xs) (same_element e x)))
 
 pub first_members-none : (s : Set) → first_members 0 s ≡ empty
 unfolding first_members from_list
 first_members-none s = refl
 
-pub first_members-more : (s : Set) (i : ℕ) (x : Elem) → slice_get s.list i ≡ Some x → first_members (i + 1) s ≡ insert x (first_members i s)
+pub first_members-more : (s : Set) (i : ℕ) (x : Elem) → slice_get s.list i ≡ Some x
+    → first_members (i + 1) s ≡ insert x (first_members i s)
 unfolding first_members
 first_members-more s i x e =
     let within = slice_get_within s.list i x e in
-    ap from_list (take_more s.list i x within ∙ ap (λ y. take i s.list ++ y ∷ []) (get_or_from_slice_get s.list i x x e))
+    ap from_list (take_more s.list i x within
+    ∙ ap (λ y. take i s.list ++ y ∷ []) (get_or_from_slice_get s.list i x x e))
     ∙ from_list-push (take i s.list) x
 
 pub first_members-all : (s : Set) (i : ℕ) → length s.list ≤ i → first_members i s ≡ s
@@ -50,12 +60,16 @@ Member-at s i x e =
     let within = slice_get_within s.list i x e in
     (Member-list x s).1 (i, within, get_or_from_slice_get s.list i x x e)
 
-pub image-first_members-more : (f : Elem → Elem) (s : Set) (i : ℕ) (x : Elem) → slice_get s.list i ≡ Some x → image f (first_members (i + 1) s) ≡ insert (f x) (image f (first_members i s))
+pub image-first_members-more : (f : Elem → Elem) (s : Set) (i : ℕ) (x : Elem) → slice_get s.list i ≡ Some x
+    → image f (first_members (i + 1) s) ≡ insert (f x) (image f (first_members i s))
 image-first_members-more f s i x e = ap (image f) (first_members-more s i x e) ∙ image-insert f x (first_members i s)
 
-pub flat_image-first_members-more : (f : Elem → Set) (s : Set) (i : ℕ) (x : Elem) → slice_get s.list i ≡ Some x → flat_image f (first_members (i + 1) s) ≡ union (f x) (flat_image f (first_members i s))
-flat_image-first_members-more f s i x e = ap (flat_image f) (first_members-more s i x e) ∙ flat_image-insert f x (first_members i s)
+pub flat_image-first_members-more : (f : Elem → Set) (s : Set) (i : ℕ) (x : Elem) → slice_get s.list i ≡ Some x
+    → flat_image f (first_members (i + 1) s) ≡ union (f x) (flat_image f (first_members i s))
+flat_image-first_members-more f s i x e =
+    ap (flat_image f) (first_members-more s i x e) ∙ flat_image-insert f x (first_members i s)
 
 -- what a function makes of the elements that were gone over, and of the next one
-pub flat_image-push : (f : Elem → Set) (xs : List Elem) (x : Elem) → flat_image f (from_list (xs ++ x ∷ [])) ≡ union (f x) (flat_image f (from_list xs))
+pub flat_image-push : (f : Elem → Set) (xs : List Elem) (x : Elem)
+    → flat_image f (from_list (xs ++ x ∷ [])) ≡ union (f x) (flat_image f (from_list xs))
 flat_image-push f xs x = ap (flat_image f) (from_list-push xs x) ∙ flat_image-insert f x (from_list xs)

@@ -14,7 +14,8 @@ use Rattle.cc_capture.specs.Elements.{kind_number, rising_number, falling_number
 pub element_order-total : IsTotalOrder element_order
 unfolding element_order
 element_order-total =
-    then_total (on_total kind_number nat_cmp_total) (then_total (on_total rising_number nat_cmp_total) (back_total (on_total falling_number nat_cmp_total)))
+    then_total (on_total kind_number nat_cmp_total)
+    (then_total (on_total rising_number nat_cmp_total) (back_total (on_total falling_number nat_cmp_total)))
 
 nat_cmp-Equal : (m n : ℕ) → nat_cmp m n ≡ Equal → m ≡ n
 nat_cmp-Equal m n e = subst (λ o. MatchOrdering o (m < n) (m ≡ n) (n < m)) e (ranked m n (nat_cmp m n) refl)

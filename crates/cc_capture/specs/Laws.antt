@@ -9,7 +9,8 @@ use Rattle.cc_capture.specs.declared.var.Elem.{Elem}
 use Rattle.cc_capture.specs.declared.var.Elem.TheVariants.{Var as Variable, Cap, Hole}
 use Rattle.cc_capture.specs.Variables.{same_variable}
 use Rattle.cc_capture.specs.Elements.{element_order, same_element}
-use Rattle.cc_capture.specs.Sets.{Set, Member, empty, insert, from_list, retain, remove, union, image, flat_image, is_subset, same_set}
+use Rattle.cc_capture.specs.Sets.{Set, Member, empty, insert, from_list, retain, remove, union, image, flat_image}
+use Rattle.cc_capture.specs.Sets.{is_subset, same_set}
 
 -- any two elements compare, either way alike, and what comes before a third comes before what follows it
 abbrev pub ElementOrderIsTotal : Type 0
@@ -86,15 +87,18 @@ MemberOfUnion = (e : Elem) (a b : Set) → Member e (union a b) ↔ (Member e a 
 
 -- the members of a list's set are the list's elements
 abbrev pub MemberOfFromList : Type 0
-MemberOfFromList = (e : Elem) (xs : List Elem) → Member e (from_list xs) ↔ Contains xs e
+MemberOfFromList =
+    (e : Elem) (xs : List Elem) → Member e (from_list xs) ↔ Contains xs e
 
 -- the members retained are those that pass the test
 abbrev pub MemberOfRetain : Type 0
-MemberOfRetain = (test : Elem → Bool) (e : Elem) (s : Set) → Member e (retain test s) ↔ ((test e ≡ true) × Member e s)
+MemberOfRetain =
+    (test : Elem → Bool) (e : Elem) (s : Set) → Member e (retain test s) ↔ ((test e ≡ true) × Member e s)
 
 -- the members of an image are what the function makes of the members
 abbrev pub MemberOfImage : Type 0
-MemberOfImage = (f : Elem → Elem) (e : Elem) (s : Set) → Member e (image f s) ↔ ((x : Elem) × Member x s × (f x ≡ e))
+MemberOfImage =
+    (f : Elem → Elem) (e : Elem) (s : Set) → Member e (image f s) ↔ ((x : Elem) × Member x s × (f x ≡ e))
 
 -- the members of a flat image are those of the sets that the function makes of the members
 abbrev pub MemberOfFlatImage : Type 0
@@ -124,11 +128,13 @@ FlatImagesCompose =
 
 -- functions that make the same sets of the members give one flat image
 abbrev pub FlatImagesAgree : Type 0
-FlatImagesAgree = (f g : Elem → Set) (s : Set) → ((e : Elem) → Member e s → f e ≡ g e) → flat_image f s ≡ flat_image g s
+FlatImagesAgree =
+    (f g : Elem → Set) (s : Set) → ((e : Elem) → Member e s → f e ≡ g e) → flat_image f s ≡ flat_image g s
 
 -- the flat image of a union is the union of the flat images
 abbrev pub FlatImageOfUnion : Type 0
-FlatImageOfUnion = (f : Elem → Set) (a b : Set) → flat_image f (union a b) ≡ union (flat_image f a) (flat_image f b)
+FlatImageOfUnion =
+    (f : Elem → Set) (a b : Set) → flat_image f (union a b) ≡ union (flat_image f a) (flat_image f b)
 
 -- an image is a flat image of sets with one member each
 abbrev pub FlatImageOfSingles : Type 0
@@ -136,7 +142,8 @@ FlatImageOfSingles = (f : Elem → Elem) (s : Set) → flat_image (λ e. insert 
 
 -- the test of inclusion says whether each member of one set is a member of the other
 abbrev pub SubsetDecidesInclusion : Type 0
-SubsetDecidesInclusion = (a b : Set) → (is_subset a b ≡ true) ↔ ((e : Elem) → Member e a → Member e b)
+SubsetDecidesInclusion =
+    (a b : Set) → (is_subset a b ≡ true) ↔ ((e : Elem) → Member e a → Member e b)
 
 -- of three sets it does not matter which two are united first
 abbrev pub UnionIsAssociative : Type 0

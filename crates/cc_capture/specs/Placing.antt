@@ -1,5 +1,6 @@
 -- A list in which an element is placed still rises, and there is one proof at most that a list rises.
 use Rattle.std.proofs.Common.{◌≡◌, List, [], ◌∷◌, refl}
+use Rattle.std.specs.declared.cmp.Ordering.{Ordering}
 use Rattle.std.specs.declared.cmp.Ordering.TheVariants.{Less, Equal, Greater}
 use Rattle.std.specs.Ordering.{match_ordering, Ordering-set}
 use Rattle.cc_capture.specs.declared.var.Elem.{Elem}
@@ -23,7 +24,8 @@ pub IsRising-prop : (xs : List Elem) → IsProp (IsRising xs)
 IsRising-prop [] = hlevel
 IsRising-prop (x ∷ xs) = hlevel (IsBelowAll-prop x xs, IsRising-prop xs)
 
-pub IsBelowAll-placed : (z x : Elem) (ys : List Elem) → IsBelow z x → IsBelowAll z ys → IsBelowAll z (placed x ys)
+pub IsBelowAll-placed : (z x : Elem) (ys : List Elem) → IsBelow z x → IsBelowAll z ys
+    → IsBelowAll z (placed x ys)
 unfolding placed
 IsBelowAll-placed z x [] p a = (p, tt)
 IsBelowAll-placed z x (y ∷ ys) p a =
@@ -37,7 +39,8 @@ pub IsRising-placed : (x : Elem) (ys : List Elem) → IsRising ys → IsRising (
 unfolding placed
 IsRising-placed x [] r = (tt, tt)
 IsRising-placed x (y ∷ ys) r =
-    elim (element_order x y) as (λ o. element_order x y ≡ o → IsRising (match_ordering o (x ∷ y ∷ ys) (y ∷ ys) (y ∷ placed x ys))) [
+    let left : Ordering → List Elem = λ o. match_ordering o (x ∷ y ∷ ys) (y ∷ ys) (y ∷ placed x ys) in
+    elim (element_order x y) as (λ o. element_order x y ≡ o → IsRising (left o)) [
       | Less ↦ λ e. ((e, IsBelowAll-trans x y ys e r.0), r)
       | Equal ↦ λ _. r
       | Greater ↦ λ e. (IsBelowAll-placed y x ys (element_order-back x y e) r.0, IsRising-placed x ys r.1)

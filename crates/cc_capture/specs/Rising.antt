@@ -1,9 +1,9 @@
 -- Lists of elements that rise.
-use Rattle.std.specs.Prelude.{◌≡◌, ℕ, zero, suc, Bool, List, [], ◌∷◌}
+use Rattle.std.specs.Prelude.{◌≡◌, Bool, List, [], ◌∷◌}
 use Rattle.std.specs.declared.cmp.Ordering.TheVariants.{Less}
 use Rattle.std.specs.Ordering.{match_ordering}
 use lib.Pointwise.{pointwise}
-use Rattle.std.specs.List.{list_any, list_all}
+use Rattle.std.specs.List.{list_any}
 use Rattle.cc_capture.specs.declared.var.Elem.{Elem}
 use Rattle.cc_capture.specs.Elements.{element_order, same_element}
 
@@ -29,15 +29,6 @@ is_listed e xs = list_any (same_element e) xs
 unfoldable pub placed : Elem → List Elem → List Elem
 placed x [] = x ∷ []
 placed x (y ∷ ys) = match_ordering (element_order x y) (x ∷ y ∷ ys) (y ∷ ys) (y ∷ placed x ys)
-
--- the index of the first element that does not come before x
-abbrev pub place : Elem → List Elem → ℕ
-place x [] = zero
-place x (y ∷ ys) = match_ordering (element_order y x) (suc (place x ys)) zero zero
-
--- whether each element of the one list is one of the other
-abbrev pub is_within : List Elem → List Elem → Bool
-is_within xs ys = list_all (λ e. is_listed e ys) xs
 
 -- whether the two lists have the same elements in the same order
 abbrev pub same_elements : List Elem → List Elem → Bool

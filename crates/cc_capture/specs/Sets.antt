@@ -20,7 +20,8 @@ pub record Set : Type 0 where
 -- sets are equal where their lists are
 pub same_list : (a b : Set) → a.list ≡ b.list → a ≡ b
 same_list a b e =
-    let pairs : ◌≡◌ {A = (xs : List Elem) × IsRising xs} (a.list, a.rising) (b.list, b.rising) = Σ_prop_path IsRising-prop e in
+    let pairs : ◌≡◌ {A = (xs : List Elem) × IsRising xs} (a.list, a.rising) (b.list, b.rising) =
+    Σ_prop_path IsRising-prop e in
     λ i. record { list = (pairs i).0; rising = (pairs i).1 }
 
 -- how a set is stored
@@ -71,10 +72,6 @@ image f s = from_list (map f s.list)
 -- the members of the sets that a function makes of the members
 unfoldable pub flat_image : (Elem → Set) → Set → Set
 flat_image f s = from_list (flat_map (λ e. (f e).list) s.list)
-
--- the rising list of the elements of both lists
-unfoldable pub merged : List Elem → List Elem → List Elem
-merged xs ys = (from_list (xs ++ ys)).list
 
 -- whether the sets have the same lists
 unfoldable pub same_set : Set → Set → Bool

@@ -2,9 +2,10 @@
 #![tactic(auto)]
 
 pub mod laws;
-mod rising;
+mod numbers;
 pub mod set;
 pub mod var;
+mod words;
 
 pub use set::{CapSet, Elems};
 pub use var::{Elem, Var, compare_elem, same_elem, same_var};

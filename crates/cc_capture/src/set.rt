@@ -3,29 +3,32 @@ ghost use Rattle.std.specs.Cmp.{partial_equiv_from_equiv};
 ghost use Rattle.std.specs.Iterator.{YieldsFirst, item_count};
 ghost use Rattle.cc_capture.specs.Sets as set;
 
-use crate::rising;
+use crate::numbers::{element_at, element_number};
 use crate::var::Elem;
+use crate::words;
+use crate::words::Word;
 use std::alloc::{AllocError, Global};
 use std::marker::Model;
 
 /// A capture set. Contracts see the rising list of its elements, with the proof that it rises.
+// Each element has a number, and numbers rise in the order of elements: the set is that of their bits.
 #[derive(Drop)]
 pub struct CapSet {
-    items: Vec<Elem>,
+    words: Vec<Word>,
 }
 
 impl Model for CapSet {
-    ghost use Rattle.cc_capture.specs.Rising.{IsRising};
     ghost use Rattle.cc_capture.specs.Sets.{Set, set_code, from_list};
+    ghost use Rattle.cc_capture.specs.Words.{IsSparse, elements};
     ghost use Rattle.cc_capture.specs.contracts.var.Elem as element;
 
     ghost Value = { Set };
 
     ghost coded = { set_code element.the_row.coded };
 
-    ghost view = { λ s. from_list s.items.items };
+    ghost view = { λ s. from_list (elements s.words.items) };
 
-    ghost invariant = { λ s. IsRising s.items.items };
+    ghost invariant = { λ s. IsSparse s.words.items };
 }
 
 impl CapSet {
@@ -34,7 +37,7 @@ impl CapSet {
         ensures { result ≡ set.empty }
     {
         CapSet {
-            items: Vec::new(alloc),
+            words: Vec::new(alloc),
         }
     }
 
@@ -42,36 +45,40 @@ impl CapSet {
     pub fn from_elems(alloc: Global, elems: &[Elem]) -> Result<CapSet, AllocError>
         ensures { IfOk result (λ s. s ≡ set.from_list elems.now) }
     {
-        let items = rising::sorted_elems(alloc, elems)?;
-        Ok(CapSet { items })
+        let mut set = CapSet::new(alloc);
+        for elem in elems {
+            set.insert(*elem)?;
+        }
+        Ok(set)
     }
 
     /// Whether the element is in the set.
     pub fn contains(&self, elem: Elem) -> bool
         ensures { result ≡ set.contains elem self.now }
     {
-        rising::is_listed(self.items.as_slice(), elem)
+        words::holds(self.words.as_slice(), element_number(elem))
     }
 
     /// How many elements the set has.
     pub fn len(&self) -> usize
         ensures { result ≡ length self.now.list }
     {
-        self.items.len()
+        words::count(self.words.as_slice())
     }
 
     /// Whether the set has no element.
     pub fn is_empty(&self) -> bool
         ensures { IsTrue result ↔ (self.now ≡ set.empty) }
     {
-        self.len() == 0
+        self.words.len() == 0
     }
 
     /// The element at an index in the order of elements, if the set has so many.
     pub fn get(&self, index: usize) -> Option<Elem>
         ensures { result ≡ slice_get self.now.list index }
     {
-        rising::item_at(self.items.as_slice(), index)
+        let number = words::number_at(self.words.as_slice(), index)?;
+        Some(element_at(number))
     }
 
     /// Goes over the elements in their order. It takes no memory.
@@ -79,7 +86,8 @@ impl CapSet {
         ensures { result ≡ self.now.list }
     {
         Elems {
-            items: self.items.as_slice(),
+            word: Word { at: 0, bits: 0 },
+            words: self.words.as_slice(),
         }
     }
 
@@ -90,49 +98,55 @@ impl CapSet {
         ensures ok { OnOk result (self.new ≡ set.insert elem self.old) }
         ensures err { OnErr result (self.new ≡ self.old) }
     {
-        rising::insert_elem(&mut self.items, elem)
+        words::insert_number(&mut self.words, element_number(elem))
     }
 
     /// Takes the element out of the set, if it is there.
     pub fn remove(&mut self, elem: Elem)
         ensures { self.new ≡ set.remove elem self.old }
     {
-        rising::remove_elem(&mut self.items, elem);
+        words::remove_number(&mut self.words, element_number(elem));
     }
 
     /// The set of the elements of both sets.
     pub fn union(&self, alloc: Global, other: &CapSet) -> Result<CapSet, AllocError>
         ensures { IfOk result (λ s. s ≡ set.union self.now other.now) }
     {
-        let items = rising::merge(alloc, self.items.as_slice(), other.items.as_slice())?;
-        Ok(CapSet { items })
+        let words = words::join(alloc, self.words.as_slice(), other.words.as_slice())?;
+        Ok(CapSet { words })
     }
 
     /// Whether each element of this set is in the other.
     pub fn is_subset(&self, other: &CapSet) -> bool
         ensures { result ≡ set.is_subset self.now other.now }
     {
-        rising::is_within(self.items.as_slice(), other.items.as_slice())
+        words::is_within(self.words.as_slice(), other.words.as_slice())
     }
 }
 
 /// What a walk over a set has still to go over. Contracts see the list of these elements.
 #[derive(Drop)]
 pub struct Elems<'a> {
-    items: &'a [Elem],
+    // What is left of one word, before the others.
+    word: Word,
+    words: &'a [Word],
 }
 
 impl<'a> Model for Elems<'a> {
     ghost use Rattle.std.specs.Prelude.{List};
     ghost use Rattle.std.specs.Coded.{codes};
+    ghost use Rattle.std.specs.Prelude.{◌∷◌};
     ghost use Rattle.cc_capture.specs.declared.var.Elem.{Elem};
     ghost use Rattle.cc_capture.specs.contracts.var.Elem as element;
+    ghost use Rattle.cc_capture.specs.Words.{IsBounded, IsSparse, elements};
 
     ghost Value = { List Elem };
 
     ghost coded = { Prim.hlevel (codes, element.the_row.coded) };
 
-    ghost view = { λ s. s.items.now };
+    ghost view = { λ s. elements (s.word ∷ s.words.now) };
+
+    ghost invariant = { λ s. IsBounded s.word × IsSparse s.words.now };
 }
 
 impl<'a> Iterator for Elems<'a> {
@@ -143,9 +157,14 @@ impl<'a> Iterator for Elems<'a> {
     ghost remaining = { item_count (λ s. s) };
 
     fn next(&mut self) -> Option<Elem> {
-        let (first, others) = self.items.split_first()?;
-        self.items = others;
-        Some(*first)
+        if self.word.bits == 0 {
+            let (first, others) = self.words.split_first()?;
+            self.word = *first;
+            self.words = others;
+        }
+        let (number, others) = words::split_lowest(self.word);
+        self.word = others;
+        Some(element_at(number))
     }
 }
 
@@ -154,8 +173,8 @@ impl Clone for CapSet {
     ghost is_clone = { λ s copy. copy ≡ s };
 
     fn clone(&self) -> Result<CapSet, AllocError> {
-        let items = self.items.clone()?;
-        Ok(CapSet { items })
+        let words = self.words.clone()?;
+        Ok(CapSet { words })
     }
 }
 
@@ -166,7 +185,7 @@ impl PartialEq for CapSet {
     ghost laws = { partial_equiv_from_equiv set.same_set-equivalence };
 
     fn eq(&self, other: &CapSet) -> bool {
-        rising::same_elements(self.items.as_slice(), other.items.as_slice())
+        words::same_words(self.words.as_slice(), other.words.as_slice())
     }
 }
 

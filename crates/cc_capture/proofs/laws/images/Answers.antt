@@ -1,4 +1,5 @@
-use Rattle.cc_capture.proofs.Images.{image-image, image-identity, image-congruent, image-union, flat_image-flat_image, flat_image-congruent, flat_image-union, flat_image-single}
+use Rattle.cc_capture.proofs.Images.{image-image, image-identity, image-congruent, image-union, flat_image-flat_image}
+use Rattle.cc_capture.proofs.Images.{flat_image-congruent, flat_image-union, flat_image-single}
 use Rattle.cc_capture.proofs.laws.images.Goals as goal
 
 pub returns : goal.returns

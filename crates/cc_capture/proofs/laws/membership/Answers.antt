@@ -1,4 +1,5 @@
-use Rattle.cc_capture.proofs.Membership.{Member-empty, Member-insert, Member-remove, Member-union, Member-from_list, Member-retain, Member-image, Member-flat_image}
+use Rattle.cc_capture.proofs.Membership.{Member-empty, Member-insert, Member-remove, Member-union, Member-from_list}
+use Rattle.cc_capture.proofs.Membership.{Member-retain, Member-image, Member-flat_image}
 use Rattle.cc_capture.proofs.laws.membership.Goals as goal
 
 pub returns : goal.returns

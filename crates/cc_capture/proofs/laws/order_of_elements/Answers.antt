@@ -1,4 +1,6 @@
-use Rattle.cc_capture.specs.ElementOrder.{element_order-total, element_order-is_Equal, element_order-Free, element_order-Bound, element_order-Hole, element_order-Free-Bound, element_order-Bound-Cap, element_order-Cap-Hole}
+use Rattle.cc_capture.specs.ElementOrder.{element_order-total, element_order-is_Equal, element_order-Free}
+use Rattle.cc_capture.specs.ElementOrder.{element_order-Bound, element_order-Hole, element_order-Free-Bound}
+use Rattle.cc_capture.specs.ElementOrder.{element_order-Bound-Cap, element_order-Cap-Hole}
 use Rattle.cc_capture.proofs.laws.order_of_elements.Goals as goal
 
 pub returns : goal.returns

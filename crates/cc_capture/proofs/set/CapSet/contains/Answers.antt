@@ -1,8 +1,12 @@
-use Rattle.std.proofs.Common.{◌∙◌}
-use Rattle.cc_capture.proofs.SetLists.{is_list, contains-list}
+use Rattle.std.proofs.Common.{ap, ◌∙◌}
+use Rattle.cc_capture.specs.Sets.{contains}
+use Rattle.cc_capture.specs.Words.{holds}
+use Rattle.cc_capture.proofs.WordSets.{contains-set_of}
 use Rattle.cc_capture.proofs.set.CapSet.contains.Goals as goal
 
 pub returns : goal.returns
 returns c =
-    let items = is_list c.self.inside.items.items c.args.self.now c.self.invariant c.self.view_is in
-    c.is_listed.ensures ∙ contains-list c.args.elem c.as_slice.result.now c.args.self.now (c.as_slice.ensures.value ∙ items)
+    c.holds.ensures
+    ∙ ap (holds c.element_number.result) c.as_slice.ensures.value
+    ∙ contains-set_of c.element_number.result c.self.inside.words.items c.self.invariant
+    ∙ (λ i. contains (c.element_number.ensures.back i) (c.self.view_is i))

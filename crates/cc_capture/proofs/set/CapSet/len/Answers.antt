@@ -1,8 +1,14 @@
-use Rattle.std.proofs.Common.{◌≡◌, length, ap, arith}
-use Rattle.cc_capture.proofs.SetLists.{is_list}
+use Rattle.std.proofs.Common.{length, sym, ap, ◌∙◌}
+use Rattle.std.proofs.lemmas.List.{length-map}
+use Rattle.cc_capture.specs.Numbers.{element_at}
+use Rattle.cc_capture.specs.Words.{numbers}
+use Rattle.cc_capture.proofs.WordSets.{list-set_of}
 use Rattle.cc_capture.proofs.set.CapSet.len.Goals as goal
 
 pub returns : goal.returns
 returns c =
-    let items : length c.self.inside.items.items ≡ length c.args.self.now.list = ap length (is_list c.self.inside.items.items c.args.self.now c.self.invariant c.self.view_is) in
-    omega (arith, c.self.inside.items.ok.0)
+    c.count.ensures
+    ∙ ap (λ ws. length (numbers ws)) c.as_slice.ensures.value
+    ∙ sym (length-map (numbers c.self.inside.words.items) element_at)
+    ∙ ap length (sym (list-set_of c.self.inside.words.items c.self.invariant))
+    ∙ ap (λ s. length s.list) c.self.view_is

@@ -1,7 +1,8 @@
 use Rattle.std.proofs.Common.{ap}
 use Rattle.cc_capture.specs.Sets.{from_list}
+use Rattle.cc_capture.proofs.WordSets.{set_of}
 use Rattle.cc_capture.proofs.set.CapSet.new.Goals as goal
 
 pub returns : goal.returns
 unfolding from_list
-returns c = ap from_list c.new.ensures.items
+returns c = ap set_of c.new.ensures.items

@@ -1,13 +1,17 @@
-use Rattle.cc_capture.specs.Sets as set
-use Rattle.cc_capture.proofs.SetLists.{is_list, IsRising-list, from_list-is, is_list-remove}
+use Rattle.std.proofs.Common.{sym, ap, ◌∙◌, subst}
+use Rattle.cc_capture.specs.Sets.{remove}
+use Rattle.cc_capture.specs.Words.{IsSparse}
+use Rattle.cc_capture.proofs.SparseWords.{IsSparse-without}
+use Rattle.cc_capture.proofs.WordSets.{set_of, set_of-without}
 use Rattle.cc_capture.proofs.set.CapSet.remove.Goals as goal
 
 pub invariant_of-self : goal.invariant_of-self
 invariant_of-self c =
-    let items = is_list c.self.inside.items.items c.args.self.now c.self.invariant c.self.view_is in
-    IsRising-list _ (set.remove c.args.elem c.args.self.now) (is_list-remove c.args.elem _ _ c.args.self.now items c.remove_elem.ensures)
+    subst IsSparse (sym c.remove_number.ensures)
+    (IsSparse-without c.element_number.result c.self.inside.words.items c.self.invariant)
 
 pub returns : goal.returns
 returns c =
-    let items = is_list c.self.inside.items.items c.args.self.now c.self.invariant c.self.view_is in
-    from_list-is _ _ (is_list-remove c.args.elem _ _ c.args.self.now items c.remove_elem.ensures)
+    ap set_of c.remove_number.ensures
+    ∙ set_of-without c.element_number.result c.self.inside.words.items c.self.invariant
+    ∙ (λ i. remove (c.element_number.ensures.back i) (c.self.view_is i))

@@ -1,16 +1,18 @@
-use Rattle.std.proofs.Common.{◌∙◌}
-use Rattle.cc_capture.specs.Sets as set
-use Rattle.cc_capture.proofs.SetLists.{is_list, IsRising-list, from_list-is, is_list-union}
+use Rattle.std.proofs.Common.{sym, ap, ◌∙◌, subst}
+use Rattle.cc_capture.specs.Sets.{union}
+use Rattle.cc_capture.specs.Words.{IsSparse, joined}
+use Rattle.cc_capture.proofs.SparseWords.{IsSparse-joined}
+use Rattle.cc_capture.proofs.WordSets.{set_of, set_of-joined}
 use Rattle.cc_capture.proofs.set.CapSet.union.Goals as goal
 
 pub invariant_of-result : goal.invariant_of-result
 invariant_of-result c =
-    let items = is_list c.self.inside.items.items c.args.self.now c.self.invariant c.self.view_is in
-    let others = is_list c.other.inside.items.items c.args.other.now c.other.invariant c.other.view_is in
-    IsRising-list _ (set.union c.args.self.now c.args.other.now) (is_list-union _ _ _ c.args.self.now c.args.other.now (c.as_slice.ensures.value ∙ items) (c.as_slice-2.ensures.value ∙ others) c.in_ok-items.ensures)
+    subst IsSparse
+    (sym (c.in_ok-words.ensures ∙ (λ i. joined (c.as_slice.ensures.value i) (c.as_slice-2.ensures.value i))))
+    (IsSparse-joined c.self.inside.words.items c.other.inside.words.items c.self.invariant c.other.invariant)
 
 pub returns : goal.returns
 returns c =
-    let items = is_list c.self.inside.items.items c.args.self.now c.self.invariant c.self.view_is in
-    let others = is_list c.other.inside.items.items c.args.other.now c.other.invariant c.other.view_is in
-    from_list-is _ _ (is_list-union _ _ _ c.args.self.now c.args.other.now (c.as_slice.ensures.value ∙ items) (c.as_slice-2.ensures.value ∙ others) c.in_ok-items.ensures)
+    ap set_of (c.in_ok-words.ensures ∙ (λ i. joined (c.as_slice.ensures.value i) (c.as_slice-2.ensures.value i)))
+    ∙ set_of-joined c.self.inside.words.items c.other.inside.words.items c.self.invariant c.other.invariant
+    ∙ (λ i. union (c.self.view_is i) (c.other.view_is i))
