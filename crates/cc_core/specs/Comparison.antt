@@ -4,7 +4,8 @@ use Rattle.cc_base.specs.declared.literal.Base.{Base}
 use Rattle.cc_base.specs.declared.literal.Base.TheVariants as bases
 use Rattle.cc_capture.specs.Variables.{same_variable}
 use Rattle.cc_capture.specs.Sets.{same_set}
-use Rattle.cc_core.specs.Shapes.{Shape, BaseShape, AnyShape, TypeVariable, FunctionShape, TypeFunctionShape, BoxShape, ExitShape, CapturingType}
+use Rattle.cc_core.specs.Shapes.{Shape, BaseShape, AnyShape, TypeVariable, FunctionShape, TypeFunctionShape, BoxShape}
+use Rattle.cc_core.specs.Shapes.{ExitShape, CapturingType}
 
 -- a number for each base shape
 abbrev pub base_number : Base → ℕ

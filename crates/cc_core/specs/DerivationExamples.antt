@@ -13,7 +13,8 @@ use Rattle.cc_core.specs.Contexts.{TermEntry, Context}
 use Rattle.cc_core.specs.Substitution.{single}
 use Rattle.cc_core.specs.Captured.{variable_set}
 use Rattle.cc_core.specs.Typing.{HasNoCap}
-use Rattle.cc_core.specs.Derivations.{ByElement, ByVariable, BySet, t-var, t-box, Claim, SetBelow, OfType, Derivation, Node, NoPremise, one, IsValidComparison, IsValidTyping}
+use Rattle.cc_core.specs.Derivations.{ByElement, ByVariable, BySet, t-var, t-box, Claim, SetBelow, OfType, Derivation}
+use Rattle.cc_core.specs.Derivations.{Node, NoPremise, one, IsValidComparison, IsValidTyping}
 
 -- the shape of consoles, and a context with one
 abbrev console : Shape
@@ -47,12 +48,22 @@ box_is_valid = (Free 0, console, console_set, refl, variable_is_valid, refl, con
 -- {p0} <: {cap}, since the console's declared set is {cap}
 abbrev of_subset : Derivation
 of_subset =
-    Node ByVariable (one (Node BySet (one (Node ByElement NoPremise (SetBelow (single Cap) (single Cap)))) (SetBelow (single Cap) (single Cap)))) (SetBelow console_set (single Cap))
+    Node ByVariable
+    (one (Node BySet (one (Node ByElement NoPremise (SetBelow (single Cap) (single Cap))))
+    (SetBelow (single Cap) (single Cap)))) (SetBelow console_set (single Cap))
 
 subset_is_valid : IsValidComparison with_console of_subset
 unfolding contains same_element element_order insert placed empty
-subset_is_valid =
-    (0, console, single Cap, single Cap, refl, (single Cap, single Cap, ((Cap, single Cap, refl, refl), refl, tt), refl), refl, refl)
+subset_is_valid = (
+  0,
+  console,
+  single Cap,
+  single Cap,
+  refl,
+  (single Cap, single Cap, ((Cap, single Cap, refl, refl), refl, tt), refl),
+  refl,
+  refl,
+)
 
 -- a box has a premise, and its typing is not that of its content
 box_needs_its_premise : (claim : Claim) → IsValidTyping with_console (BoxTerm (Free 0)) (Node t-box NoPremise claim) → ⊥

@@ -8,7 +8,8 @@ use Rattle.cc_core.specs.WellFormed.{IsWellFormedContext, IsWellFormedTerm, IsWe
 use Rattle.cc_core.specs.Subcapturing.{SubcapturesSet}
 use Rattle.cc_core.specs.Subtyping.{Subtypes, SubtypesType}
 use Rattle.cc_core.specs.Typing.{HasTyping, HasType}
-use Rattle.cc_core.specs.Derivations.{Claim, SetBelow, ShapeBelow, TypeBelow, OfType, Derivation, Concludes, IsValidComparison, IsValidTyping}
+use Rattle.cc_core.specs.Derivations.{Claim, SetBelow, ShapeBelow, TypeBelow, OfType, Derivation, Concludes}
+use Rattle.cc_core.specs.Derivations.{IsValidComparison, IsValidTyping}
 
 -- a valid derivation concludes in the context that one side is below the other
 abbrev pub HasComparison : Context → Claim → Type 0
@@ -50,4 +51,5 @@ abbrev pub TypesHaveDerivations : Type 0
 TypesHaveDerivations =
     (context : Context) (term : Term) (type : CapturingType)
     → HasType context term type
-    ↔ (IsWellFormedContext context × IsWellFormedTerm context term × IsWellFormedType context type × HasDerivation context term type)
+    ↔ (IsWellFormedContext context × IsWellFormedTerm context term × IsWellFormedType context type
+    × HasDerivation context term type)

@@ -9,12 +9,16 @@ use Rattle.cc_capture.specs.declared.var.Var.TheVariants.{Free}
 use Rattle.cc_capture.specs.declared.var.Elem.{Elem}
 use Rattle.cc_capture.specs.declared.var.Elem.TheVariants.{Cap}
 use Rattle.cc_capture.specs.Sets.{Set, Member, empty}
-use Rattle.cc_core.specs.Shapes.{Shape, BaseShape, AnyShape, TypeVariable, FunctionShape, TypeFunctionShape, BoxShape, ExitShape, CapturingType, capturing}
+use Rattle.cc_core.specs.Shapes.{Shape, BaseShape, AnyShape, TypeVariable, FunctionShape, TypeFunctionShape, BoxShape}
+use Rattle.cc_core.specs.Shapes.{ExitShape, CapturingType, capturing}
 use Rattle.cc_base.specs.Literals.{Literal}
-use Rattle.cc_core.specs.Terms.{Note, Written, Term, VariableTerm, LiteralTerm, FunctionTerm, TypeFunctionTerm, BoxTerm, Application, TypeApplication, Unboxing, Let, Primitive, Conditional, Repetition, Operation, Boundary, Leave}
+use Rattle.cc_core.specs.Terms.{Note, Written, Term, VariableTerm, LiteralTerm, FunctionTerm, TypeFunctionTerm, BoxTerm}
+use Rattle.cc_core.specs.Terms.{Application, TypeApplication, Unboxing, Let, Primitive, Conditional, Repetition}
+use Rattle.cc_core.specs.Terms.{Operation, Boundary, Leave}
 use Rattle.cc_core.specs.Contexts.{TermEntry, TypeEntry, Context, lookup}
 use Rattle.cc_core.specs.Traversal.{act, act_set}
-use Rattle.cc_core.specs.Substitution.{single, putting, putting_shape, opened, opened_set, opened_term, closed, closed_set}
+use Rattle.cc_core.specs.Substitution.{single, putting, putting_shape, opened, opened_set, opened_term, closed}
+use Rattle.cc_core.specs.Substitution.{closed_set}
 use Rattle.cc_core.specs.Occurrences.{Meets, MeetsInSet, without}
 use Rattle.cc_core.specs.WellFormed.{IsWellFormedType, IsWellFormedShape, IsWellFormedSet}
 use Rattle.cc_core.specs.Captured.{captured_variables, variable_set}
@@ -89,7 +93,8 @@ abbrev mutual
       (e : Elem) × (set : Set) × Member e set × (claim ≡ SetBelow (single e) set)
   -- the set of one variable is below a set where its declared set is
   IsValidComparison context (Node ByVariable (one p) claim) =
-      (position : ℕ) × (shape : Shape) × (declared : Set) × (set : Set) × (lookup context position ≡ Some (TermEntry shape declared))
+      (position : ℕ) × (shape : Shape) × (declared : Set) × (set : Set)
+      × (lookup context position ≡ Some (TermEntry shape declared))
       × IsValidComparison context p × ConcludesSets p declared set
       × (claim ≡ SetBelow (variable_set (Free position)) set)
   -- a set is below another where the set of each of its elements is, with one premise for each in order
@@ -107,16 +112,19 @@ abbrev mutual
   IsValidComparison context (Node ByTop NoPremise claim) = (shape : Shape) × (claim ≡ ShapeBelow shape AnyShape)
   -- the results compare under the parameter of the right function
   IsValidComparison context (Node ByFunction (two p q) claim) =
-      (takes : Shape) × (c : Set) × (gives : Shape) × (e : Set) × (takes' : Shape) × (c' : Set) × (gives' : Shape) × (e' : Set)
+      (takes : Shape) × (c : Set) × (gives : Shape) × (e : Set)
+      × (takes' : Shape) × (c' : Set) × (gives' : Shape) × (e' : Set)
       × IsValidComparison context p × ConcludesTypes p takes' c' takes c
       × IsValidComparison (TermEntry takes' c' ∷ context) q
-      × ConcludesTypes q (opened (length context) gives) (opened_set (length context) e) (opened (length context) gives') (opened_set (length context) e')
+      × ConcludesTypes q (opened (length context) gives) (opened_set (length context) e)
+      (opened (length context) gives') (opened_set (length context) e')
       × (claim ≡ ShapeBelow (FunctionShape takes c gives e) (FunctionShape takes' c' gives' e'))
   IsValidComparison context (Node ByTypeFunction (two p q) claim) =
       (bound : Shape) × (gives : Shape) × (e : Set) × (gives' : Shape) × (e' : Set)
       × IsValidComparison context p × ConcludesShapes p bound bound
       × IsValidComparison (TypeEntry bound ∷ context) q
-      × ConcludesTypes q (opened (length context) gives) (opened_set (length context) e) (opened (length context) gives') (opened_set (length context) e')
+      × ConcludesTypes q (opened (length context) gives) (opened_set (length context) e)
+      (opened (length context) gives') (opened_set (length context) e')
       × (claim ≡ ShapeBelow (TypeFunctionShape bound gives e) (TypeFunctionShape bound gives' e'))
   IsValidComparison context (Node ByBox (one p) claim) =
       (content : Shape) × (c : Set) × (content' : Shape) × (c' : Set)
@@ -145,18 +153,23 @@ IsValidTyping context term (Node t-var NoPremise claim) =
     × (term ≡ VariableTerm (Free position)) × (lookup context position ≡ Some (TermEntry shape declared))
     × (claim ≡ OfType (capturing shape (variable_set (Free position))))
 IsValidTyping context term (Node t-lit NoPremise claim) =
-    (literal : Literal) × (term ≡ LiteralTerm literal) × (claim ≡ OfType (capturing (BaseShape (base_of literal)) empty))
+    (literal : Literal) × (term ≡ LiteralTerm literal)
+    × (claim ≡ OfType (capturing (BaseShape (base_of literal)) empty))
 -- the result is the type of the body with the position closed again
 IsValidTyping context term (Node t-abs (one p) claim) =
     (takes : Shape) × (c : Set) × (gives : Shape) × (e : Set) × (body : Term)
     × (term ≡ FunctionTerm takes c body) × IsWellFormedType context (capturing takes c)
     × IsValidTyping (TermEntry takes c ∷ context) (opened_term (length context) body) p × ConcludesType p gives e
-    × (claim ≡ OfType (capturing (FunctionShape takes c (closed (length context) gives) (closed_set (length context) e)) (captured_variables (FunctionTerm takes c body))))
+    × (claim ≡ OfType (capturing
+    (FunctionShape takes c (closed (length context) gives) (closed_set (length context) e))
+    (captured_variables (FunctionTerm takes c body))))
 IsValidTyping context term (Node t-tabs (one p) claim) =
     (bound : Shape) × (gives : Shape) × (e : Set) × (body : Term)
     × (term ≡ TypeFunctionTerm bound body) × IsWellFormedShape context bound
     × IsValidTyping (TypeEntry bound ∷ context) (opened_term (length context) body) p × ConcludesType p gives e
-    × (claim ≡ OfType (capturing (TypeFunctionShape bound (closed (length context) gives) (closed_set (length context) e)) (captured_variables (TypeFunctionTerm bound body))))
+    × (claim ≡ OfType (capturing
+    (TypeFunctionShape bound (closed (length context) gives) (closed_set (length context) e))
+    (captured_variables (TypeFunctionTerm bound body))))
 IsValidTyping context term (Node t-app (two p q) claim) =
     (function : Var) × (argument : Var) × (takes : Shape) × (c : Set) × (gives : Shape) × (e : Set) × (d : Set)
     × (term ≡ Application function argument)

@@ -98,13 +98,14 @@ element_of_the_right_kind : is_well_formed_set (TypeKind ∷ TermKind ∷ []) []
 unfolding empty insert placed
 element_of_the_right_kind = refl
 
-type_variable_of_the_wrong_kind : is_well_formed_shape (TypeKind ∷ TermKind ∷ []) (TermKind ∷ []) (TypeVariable (Bound 0))
-    ≡ false
+type_variable_of_the_wrong_kind :
+    is_well_formed_shape (TypeKind ∷ TermKind ∷ []) (TermKind ∷ []) (TypeVariable (Bound 0)) ≡ false
 type_variable_of_the_wrong_kind = refl
 
 -- (x: Int) -> Box[Unit^{cap}], with the set of one variable: four shapes, and two elements
 size_of_a_type :
-    type_size (capturing (FunctionShape (BaseShape bases.Int) empty (BoxShape (BaseShape bases.Unit) (single Cap)) empty)
+    type_size
+    (capturing (FunctionShape (BaseShape bases.Int) empty (BoxShape (BaseShape bases.Unit) (single Cap)) empty)
     (single (at (Free 0))))
     ≡ 6
 unfolding empty insert placed

@@ -9,10 +9,16 @@ use Rattle.cc_core.specs.Shapes.{Shape, TypeVariable, CapturingType, capturing}
 use Rattle.cc_core.specs.Terms.{Term}
 use Rattle.cc_core.specs.Contexts.{Bind, TermEntry, TypeEntry, Context, lookup}
 use Rattle.cc_core.specs.Traversal.{Action, act, act_set, act_type, act_term, keeping, composed}
-use Rattle.cc_core.specs.Substitution.{freely, overridden, filling_in, opened_set, opened_type, opened_term, closed_set, closed_type, closed_term, replaced_type, replaced_term, replaced_type_by_shape, replaced_term_by_shape, renamed_set, renamed_type, renamed_term, filled_set, filled, filled_type, filled_term}
+use Rattle.cc_core.specs.Substitution.{freely, overridden, filling_in, opened_set, opened_type, opened_term, closed_set}
+use Rattle.cc_core.specs.Substitution.{closed_type, closed_term, replaced_type, replaced_term, replaced_type_by_shape}
+use Rattle.cc_core.specs.Substitution.{replaced_term_by_shape, renamed_set, renamed_type, renamed_term, filled_set}
+use Rattle.cc_core.specs.Substitution.{filled, filled_type, filled_term}
 use Rattle.cc_core.specs.Captured.{captured_variables, without_binder}
-use Rattle.cc_core.specs.WellFormed.{Kind, TermKind, TypeKind, kind_of, kinds_of, kind_at, IsWellFormedSet, IsWellFormedShape, IsWellFormedType, IsWellFormedTerm, IsWellFormedContext, IsWellFormedTypeUnder, IsWellFormedTermUnder}
-use Rattle.cc_core.specs.Occurrences.{Meets, MeetsInSet, MeetsInType, MeetsInTerm, agreement, without, bound_within, positions_below, under_type_binder, no_outermost_type, under_term_binder}
+use Rattle.cc_core.specs.WellFormed.{Kind, TermKind, TypeKind, kind_of, kinds_of, kind_at, IsWellFormedSet}
+use Rattle.cc_core.specs.WellFormed.{IsWellFormedShape, IsWellFormedType, IsWellFormedTerm, IsWellFormedContext}
+use Rattle.cc_core.specs.WellFormed.{IsWellFormedTypeUnder, IsWellFormedTermUnder}
+use Rattle.cc_core.specs.Occurrences.{Meets, MeetsInSet, MeetsInType, MeetsInTerm, agreement, without, bound_within}
+use Rattle.cc_core.specs.Occurrences.{positions_below, under_type_binder, no_outermost_type, under_term_binder}
 use Rattle.cc_core.specs.Sizes.{shape_size, type_size, size_with, counted_type}
 
 -- none of the shapes has an open index

@@ -9,6 +9,7 @@ pub mod DerivationLaws
 pub mod Derivations
 pub mod Entries
 pub mod Examples
+pub mod Holes
 pub mod Laws
 pub mod Occurrences
 pub mod Places

@@ -2,7 +2,8 @@
 -- Names are lists of code points. Modules, imports and definitions are listed in order, the first one first. Contexts
 -- list the newest first, so the functions here take the lists turned round: what stands behind an item is what came
 -- before it.
-use Rattle.std.specs.Prelude.{◌≡◌, ℕ, Bool, true, ◌&&◌, List, [], ◌∷◌, ◌++◌, map, reverse, length, Option, Some, None, is_some, IsTrue, encode_utf8_all, if◌then◌else◌}
+use Rattle.std.specs.Prelude.{◌≡◌, ℕ, Bool, true, ◌&&◌, List, [], ◌∷◌, ◌++◌, map, reverse, length, Option, Some, None}
+use Rattle.std.specs.Prelude.{is_some, IsTrue, encode_utf8_all, if◌then◌else◌}
 use Rattle.std.specs.Cmp.Lexicographic.{slice_cmp}
 use Rattle.std.specs.List.{AllByRecursion, IsDistinct, list_all, list_any}
 use Rattle.std.specs.Ordering.{is_lt, nat_cmp, on}

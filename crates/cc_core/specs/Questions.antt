@@ -9,8 +9,11 @@ use Rattle.cc_capture.specs.Variables.{same_variable}
 use Rattle.cc_capture.specs.Sets.{Set, contains}
 use Rattle.cc_core.specs.declared.occurrences.Question.{Question as DeclaredQuestion}
 use Rattle.cc_core.specs.declared.occurrences.Question.TheVariants as questions
-use Rattle.cc_core.specs.Shapes.{Shape, BaseShape, AnyShape, TypeVariable, FunctionShape, TypeFunctionShape, BoxShape, ExitShape, CapturingType}
-use Rattle.cc_core.specs.Terms.{Note, Absent, Written, Own, Term, VariableTerm, LiteralTerm, FunctionTerm, TypeFunctionTerm, BoxTerm, Application, TypeApplication, Unboxing, Let, Primitive, Conditional, Repetition, Operation, Boundary, Leave}
+use Rattle.cc_core.specs.Shapes.{Shape, BaseShape, AnyShape, TypeVariable, FunctionShape, TypeFunctionShape, BoxShape}
+use Rattle.cc_core.specs.Shapes.{ExitShape, CapturingType}
+use Rattle.cc_core.specs.Terms.{Note, Absent, Written, Own, Term, VariableTerm, LiteralTerm, FunctionTerm}
+use Rattle.cc_core.specs.Terms.{TypeFunctionTerm, BoxTerm, Application, TypeApplication, Unboxing, Let, Primitive}
+use Rattle.cc_core.specs.Terms.{Conditional, Repetition, Operation, Boundary, Leave}
 
 -- what is asked of a set, and of a variable that is a type variable or stands in a term
 pub record Question : Type 0 where

@@ -4,7 +4,8 @@ use Rattle.cc_core.specs.Shapes.{CapturingType}
 use Rattle.cc_core.specs.Terms.{Term}
 use Rattle.cc_core.specs.Traversal.{Action, act_type, act_term, shifted}
 use Rattle.cc_core.specs.Substitution.{opened_type, opened_term}
-use Rattle.cc_core.specs.Occurrences.{Condition, MeetsInType, MeetsInTerm, on_variables, bound_within, HasBinder, IsPositionBelow}
+use Rattle.cc_core.specs.Occurrences.{Condition, MeetsInType, MeetsInTerm, on_variables, bound_within, HasBinder}
+use Rattle.cc_core.specs.Occurrences.{IsPositionBelow}
 use Rattle.cc_core.specs.Reading.{reading, read_type, read_term, written_type, written_term}
 
 -- acting under one binder more is acting with the shifted action

@@ -22,7 +22,8 @@ SubcapturingIsTransitive =
 -- a set is below each set that has its members
 abbrev pub SubsetsSubcapture : Type 0
 SubsetsSubcapture =
-    (context : Context) (left right : Set) → ((e : Elem) → Member e left → Member e right) → SubcapturesSet context left right
+    (context : Context) (left right : Set) → ((e : Elem) → Member e left → Member e right)
+    → SubcapturesSet context left right
 
 -- what is below stays below when entries are added
 abbrev pub SubcapturingWeakens : Type 0
@@ -54,11 +55,13 @@ abbrev pub SubcapturingOfVariables : Type 0
 SubcapturingOfVariables =
     (context : Context) (position : ℕ) (shape : Shape) (declared set : Set)
     → lookup context position ≡ Some (TermEntry shape declared)
-    → Subcaptures context (Variable (Free position)) set ↔ (Member (Variable (Free position)) set ⊎ SubcapturesSet context declared set)
+    → Subcaptures context (Variable (Free position)) set
+    ↔ (Member (Variable (Free position)) set ⊎ SubcapturesSet context declared set)
 
 -- what is no variable with a declared set is below the sets that have it alone
 abbrev pub SubcapturingOfOthers : Type 0
 SubcapturingOfOthers =
     (context : Context) (e : Elem) (set : Set)
-    → ((position : ℕ) (shape : Shape) (declared : Set) → e ≡ Variable (Free position) → lookup context position ≡ Some (TermEntry shape declared) → ⊥)
+    → ((position : ℕ) (shape : Shape) (declared : Set) → e ≡ Variable (Free position)
+    → lookup context position ≡ Some (TermEntry shape declared) → ⊥)
     → Subcaptures context e set → Member e set

@@ -2,7 +2,8 @@
 use Rattle.std.specs.Prelude.{◌≡◌, ℕ, ◌∷◌, length, Some}
 use Rattle.cc_capture.specs.declared.var.Var.TheVariants.{Free}
 use Rattle.cc_capture.specs.Sets.{Set}
-use Rattle.cc_core.specs.Shapes.{Shape, AnyShape, TypeVariable, FunctionShape, TypeFunctionShape, BoxShape, CapturingType}
+use Rattle.cc_core.specs.Shapes.{Shape, AnyShape, TypeVariable, FunctionShape, TypeFunctionShape, BoxShape}
+use Rattle.cc_core.specs.Shapes.{CapturingType}
 use Rattle.cc_core.specs.Contexts.{TermEntry, TypeEntry, Context, lookup}
 use Rattle.cc_core.specs.Substitution.{opened, opened_set}
 use Rattle.cc_core.specs.Subcapturing.{SubcapturesSet}

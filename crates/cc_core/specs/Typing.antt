@@ -11,14 +11,18 @@ use Rattle.cc_capture.specs.declared.var.Var.{Var}
 use Rattle.cc_capture.specs.declared.var.Var.TheVariants.{Free}
 use Rattle.cc_capture.specs.declared.var.Elem.TheVariants.{Cap}
 use Rattle.cc_capture.specs.Sets.{Set, Member, empty}
-use Rattle.cc_core.specs.Shapes.{Shape, BaseShape, FunctionShape, TypeFunctionShape, BoxShape, ExitShape, CapturingType, capturing}
+use Rattle.cc_core.specs.Shapes.{Shape, BaseShape, FunctionShape, TypeFunctionShape, BoxShape, ExitShape, CapturingType}
+use Rattle.cc_core.specs.Shapes.{capturing}
 use Rattle.cc_base.specs.Literals.{Literal, UnitLiteral, TruthLiteral, NumberLiteral, TextLiteral}
-use Rattle.cc_core.specs.Terms.{Note, Absent, Written, Own, Term, VariableTerm, LiteralTerm, FunctionTerm, TypeFunctionTerm, BoxTerm, Application, TypeApplication, Unboxing, Let, Primitive, Conditional, Repetition, Operation, Boundary, Leave}
+use Rattle.cc_core.specs.Terms.{Note, Absent, Written, Own, Term, VariableTerm, LiteralTerm, FunctionTerm}
+use Rattle.cc_core.specs.Terms.{TypeFunctionTerm, BoxTerm, Application, TypeApplication, Unboxing, Let, Primitive}
+use Rattle.cc_core.specs.Terms.{Conditional, Repetition, Operation, Boundary, Leave}
 use Rattle.cc_core.specs.Contexts.{TermEntry, TypeEntry, Context, lookup}
 use Rattle.cc_core.specs.Traversal.{act, act_set}
 use Rattle.cc_core.specs.Substitution.{single, putting, putting_shape, opened_term, closed, closed_set}
 use Rattle.cc_core.specs.Occurrences.{Meets, MeetsInSet, without}
-use Rattle.cc_core.specs.WellFormed.{IsWellFormedContext, IsWellFormedTerm, IsWellFormedType, IsWellFormedShape, IsWellFormedSet}
+use Rattle.cc_core.specs.WellFormed.{IsWellFormedContext, IsWellFormedTerm, IsWellFormedType, IsWellFormedShape}
+use Rattle.cc_core.specs.WellFormed.{IsWellFormedSet}
 use Rattle.cc_core.specs.Captured.{captured_variables, variable_set}
 use Rattle.cc_core.specs.Subcapturing.{SubcapturesSet}
 use Rattle.cc_core.specs.Subtyping.{Subtypes}
@@ -98,12 +102,14 @@ pub data HasTyping : Context → Term → Shape → Set → Type 0 where
   t-app : {context : Context} {function argument : Var} {takes gives : Shape} {c d e : Set}
       → HasTyping context (VariableTerm function) (FunctionShape takes c gives e) d
       → HasTyping context (VariableTerm argument) takes c
-      → HasTyping context (Application function argument) (act (putting argument) zero gives) (act_set (putting argument) zero e)
+      → HasTyping context (Application function argument) (act (putting argument) zero gives)
+      (act_set (putting argument) zero e)
   t-tapp : {context : Context} {function : Var} {bound gives argument : Shape} {d e : Set}
       → HasTyping context (VariableTerm function) (TypeFunctionShape bound gives e) d
       → Subtypes context argument bound
       → IsWellFormedShape context argument
-      → HasTyping context (TypeApplication function argument) (act (putting_shape argument) zero gives) (act_set (putting_shape argument) zero e)
+      → HasTyping context (TypeApplication function argument) (act (putting_shape argument) zero gives)
+      (act_set (putting_shape argument) zero e)
   -- a box captures nothing, and what it holds has no universal capability
   t-box : {context : Context} {content : Var} {shape : Shape} {c : Set}
       → HasTyping context (VariableTerm content) shape c
@@ -134,7 +140,8 @@ pub data HasTyping : Context → Term → Shape → Set → Type 0 where
       → HasTyping context (Conditional (Written shape c) test positive negative) shape c
   t-repeat : {context : Context} {count function : Var} {d d' : Set}
       → HasTyping context (VariableTerm count) (BaseShape bases.Int) d
-      → HasTyping context (VariableTerm function) (FunctionShape (BaseShape bases.Int) empty (BaseShape bases.Unit) empty) d'
+      → HasTyping context (VariableTerm function)
+      (FunctionShape (BaseShape bases.Int) empty (BaseShape bases.Unit) empty) d'
       → HasTyping context (Repetition count function) (BaseShape bases.Unit) empty
   -- an operation with an argument
   t-op : {context : Context} {operation : Op} {receiver argument : Var} {taken : Base} {d d' : Set}

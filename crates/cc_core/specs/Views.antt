@@ -10,9 +10,12 @@ use Rattle.cc_core.specs.declared.terms.Form.TheVariants as forms
 use Rattle.cc_core.specs.declared.terms.Node.{Node}
 use Rattle.cc_core.specs.declared.context.Bind.{Bind as DeclaredBind}
 use Rattle.cc_core.specs.declared.context.Bind.TheVariants as binds
-use Rattle.cc_core.specs.Shapes.{Shape, BaseShape, AnyShape, TypeVariable, FunctionShape, TypeFunctionShape, BoxShape, ExitShape, CapturingType, capturing}
+use Rattle.cc_core.specs.Shapes.{Shape, BaseShape, AnyShape, TypeVariable, FunctionShape, TypeFunctionShape, BoxShape}
+use Rattle.cc_core.specs.Shapes.{ExitShape, CapturingType, capturing}
 use Rattle.cc_base.specs.Literals.{literal_of}
-use Rattle.cc_core.specs.Terms.{Note, Absent, Written, Own, Term, VariableTerm, LiteralTerm, FunctionTerm, TypeFunctionTerm, BoxTerm, Application, TypeApplication, Unboxing, Let, Primitive, Conditional, Repetition, Operation, Boundary, Leave}
+use Rattle.cc_core.specs.Terms.{Note, Absent, Written, Own, Term, VariableTerm, LiteralTerm, FunctionTerm}
+use Rattle.cc_core.specs.Terms.{TypeFunctionTerm, BoxTerm, Application, TypeApplication, Unboxing, Let, Primitive}
+use Rattle.cc_core.specs.Terms.{Conditional, Repetition, Operation, Boundary, Leave}
 use Rattle.cc_core.specs.Contexts.{Bind, TermEntry, TypeEntry, Context}
 
 -- the shape, with the types in it taken apart

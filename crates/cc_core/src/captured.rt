@@ -60,7 +60,8 @@ fn outer_variables(alloc: Global, body: &Node) -> Result<CapSet, AllocError>
     without_binder(alloc, &inner)
 }
 
-fn is_value(node: &Node) -> bool
+/// Whether the term is a literal, a function, a type function or a box.
+pub fn is_value(node: &Node) -> bool
     ensures { result ≡ plain.is_value (term_of node.now) }
 {
     match &node.form {
@@ -154,7 +155,8 @@ fn add_outside(elem: Elem, outer: &mut CapSet) -> Result<(), AllocError>
     }
 }
 
-fn without_binder(alloc: Global, set: &CapSet) -> Result<CapSet, AllocError>
+/// The captured variables of what stands under a binder, as they are outside it. Fails only for want of memory.
+pub fn without_binder(alloc: Global, set: &CapSet) -> Result<CapSet, AllocError>
     ensures { IfOk result (λ s. s ≡ plain.without_binder set.now) }
 {
     let mut outer = CapSet::new(alloc);

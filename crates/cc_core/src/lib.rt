@@ -4,7 +4,7 @@
 pub mod acting;
 pub mod captured;
 pub mod context;
-mod copies;
+pub mod copies;
 pub mod derivation_laws;
 pub mod laws;
 pub mod occurrences;
@@ -20,5 +20,6 @@ pub mod wellformed;
 pub use cc_base::literal::{Base, Lit, Op, Operator};
 pub use cc_capture::{CapSet, Elem, Var};
 pub use context::{Bind, Ctx};
+pub use copies::copy_literal;
 pub use terms::{Checked, CoreDef, Form, Node, Note};
 pub use types::{Shape, Ty};

@@ -87,12 +87,14 @@ impl Drop for Node {
     }
 }
 
-/// A definition: its name, the type written for it, and its right side.
+/// A definition: its name, the type written for it, whether it is recursive, so that its right side sees its own name,
+/// and the right side.
 #[derive(Drop)]
 pub struct CoreDef {
     pub name: Name,
     pub name_at: Place,
     pub note: Note,
+    pub recursive: bool,
     pub right: Rc<Node>,
 }
 
