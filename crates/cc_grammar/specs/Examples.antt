@@ -6,7 +6,10 @@ use Rattle.cc_base.specs.declared.literal.Op.TheVariants as ops
 use Rattle.cc_lex.specs.declared.token.Word.TheVariants as words
 use Rattle.cc_lex.specs.declared.token.Symbol.TheVariants as symbols
 use Rattle.cc_lex.specs.Lexemes.{Lexeme, NameLexeme, WordLexeme, SymbolLexeme, PlacedLexeme}
-use Rattle.cc_grammar.specs.Syntax.{AbsentSet, OmittedSet, WrittenSet, CapturingType, NamedShape, BoxShape, ParenthesizedShape, FunctionShape, NameExpr, ParenthesizedExpr, FunExpr, OperatorExpr, BoxExpr, UnboxExpr, CallExpr, AskExpr, TellExpr, ExprSyntax, expr_height, shape_height}
+use Rattle.cc_grammar.specs.Syntax.{AbsentSet, OmittedSet, WrittenSet, CapturingType, NamedShape, BoxShape}
+use Rattle.cc_grammar.specs.Syntax.{ParenthesizedShape, FunctionShape, NameExpr, ParenthesizedExpr, FunExpr}
+use Rattle.cc_grammar.specs.Syntax.{OperatorExpr, BoxExpr, UnboxExpr, CallExpr, AskExpr, TellExpr, ExprSyntax}
+use Rattle.cc_grammar.specs.Syntax.{expr_height, shape_height}
 use Rattle.cc_grammar.specs.Grammar.{IsExpr}
 use Rattle.cc_grammar.specs.Reads.{TreeOf, SyntaxError, TooHigh}
 use Rattle.cc_grammar.specs.Reading.{reading_of}
@@ -398,7 +401,8 @@ SetsHaveNoHeight =
 abbrev pub TypesHaveTheHeightOfTheirShapes : Type 0
 TypesHaveTheHeightOfTheirShapes =
     shape_height (BoxShape (place 1)
-    (CapturingType (place 1) (NamedShape (place 1) (codes "T")) (WrittenSet (record { at = place 1; name = None } ∷ [])))) ≡ 2
+    (CapturingType (place 1) (NamedShape (place 1) (codes "T"))
+    (WrittenSet (record { at = place 1; name = None } ∷ [])))) ≡ 2
 
 -- `a * (a + a)` is an expression, and without the parentheses it is not that tree
 abbrev pub SumsAreNoFactors : Type 0

@@ -1,5 +1,7 @@
 -- The tokens of a text, found from its front on, as the program goes. `Forms` and `Lexical` say what they are.
-use Rattle.std.specs.Prelude.{ℕ, zero, suc, ◌+◌, ◌-◌, ◌==◌, ◌&&◌, not, nat_le, ℤ, pos, List, [], ◌∷◌, length, take, drop, Option, Some, None, find, option_map, Result, Ok, Err, encode_utf8, ◌≡◌, if◌then◌else◌}
+use Rattle.std.specs.Prelude.{ℕ, zero, suc, ◌+◌, ◌-◌, ◌==◌, ◌&&◌, not, nat_le, ℤ, pos, List, [], ◌∷◌, length, take}
+use Rattle.std.specs.Prelude.{drop, Option, Some, None, find, option_map, Result, Ok, Err, encode_utf8, ◌≡◌}
+use Rattle.std.specs.Prelude.{if◌then◌else◌}
 use Rattle.std.specs.Str.{bytes_eq}
 use Rattle.std.specs.Str.Parse.{digits_value}
 use Rattle.std.specs.Char.{is_ascii_digit}
@@ -21,7 +23,8 @@ use Rattle.cc_lex.specs.declared.error.LexError.{LexError}
 use Rattle.cc_lex.specs.declared.error.LexError.TheVariants.{Refused, NoMemory}
 use Rattle.cc_lex.specs.Lexemes.{Lexeme, NameLexeme, NumberLexeme, TextLexeme, WordLexeme, SymbolLexeme}
 use Rattle.cc_lex.specs.Forms.{word_text, stands_in_string, greatest_number}
-use Rattle.cc_lex.specs.Lexical.{place_after, is_white, SpannedLexeme, spanned_of, spanned_all, spelled_at, Extent, ToTheEnd, UpTo}
+use Rattle.cc_lex.specs.Lexical.{place_after, is_white, SpannedLexeme, spanned_of, spanned_all, spelled_at, Extent}
+use Rattle.cc_lex.specs.Lexical.{ToTheEnd, UpTo}
 
 -- all reserved words
 abbrev pub all_words : List Word

@@ -1,5 +1,6 @@
 -- The laws of tokens: bytes have tokens or a refusal, in one way, and the tokens are as they should be.
-use Rattle.std.specs.Prelude.{◌≡◌, ℕ, ◌-◌, ◌<◌, ◌≤◌, ◌⊎◌, pos, ◌≤ℤ◌, List, [], ◌∷◌, All, length, take, drop, IsTrue, Result, Ok, Err, encode_utf8_all}
+use Rattle.std.specs.Prelude.{◌≡◌, ℕ, ◌-◌, ◌<◌, ◌≤◌, ◌⊎◌, pos, ◌≤ℤ◌, List, [], ◌∷◌, All, length, take, drop, IsTrue}
+use Rattle.std.specs.Prelude.{Result, Ok, Err, encode_utf8_all}
 use Rattle.std.specs.List.{list_all}
 use Rattle.cc_base.specs.declared.code.Diag.{Diag}
 use Rattle.cc_base.specs.Names.{IsName}

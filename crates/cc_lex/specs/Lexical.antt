@@ -1,5 +1,6 @@
 -- How a text, as a list of code points, is cut: white space, comments, and tokens from the longest forms.
-use Rattle.std.specs.Prelude.{◌≡◌, ℕ, ◌+◌, ◌<◌, ◌||◌, ◌==◌, not, Bool, List, [], ◌∷◌, ◌++◌, map, length, take, codes, IsTrue, Result, Ok, Err, IsUtf8, encode_utf8_all, if◌then◌else◌}
+use Rattle.std.specs.Prelude.{◌≡◌, ℕ, ◌+◌, ◌<◌, ◌||◌, ◌==◌, not, Bool, List, [], ◌∷◌, ◌++◌, map, length, take, codes}
+use Rattle.std.specs.Prelude.{IsTrue, Result, Ok, Err, IsUtf8, encode_utf8_all, if◌then◌else◌}
 use Rattle.std.specs.List.{list_all}
 use Rattle.std.specs.Str.{chars}
 use Rattle.std.specs.Str.Lossy.{utf8_valid_len}

@@ -3,9 +3,12 @@ use Rattle.std.specs.Prelude.{◌≡◌, ℕ, map}
 use Rattle.cc_capture.specs.Sets.{empty}
 use Rattle.cc_core.specs.Shapes.{AnyShape}
 use Rattle.cc_base.specs.Literals.{Literal}
-use Rattle.cc_core.specs.Terms.{Absent, Term, VariableTerm, LiteralTerm, FunctionTerm, TypeFunctionTerm, BoxTerm, Application, TypeApplication, Unboxing, Let, Primitive, Conditional, Repetition, Operation, Boundary, Leave}
+use Rattle.cc_core.specs.Terms.{Absent, Term, VariableTerm, LiteralTerm, FunctionTerm, TypeFunctionTerm, BoxTerm}
+use Rattle.cc_core.specs.Terms.{Application, TypeApplication, Unboxing, Let, Primitive, Conditional, Repetition}
+use Rattle.cc_core.specs.Terms.{Operation, Boundary, Leave}
 use Rattle.cc_core.specs.Stores.{Cell, ValueCell, DeviceCell, LabelCell}
-use Rattle.cc_meta_runs.specs.Machine.{Frame, LetFrame, ScopeFrame, RepetitionFrame, Configuration, configured, Outcome, Stuck, Final, Next, Ask, step}
+use Rattle.cc_meta_runs.specs.Machine.{Frame, LetFrame, ScopeFrame, RepetitionFrame, Configuration, configured, Outcome}
+use Rattle.cc_meta_runs.specs.Machine.{Stuck, Final, Next, Ask, step}
 use Rattle.cc_meta_runs.specs.Answers.{shown}
 use Rattle.cc_meta_runs.specs.Reach.{captured_set}
 use Rattle.cc_meta_runs.specs.Runs.{State, Run, run}

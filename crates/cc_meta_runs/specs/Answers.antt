@@ -3,7 +3,8 @@ use Rattle.std.specs.Prelude.{Bool, true, Option, Some, None}
 use Rattle.cc_core.specs.Terms.{Term, VariableTerm, LiteralTerm, FunctionTerm, TypeFunctionTerm, BoxTerm}
 use Rattle.cc_core.specs.Captured.{is_value}
 use Rattle.cc_core.specs.Stores.{Cell, ValueCell, DeviceCell, LabelCell, Store, cell_at}
-use Rattle.cc_device.specs.Endings.{Shown, ShownLiteral, ShownFunction, ShownTypeFunction, ShownBox, ShownDevice, ShownLabel}
+use Rattle.cc_device.specs.Endings.{Shown, ShownLiteral, ShownFunction, ShownTypeFunction, ShownBox, ShownDevice}
+use Rattle.cc_device.specs.Endings.{ShownLabel}
 use Rattle.cc_meta_runs.specs.Machine.{Configuration}
 
 -- variables and values are answers

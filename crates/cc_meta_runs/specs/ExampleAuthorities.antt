@@ -13,7 +13,8 @@ use Rattle.cc_core.specs.Substitution.{single}
 use Rattle.cc_core.specs.Captured.{variable_set}
 use Rattle.cc_core.specs.Stores.{Store, authority}
 use Rattle.cc_device.specs.Events.{Operated}
-use Rattle.cc_meta_runs.specs.ExamplePrograms.{number, whole_numbers, nothing, entry_with, val, defining, two_cells, two_devices, out, hits, print, prints_number}
+use Rattle.cc_meta_runs.specs.ExamplePrograms.{number, whole_numbers, nothing, entry_with, val, defining, two_cells}
+use Rattle.cc_meta_runs.specs.ExamplePrograms.{two_devices, out, hits, print, prints_number}
 use Rattle.cc_meta_runs.specs.Runs.{State, run}
 use Rattle.cc_meta_runs.specs.SoundRuns.{IsAmong, IsSoundStart, start}
 

@@ -8,7 +8,8 @@ use Rattle.cc_core.specs.Shapes.{Shape, FunctionShape, capturing}
 use Rattle.cc_core.specs.Terms.{Written, Term, FunctionTerm, Application, Primitive, Conditional}
 use Rattle.cc_core.specs.Captured.{variable_set}
 use Rattle.cc_core.specs.Programs.{Import, Definition, Module, Entry, are_in_order, AreInOrder, IsEntry}
-use Rattle.cc_meta_runs.specs.ExamplePrograms.{number, whole_numbers, nothing, of_number, val, two_devices, two_cells, out, prints_number, defining, printed, done_with_unit, RunsTo}
+use Rattle.cc_meta_runs.specs.ExamplePrograms.{number, whole_numbers, nothing, of_number, val, two_devices, two_cells}
+use Rattle.cc_meta_runs.specs.ExamplePrograms.{out, prints_number, defining, printed, done_with_unit, RunsTo}
 use Rattle.cc_meta_runs.specs.Interleavings.{state_of}
 use Rattle.cc_meta_runs.specs.Links.{entry_store, entry_position, program_start}
 

@@ -9,7 +9,9 @@ use Rattle.cc_capture.specs.declared.var.Var.{Var}
 use Rattle.cc_capture.specs.declared.var.Var.TheVariants.{Bound, Free}
 use Rattle.cc_capture.specs.Sets.{empty}
 use Rattle.cc_core.specs.Shapes.{Shape, BaseShape, AnyShape, TypeVariable, FunctionShape, BoxShape, capturing}
-use Rattle.cc_core.specs.Terms.{Written, Term, VariableTerm, LiteralTerm, FunctionTerm, TypeFunctionTerm, BoxTerm, Application, TypeApplication, Unboxing, Primitive, Conditional, Repetition, Operation, Boundary, Leave}
+use Rattle.cc_core.specs.Terms.{Written, Term, VariableTerm, LiteralTerm, FunctionTerm, TypeFunctionTerm, BoxTerm}
+use Rattle.cc_core.specs.Terms.{Application, TypeApplication, Unboxing, Primitive, Conditional, Repetition, Operation}
+use Rattle.cc_core.specs.Terms.{Boundary, Leave}
 use Rattle.cc_core.specs.Captured.{variable_set}
 use Rattle.cc_core.specs.Stores.{ValueCell, DeviceCell, LabelCell}
 use Rattle.cc_core.specs.Typing.{HasType}
@@ -18,7 +20,10 @@ use Rattle.cc_device.specs.Endings.{ShownFunction, ShownTypeFunction, ShownBox, 
 use Rattle.cc_device.specs.Events.{Event, Operated, Entered, Ended, Exited}
 use Rattle.cc_device.specs.WorkedAnswers.{greatest, least}
 use Rattle.cc_meta_runs.specs.Answers.{shown}
-use Rattle.cc_meta_runs.specs.ExamplePrograms.{number, whole_numbers, nothing, entry_with, of_number, val, two_cells, out, hits, print, say, tick, prints_number, started_on, started, printed, said, ticked, done_showing, done_with, done_with_number, done_with_unit, out_of_fuel, RunsTo}
+use Rattle.cc_meta_runs.specs.ExamplePrograms.{number, whole_numbers, nothing, entry_with, of_number, val, two_cells}
+use Rattle.cc_meta_runs.specs.ExamplePrograms.{out, hits, print, say, tick, prints_number, started_on, started, printed}
+use Rattle.cc_meta_runs.specs.ExamplePrograms.{said, ticked, done_showing, done_with, done_with_number, done_with_unit}
+use Rattle.cc_meta_runs.specs.ExamplePrograms.{out_of_fuel, RunsTo}
 use Rattle.cc_meta_runs.specs.Machine.{configured}
 use Rattle.cc_meta_runs.specs.Runs.{State, run}
 

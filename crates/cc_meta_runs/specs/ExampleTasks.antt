@@ -9,7 +9,9 @@ use Rattle.cc_core.specs.Programs.{Module, Entry}
 use Rattle.cc_device.specs.Devices.{Devices, Console}
 use Rattle.cc_device.specs.Events.{Event, Entered, Exited}
 use Rattle.cc_meta_runs.specs.Runs.{Ending}
-use Rattle.cc_meta_runs.specs.ExamplePrograms.{number, whole_numbers, nothing, entry_with, val, two_devices, out, hits, print, tick, printed, ticked, done_with_unit, done_with_number, out_of_fuel}
+use Rattle.cc_meta_runs.specs.ExamplePrograms.{number, whole_numbers, nothing, entry_with, val, two_devices, out, hits}
+use Rattle.cc_meta_runs.specs.ExamplePrograms.{print, tick, printed, ticked, done_with_unit, done_with_number}
+use Rattle.cc_meta_runs.specs.ExamplePrograms.{out_of_fuel}
 use Rattle.cc_meta_runs.specs.ExampleEntries.{defined, functions}
 use Rattle.cc_meta_runs.specs.Interleavings.{interleaved_run}
 use Rattle.cc_meta_runs.specs.TaskLaws.{AreEntries, TaskRunsAsAlone}

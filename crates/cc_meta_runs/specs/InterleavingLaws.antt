@@ -1,5 +1,6 @@
 -- What holds of tasks that run interleaved.
-use Rattle.std.specs.Prelude.{◌≡◌, ◌≢◌, ◌⊎◌, ℕ, zero, suc, List, [], ◌∷◌, ◌++◌, length, Option, Some, None, slice_get, nat_eq, if◌then◌else◌}
+use Rattle.std.specs.Prelude.{◌≡◌, ◌≢◌, ◌⊎◌, ℕ, zero, suc, List, [], ◌∷◌, ◌++◌, length, Option, Some, None, slice_get}
+use Rattle.std.specs.Prelude.{nat_eq, if◌then◌else◌}
 use Rattle.cc_base.specs.declared.literal.Base.{Base}
 use Rattle.cc_base.specs.declared.literal.Op.{Op}
 use Rattle.cc_base.specs.Literals.{Literal}
@@ -12,7 +13,8 @@ use Rattle.cc_meta_runs.specs.Reach.{SetReaches, captured_set}
 use Rattle.cc_meta_runs.specs.Runs.{State, Move, IsStuck, IsFinal, Moves, move, run}
 use Rattle.cc_meta_runs.specs.Soundness.{scopes_of, IsListed, IsSound, ReachesNoNewDevice}
 use Rattle.cc_meta_runs.specs.SoundRuns.{IsSoundState, IsAmong}
-use Rattle.cc_meta_runs.specs.Interleavings.{World, state_of, move_of, after_turn, Turn, interleave, trace_of, all_events, own_events, own_steps, ending_at}
+use Rattle.cc_meta_runs.specs.Interleavings.{World, state_of, move_of, after_turn, Turn, interleave, trace_of}
+use Rattle.cc_meta_runs.specs.Interleavings.{all_events, own_events, own_steps, ending_at}
 
 -- turns that are taken, in whatever order, lead from a world to another
 pub data Takes : World → List Turn → World → Type 0 where
@@ -52,8 +54,9 @@ pub data ComeUp : World → List ℕ → List Turn → World → Type 0 where
   all_came : {world : World} → ComeUp world [] [] world
   passed_over : {world last : World} {task : ℕ} {tasks : List ℕ} {turns : List Turn}
       → IsAtRest (move_of world task) → ComeUp world tasks turns last → ComeUp world (task ∷ tasks) turns last
-  takes_turn : {world last : World} {task : ℕ} {event : Option Event} {next : State} {tasks : List ℕ} {turns : List Turn}
-      → move_of world task ≡ Some (Moves event next) → ComeUp (after_turn world task next) tasks turns last
+  takes_turn : {world last : World} {task : ℕ} {event : Option Event} {next : State} {tasks : List ℕ}
+      {turns : List Turn} → move_of world task ≡ Some (Moves event next)
+      → ComeUp (after_turn world task next) tasks turns last
       → ComeUp world (task ∷ tasks) (record { task = task; event = event } ∷ turns) last
 
 -- a schedule so many times over

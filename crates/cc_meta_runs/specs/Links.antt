@@ -1,6 +1,7 @@
 -- Programs that are linked from the modules of an entry: the store with the devices and the definitions of all modules,
 -- and the start of a run. The functions take lists that are turned round, as those on checked modules do.
-use Rattle.std.specs.Prelude.{ℕ, pos, ◌+◌, ◌-◌, nat_eq, nat_lt, List, [], ◌∷◌, ◌++◌, map, reverse, length, Option, Some, None, if◌then◌else◌}
+use Rattle.std.specs.Prelude.{ℕ, pos, ◌+◌, ◌-◌, nat_eq, nat_lt, List, [], ◌∷◌, ◌++◌, map, reverse, length, Option, Some}
+use Rattle.std.specs.Prelude.{None, if◌then◌else◌}
 use Rattle.std.specs.Option.{unwrap_or}
 use Rattle.std.specs.Str.{bytes_eq}
 use Rattle.cc_base.specs.declared.literal.Base.{Base}

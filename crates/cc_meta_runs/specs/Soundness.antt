@@ -17,7 +17,8 @@ use Rattle.cc_core.specs.Subtyping.{SubtypesType}
 use Rattle.cc_core.specs.Typing.{base_of, base_operated, base_taken, base_answered, HasType}
 use Rattle.cc_core.specs.Stores.{ValueCell, DeviceCell, LabelCell, Store, HasStoreTyping}
 use Rattle.cc_device.specs.Events.{Event, Operated, Entered, Ended, Exited, Follows}
-use Rattle.cc_meta_runs.specs.Machine.{LetFrame, ScopeFrame, RepetitionFrame, Stack, Configuration, Outcome, Stuck, Final, Next, Ask, is_taken, step}
+use Rattle.cc_meta_runs.specs.Machine.{LetFrame, ScopeFrame, RepetitionFrame, Stack, Configuration, Outcome, Stuck}
+use Rattle.cc_meta_runs.specs.Machine.{Final, Next, Ask, is_taken, step}
 use Rattle.cc_meta_runs.specs.Reach.{SetReaches, captured_by_frame, captured_set}
 
 -- the type of a function that a repetition calls

@@ -16,7 +16,8 @@ use Rattle.cc_meta_runs.specs.Soundness.{scopes_of, IsListed}
 use Rattle.cc_meta_runs.specs.SoundRuns.{IsAmong}
 use Rattle.cc_meta_runs.specs.Links.{program_start}
 use Rattle.cc_meta_runs.specs.LinkLaws.{HaveShapes}
-use Rattle.cc_meta_runs.specs.Interleavings.{World, world_of, state_of, move_of, Turn, interleave, trace_of, all_events, own_events, own_steps, ending_in, ends_from, Report, interleaved_run}
+use Rattle.cc_meta_runs.specs.Interleavings.{World, world_of, state_of, move_of, Turn, interleave, trace_of, all_events}
+use Rattle.cc_meta_runs.specs.Interleavings.{own_events, own_steps, ending_in, ends_from, Report, interleaved_run}
 use Rattle.cc_meta_runs.specs.InterleavingLaws.{Takes, IsAtRest, events_on, History}
 
 -- what an entry has, of each, and devices of the shapes of each

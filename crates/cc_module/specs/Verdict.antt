@@ -1,6 +1,7 @@
 -- The verdict of a module's text. So far a module is accepted that has no import and no definition, or one definition
 -- that is a function made of functions, their parameters and the device.
-use Rattle.std.specs.Prelude.{◌≡◌, ◌↔◌, ℕ, Bool, true, false, ◌&&◌, not, is_none, List, [], ◌∷◌, ◌++◌, take, codes, if◌then◌else◌}
+use Rattle.std.specs.Prelude.{◌≡◌, ◌↔◌, ℕ, Bool, true, false, ◌&&◌, not, is_none, List, [], ◌∷◌, ◌++◌, take, codes}
+use Rattle.std.specs.Prelude.{if◌then◌else◌}
 use Rattle.std.specs.Str.{chars, is_utf8, bytes_eq}
 use Rattle.std.specs.Str.Lossy.{utf8_valid_len}
 use Rattle.std.specs.List.{list_any}
@@ -10,9 +11,11 @@ use Rattle.cc_base.specs.declared.code.Code.{Code}
 use Rattle.cc_base.specs.declared.code.Code.TheVariants.{E01, E02, E03, E04, E20}
 use Rattle.cc_base.specs.declared.code.Diag.{Diag}
 use Rattle.cc_base.specs.declared.literal.Base.TheVariants as bases
-use Rattle.cc_lex.specs.Lexical.{SpannedLexeme, Extent, ToTheEnd, UpTo, start, place_past, without_spans, HasTokens, IsRefused}
+use Rattle.cc_lex.specs.Lexical.{SpannedLexeme, Extent, ToTheEnd, UpTo, start, place_past, without_spans, HasTokens}
+use Rattle.cc_lex.specs.Lexical.{IsRefused}
 use Rattle.cc_lex.specs.Cutting.{Cutting, cut}
-use Rattle.cc_grammar.specs.Syntax.{SetSyntax, AbsentSet, TypeSyntax, CapturingType, ShapeSyntax, BaseShape, FunctionShape, ExprSyntax, NameExpr, FunExpr, DefSyntax, ModuleSyntax}
+use Rattle.cc_grammar.specs.Syntax.{SetSyntax, AbsentSet, TypeSyntax, CapturingType, ShapeSyntax, BaseShape}
+use Rattle.cc_grammar.specs.Syntax.{FunctionShape, ExprSyntax, NameExpr, FunExpr, DefSyntax, ModuleSyntax}
 use Rattle.cc_grammar.specs.Reads.{ModuleReading, TreeOf, SyntaxError, TooHigh, Reads}
 use Rattle.cc_grammar.specs.Reading.{reading_of}
 use Rattle.cc_module.specs.declared.verdict.ModuleVerdict.{ModuleVerdict}

@@ -1,5 +1,10 @@
 -- The cases of the program's dispatchers, as the definitions of reading name them.
-use Rattle.cc_grammar.specs.Reading.{Reader, ◌>>=◌, part_at, expr_start_at, links_at, Link, OperatorLink, CallLink, TypeCallLink, DotLink, ExprStart, RuleStart, FunStart, ParenRule, ValRule, IfRule, BoundaryRule, BoxRule, UnboxRule, ExitRule, RepeatRule, ExprHead, WholeExpr, StartsExpr, NoExpr, ShapeStart, ExitStart, BoxStart, ParenStart, TypeFunctionStart, ShapeHead, WholeShape, StartsShape, NoShape, SetState, AtFirst, AtNext, Behind, SetStep, Ends, Takes, Separates, Misfits, CaretStep, Omits, Opens, Fails}
+use Rattle.cc_grammar.specs.Reading.{Reader, ◌>>=◌, part_at, expr_start_at, links_at, Link, OperatorLink, CallLink}
+use Rattle.cc_grammar.specs.Reading.{TypeCallLink, DotLink, ExprStart, RuleStart, FunStart, ParenRule, ValRule, IfRule}
+use Rattle.cc_grammar.specs.Reading.{BoundaryRule, BoxRule, UnboxRule, ExitRule, RepeatRule, ExprHead, WholeExpr}
+use Rattle.cc_grammar.specs.Reading.{StartsExpr, NoExpr, ShapeStart, ExitStart, BoxStart, ParenStart, TypeFunctionStart}
+use Rattle.cc_grammar.specs.Reading.{ShapeHead, WholeShape, StartsShape, NoShape, SetState, AtFirst, AtNext, Behind}
+use Rattle.cc_grammar.specs.Reading.{SetStep, Ends, Takes, Separates, Misfits, CaretStep, Omits, Opens, Fails}
 use Rattle.std.specs.Prelude.{ℕ}
 use Rattle.cc_base.specs.declared.place.Place.{Place}
 use Rattle.cc_grammar.specs.Syntax.{ExprSyntax}

@@ -6,7 +6,12 @@ use Rattle.cc_base.specs.declared.literal.Import.{Import}
 use Rattle.cc_base.specs.declared.literal.Op.{Op}
 use Rattle.cc_base.specs.declared.place.Place.{Place}
 use Rattle.cc_base.specs.Literals.{literal_of}
-use Rattle.cc_grammar.specs.Syntax.{ElementSyntax, SetSyntax, AbsentSet, OmittedSet, WrittenSet, TypeSyntax, CapturingType, ShapeSyntax, BaseShape, AnyShape, NamedShape, ExitShape, BoxShape, ParenthesizedShape, FunctionShape, TypeFunctionShape, ExprSyntax, NameExpr, LiteralExpr, ParenthesizedExpr, ValExpr, FunExpr, TypeFunExpr, IfExpr, BoundaryExpr, OperatorExpr, BoxExpr, UnboxExpr, CallExpr, TypeCallExpr, AskExpr, TellExpr, ExitExpr, RepeatExpr, ImportSyntax, DefSyntax, ModuleSyntax}
+use Rattle.cc_grammar.specs.Syntax.{ElementSyntax, SetSyntax, AbsentSet, OmittedSet, WrittenSet, TypeSyntax}
+use Rattle.cc_grammar.specs.Syntax.{CapturingType, ShapeSyntax, BaseShape, AnyShape, NamedShape, ExitShape, BoxShape}
+use Rattle.cc_grammar.specs.Syntax.{ParenthesizedShape, FunctionShape, TypeFunctionShape, ExprSyntax, NameExpr}
+use Rattle.cc_grammar.specs.Syntax.{LiteralExpr, ParenthesizedExpr, ValExpr, FunExpr, TypeFunExpr, IfExpr, BoundaryExpr}
+use Rattle.cc_grammar.specs.Syntax.{OperatorExpr, BoxExpr, UnboxExpr, CallExpr, TypeCallExpr, AskExpr, TellExpr}
+use Rattle.cc_grammar.specs.Syntax.{ExitExpr, RepeatExpr, ImportSyntax, DefSyntax, ModuleSyntax}
 use Rattle.cc_parse.specs.declared.tree.ElemTree.{ElemTree}
 use Rattle.cc_parse.specs.declared.tree.SetTree.{SetTree}
 use Rattle.cc_parse.specs.declared.tree.SetTree.TheVariants as sets
