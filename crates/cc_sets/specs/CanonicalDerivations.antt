@@ -22,7 +22,8 @@ use Rattle.cc_core.specs.Comparison.{same_shape, same_type}
 use Rattle.cc_core.specs.Captured.{variable_set, optional_set}
 use Rattle.cc_core.specs.Typing.{base_of, base_given, base_taken, base_answered}
 use Rattle.cc_core.specs.Derivations.{ByElement, ByVariable, BySet, ByReflexivity, ByTransitivity, ByTypeVariable}
-use Rattle.cc_core.specs.Derivations.{ByTop, ByFunction, ByTypeFunction, ByBox, ByCapturing, t-var, t-lit, t-abs, t-tabs}
+use Rattle.cc_core.specs.Derivations.{ByTop, ByFunction, ByTypeFunction, ByBox, ByCapturing, t-var, t-lit, t-abs}
+use Rattle.cc_core.specs.Derivations.{t-tabs}
 use Rattle.cc_core.specs.Derivations.{t-app, t-tapp, t-box, t-unbox, t-let, t-prim, t-if, t-repeat, t-op, t-boundary}
 use Rattle.cc_core.specs.Derivations.{t-exit, t-sub, Claim, SetBelow, ShapeBelow, TypeBelow, OfType, Derivation, Node}
 use Rattle.cc_core.specs.Derivations.{Premises, NoPremise, Premise, one, two, three, conclusion}

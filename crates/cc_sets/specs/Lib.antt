@@ -7,6 +7,9 @@ pub mod Examples
 pub mod Exposing
 pub mod Fillings
 pub mod Inference
+pub mod Marked
+pub mod Marking
 pub mod Outcomes
+pub mod Reaching
 pub mod Verdicts
 pub mod Weights
