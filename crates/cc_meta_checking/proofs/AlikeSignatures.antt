@@ -26,7 +26,7 @@ use Rattle.cc_sets.specs.Verdicts.{Definition, Checking, plain_checked, recursiv
 use Rattle.cc_meta_typing.proofs.Avoiding.{both_some, map_some, unless_some}
 use Rattle.cc_meta_checking.specs.FillingLaws.{AreGlobals}
 use Rattle.cc_meta_checking.specs.CheckingLaws.{Fits}
-use Rattle.cc_meta_checking.specs.Holes.{HolesAreOfParameters}
+use Rattle.cc_core.specs.Holes.{HolesAreOfParameters}
 use Rattle.cc_meta_checking.proofs.FoundFindings.{asked_of, Came, then_came, finds_came, found_finds, noted_came}
 use Rattle.cc_meta_checking.proofs.ReadingKinds.{outermost}
 use Rattle.cc_meta_checking.proofs.FoundTypes.{regular}

@@ -17,7 +17,7 @@ use Rattle.cc_sets.specs.Verdicts.{Definition, Checking, plain_checked, recursiv
 use Rattle.cc_meta_typing.proofs.FormedContexts.{IsKindedContext-test}
 use Rattle.cc_meta_checking.specs.FillingLaws.{AreGlobals, IsFit, AreFit}
 use Rattle.cc_meta_checking.specs.CheckingLaws.{Fits}
-use Rattle.cc_meta_checking.specs.Holes.{NoteHasNoHole, HolesAreOfParameters}
+use Rattle.cc_core.specs.Holes.{NoteHasNoHole, HolesAreOfParameters}
 use Rattle.cc_meta_checking.proofs.Findings.{below_all}
 use Rattle.cc_meta_checking.proofs.FoundFindings.{asked_of, Came, then_came, finds_came, found_finds, below_came, noted_came, avoided_came}
 use Rattle.cc_meta_checking.proofs.ReadingKinds.{outermost}

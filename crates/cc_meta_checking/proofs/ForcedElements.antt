@@ -16,7 +16,8 @@ use Rattle.cc_core.proofs.SubcapturingContexts.{IsKindedEntry, IsKindedContext, 
 use Rattle.cc_sets.specs.Comparison.{Demand}
 use Rattle.cc_sets.specs.Outcomes.{Asked, IsBelow, IsCapless, Placed}
 use Rattle.cc_sets.specs.Fillings.{Filling, IsAskedIn, Comes, global, capability, local, forced, IsLeast, IsGlobal}
-use Rattle.cc_meta_checking.specs.FillingLaws.{AreFit, HasHoleAloneOrNone}
+use Rattle.cc_meta_checking.specs.FillingLaws.{AreFit}
+use Rattle.cc_core.specs.Holes.{HasHoleAloneOrNone}
 use Rattle.cc_meta_checking.proofs.LeastFillings.{comes_global}
 use Rattle.cc_meta_checking.proofs.Decisions.{Decided, element_decided, any_member, IsSetOf, collected}
 

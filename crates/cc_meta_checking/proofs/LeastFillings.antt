@@ -25,7 +25,8 @@ use Rattle.cc_core.proofs.SubcapturingLemmas.{subcaptures_reflexive, subcaptures
 use Rattle.cc_sets.specs.Comparison.{Demand}
 use Rattle.cc_sets.specs.Outcomes.{Asked, IsBelow, IsCapless, Placed}
 use Rattle.cc_sets.specs.Fillings.{Filling, filled_entry, filled_context, IsServed, AllServed, IsAskedIn, Comes, global, capability, local, forced, IsLeast, IsGlobal, IsOverGlobals}
-use Rattle.cc_meta_checking.specs.FillingLaws.{AreGlobals, AreFit, HasHoleAloneOrNone}
+use Rattle.cc_meta_checking.specs.FillingLaws.{AreGlobals, AreFit}
+use Rattle.cc_core.specs.Holes.{HasHoleAloneOrNone}
 
 -- what has no hole stays as it is
 no_holes_give : (f : Filling) → GivesHere without_holes (agreement (filling_in f) keeping)

@@ -94,7 +94,7 @@ module _ (globals : Context) (alone : AreGlobals globals) (f : Filling) (over : 
       of_global (Hole j) k = tt
 
   -- what is well formed is so when it is filled
-  fill_kept : (later : Context) (sort : Sort) (x : Syntax sort) → HasKinds sort (kinds_of (later ++ globals)) [] x
+  pub fill_kept : (later : Context) (sort : Sort) (x : Syntax sort) → HasKinds sort (kinds_of (later ++ globals)) [] x
       → HasKinds sort (kinds_of (filled_context f (later ++ globals))) [] (acted sort (filling_in f) 0 x)
   fill_kept later sort x k =
       subst (λ ks. HasKinds sort ks [] (acted sort (filling_in f) 0 x)) (sym (kinds-filled f (later ++ globals)))
@@ -106,7 +106,7 @@ module _ (globals : Context) (alone : AreGlobals globals) (f : Filling) (over : 
   filled_entry_kinded later (TermEntry s c) k = (fill_kept later ShapeSort s k.0, fill_kept later SetSort c k.1)
   filled_entry_kinded later (TypeEntry s) k = fill_kept later ShapeSort s k
 
-  filled_context_kinded : (later : Context) → IsKindedContext (later ++ globals)
+  pub filled_context_kinded : (later : Context) → IsKindedContext (later ++ globals)
       → IsKindedContext (filled_context f (later ++ globals))
   filled_context_kinded [] k = subst IsKindedContext (sym (globals_still f globals alone)) k
   filled_context_kinded (b ∷ later) k = (filled_entry_kinded later b k.0, filled_context_kinded later k.1)

@@ -30,8 +30,8 @@ use Rattle.cc_sets.specs.Avoidance.{Positive, Negative, avoided, avoided_set, is
 use Rattle.cc_sets.specs.Outcomes.{Asked, IsBelow, IsCapless}
 use Rattle.cc_sets.specs.Inference.{Result, in_context, set_in, shape_in, type_in, written_in, Named, exit_entry}
 use Rattle.cc_meta_typing.proofs.Avoiding.{both_some, map_some, unless_some, avoided_type_parts}
-use Rattle.cc_meta_checking.specs.FillingLaws.{HasHoleAloneOrNone}
-use Rattle.cc_meta_checking.specs.Holes.{NoteHasNoHole, HolesAreOfParameters}
+use Rattle.cc_core.specs.Holes.{HasHoleAloneOrNone}
+use Rattle.cc_core.specs.Holes.{NoteHasNoHole, HolesAreOfParameters}
 use Rattle.cc_meta_checking.proofs.Findings.{Has, below_all, Operand, Notes, notes-absent, notes-written, notes-own, Finds, finds-variable, finds-literal, finds-function, finds-type_function, finds-box, finds-application, finds-type_application, finds-unboxing, finds-unboxing_own, finds-let, finds-primitive, finds-choice, finds-choice_own, finds-repetition, finds-operation, finds-operation_alone, finds-boundary, finds-exit}
 use Rattle.cc_meta_checking.proofs.ReadingKinds.{Inside, outermost, deeper, read_kinded}
 use Rattle.cc_meta_checking.proofs.FoundTypes.{has_exposed, has_kinded, variable_set_kinded, notes_kinded, regular}

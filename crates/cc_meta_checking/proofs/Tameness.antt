@@ -22,7 +22,7 @@ use Rattle.cc_core.proofs.SubcapturingContexts.{IsKindedContext, entry_kinded}
 use Rattle.cc_sets.specs.Comparison.{Demand, Comparison, Mismatch, Matches, Comparing, types_compared, bound_in, bound_compared, function_compared, type_function_compared, box_compared, is_any, by_form, comparison}
 use Rattle.cc_meta_typing.proofs.ComparisonLemmas.{then_parts}
 use Rattle.cc_meta_typing.proofs.FormedContexts.{opened_kinded}
-use Rattle.cc_meta_checking.specs.FillingLaws.{HasHoleAloneOrNone}
+use Rattle.cc_core.specs.Holes.{HasHoleAloneOrNone}
 
 -- no hole in the shape
 abbrev pub Closed : Shape → Type 0

@@ -5,7 +5,7 @@ use Rattle.cc_sets.specs.Outcomes.{Placed, Outcome, NoAnswer, Refused, Found}
 use Rattle.cc_sets.specs.Fillings.{Filling, AllServed, IsLeast}
 use Rattle.cc_sets.specs.Verdicts.{Definition, Checking, IsChecked, Verdict, IsRefused, signature_under, signature_verdict, HasVerdict}
 use Rattle.cc_meta_checking.specs.CheckingLaws.{Fits}
-use Rattle.cc_meta_checking.specs.Holes.{HolesAreOfParameters}
+use Rattle.cc_core.specs.Holes.{HolesAreOfParameters}
 use Rattle.cc_meta_checking.proofs.FitDemands.{asked_is_fit}
 use Rattle.cc_meta_checking.proofs.LeastFillings.{least_over_globals}
 use Rattle.cc_meta_checking.proofs.ForcedElements.{least_exists}

@@ -41,8 +41,8 @@ abbrev pub accepted_derived : Context → Accepted → Derivation
 accepted_derived context accepted =
     definition_derived canonical_shapes context accepted.note accepted.filled accepted.signature
 
--- The canonical derivation of an accepted definition is valid for its filled right side in the definition's context, and
--- concludes its type; and with its last node the type that others see.
+-- The canonical derivation of an accepted definition is valid for its filled right side in the definition's context,
+-- and concludes its type; and with its last node the type that others see.
 abbrev pub CanonicalDerivationsOfDefinitionsAreValid : Type 0
 CanonicalDerivationsOfDefinitionsAreValid =
     (devices : ℕ) (globals : Context) (definition : Definition) (accepted : Accepted) → Fits globals definition

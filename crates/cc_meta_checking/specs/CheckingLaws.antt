@@ -8,16 +8,18 @@ use Rattle.cc_capture.specs.Sets.{Set, Member}
 use Rattle.cc_core.specs.Shapes.{Shape, CapturingType}
 use Rattle.cc_core.specs.Contexts.{TermEntry, Context, lookup, entry_of}
 use Rattle.cc_core.specs.Occurrences.{MeetsInNote, without_holes, HasNoHoleInType, HasNoHoleInTerm}
-use Rattle.cc_core.specs.WellFormed.{Kind, TermKind, kinds_of, is_well_formed_term, IsWellFormedContext, IsWellFormedNote}
+use Rattle.cc_core.specs.WellFormed.{Kind, TermKind, kinds_of, is_well_formed_term, IsWellFormedContext}
+use Rattle.cc_core.specs.WellFormed.{IsWellFormedNote}
 use Rattle.cc_core.specs.WellFormed.{IsWellFormedType}
 use Rattle.cc_core.specs.Typing.{HasType}
 use Rattle.cc_base.specs.declared.code.Code.{Code}
 use Rattle.cc_base.specs.declared.place.Place.{Place}
 use Rattle.cc_sets.specs.Outcomes.{Placed, Refused, Found}
 use Rattle.cc_sets.specs.Fillings.{Filling, IsLeast, IsGlobal, IsOverGlobals, FailsFirst}
-use Rattle.cc_sets.specs.Verdicts.{Definition, Checking, Accepted, Verdict, IsAccepted, IsRefused, IsChecked, HasVerdict}
+use Rattle.cc_sets.specs.Verdicts.{Definition, Checking, Accepted, Verdict, IsAccepted, IsRefused, IsChecked}
+use Rattle.cc_sets.specs.Verdicts.{HasVerdict}
 use Rattle.cc_sets.specs.Verdicts.{HasAlgorithmicType}
-use Rattle.cc_meta_checking.specs.Holes.{HolesAreOfParameters}
+use Rattle.cc_core.specs.Holes.{HolesAreOfParameters}
 use Rattle.cc_meta_checking.specs.FillingLaws.{AreGlobals, AreFit}
 
 -- the kinds of what a definition's right side may name: the globals, and its own name where it is recursive
@@ -117,8 +119,8 @@ IsOfSetOrItsDefinitions devices globals set e =
     × Member (Variable (Free position)) set × (lookup globals position ≡ Some (TermEntry shape declared))
     × Member e declared)
 
--- The outermost set of a signature has the devices and the universal capability of the type's set, and those of the sets
--- of the definitions in it, and nothing else.
+-- The outermost set of a signature has the devices and the universal capability of the type's set, and those of the
+-- sets of the definitions in it, and nothing else.
 abbrev pub SignatureSetsAreOfDevices : Type 0
 SignatureSetsAreOfDevices =
     (devices : ℕ) (globals : Context) (definition : Definition) (accepted : Accepted) (e : Elem)

@@ -1,5 +1,5 @@
--- Definitions to be checked, each as its text in a comment, with the places of that text, as LINE:COL. What stands for an
--- operand that is no name is a `let` of its own, and a hole for each omitted set of a parameter.
+-- Definitions to be checked, each as its text in a comment, with the places of that text, as LINE:COL. What stands for
+-- an operand that is no name is a `let` of its own, and a hole for each omitted set of a parameter.
 use Rattle.std.specs.Prelude.{ℕ, zero, suc, pos, false, true, ◌∷◌, Some, None}
 use Rattle.cc_base.specs.Literals.{UnitLiteral, NumberLiteral}
 use Rattle.cc_base.specs.declared.literal.Base.TheVariants as bases

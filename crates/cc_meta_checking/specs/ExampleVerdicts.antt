@@ -14,10 +14,12 @@ use Rattle.cc_sets.specs.Verdicts.{Definition, Accepted, IsAccepted, IsRefused, 
 use Rattle.cc_sets.specs.ExampleChecks.{place, from_nothing, console, console_given, box_of_cap_opened, printing_again}
 use Rattle.cc_meta_checking.specs.ExampleDefinitions.{with_devices, both_devices, pure_printer, content_of_cap}
 use Rattle.cc_meta_checking.specs.ExampleDefinitions.{widened_and_narrowed, exit_that_would_leave}
-use Rattle.cc_meta_checking.specs.ExampleDefinitions.{boxed_exit_that_would_leave, called_twice, depending, not_depending}
+use Rattle.cc_meta_checking.specs.ExampleDefinitions.{boxed_exit_that_would_leave, called_twice, depending}
+use Rattle.cc_meta_checking.specs.ExampleDefinitions.{not_depending}
 use Rattle.cc_meta_checking.specs.ExampleDefinitions.{opened_for_a_parameter, opened_for_nothing, counting}
 use Rattle.cc_meta_checking.specs.ExampleDefinitions.{counting_down, after_down, counting_from_three, after_main}
-use Rattle.cc_meta_checking.specs.ExampleDefinitions.{printing_for_ever, passed_to, passing_itself, identity, identity_shape, after_identity}
+use Rattle.cc_meta_checking.specs.ExampleDefinitions.{printing_for_ever, passed_to, passing_itself, identity}
+use Rattle.cc_meta_checking.specs.ExampleDefinitions.{identity_shape, after_identity}
 use Rattle.cc_meta_checking.specs.ExampleDefinitions.{opened_after_identity, nested_boundaries, after_two, chosen}
 use Rattle.cc_meta_checking.specs.ExampleDefinitions.{tower, taking_tower, taking_tower_inside, unit_applied}
 use Rattle.cc_meta_checking.specs.ExampleDefinitions.{name_in_bound, wrong_twice, impure_and_wrong}

@@ -8,7 +8,7 @@ use Rattle.cc_sets.specs.Outcomes.{Outcome, Placed}
 use Rattle.cc_sets.specs.Inference.{Result, Infers}
 use Rattle.cc_sets.specs.Fillings.{Filling, IsLeast}
 use Rattle.cc_sets.specs.Verdicts.{Definition, Checking, Verdict, IsChecked, HasVerdict}
-use Rattle.cc_meta_checking.specs.Holes.{HolesAreOfParameters}
+use Rattle.cc_core.specs.Holes.{HolesAreOfParameters}
 use Rattle.cc_meta_checking.specs.FillingLaws.{AreFit}
 use Rattle.cc_meta_checking.specs.CheckingLaws.{Fits}
 

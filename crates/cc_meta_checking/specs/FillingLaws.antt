@@ -1,9 +1,8 @@
 -- The laws of fillings: the least filling, and all those that serve.
-use Rattle.std.specs.Prelude.{◌≡◌, ◌↔◌, ◌⊎◌, ℕ, List, [], ◌∷◌, ◌++◌, length}
-use Rattle.cc_capture.specs.declared.var.Elem.TheVariants.{Hole}
+use Rattle.std.specs.Prelude.{◌≡◌, ◌↔◌, ℕ, List, [], ◌∷◌, ◌++◌, length}
 use Rattle.cc_capture.specs.Sets.{Set}
 use Rattle.cc_core.specs.Contexts.{TermEntry, TypeEntry, Context}
-use Rattle.cc_core.specs.Substitution.{single}
+use Rattle.cc_core.specs.Holes.{HasHoleAloneOrNone}
 use Rattle.cc_core.specs.Occurrences.{HasNoHole, HasNoHoleInSet}
 use Rattle.cc_core.specs.WellFormed.{IsWellFormedContext, IsWellFormedSet}
 use Rattle.cc_core.specs.Subcapturing.{SubcapturesSet}
@@ -15,10 +14,6 @@ abbrev pub AreGlobals : Context → Type 0
 AreGlobals [] = Unit {0}
 AreGlobals (TermEntry shape set ∷ older) = HasNoHole shape × HasNoHoleInSet set × AreGlobals older
 AreGlobals (TypeEntry bound ∷ older) = ⊥
-
--- the set has no hole, or is one hole alone
-abbrev pub HasHoleAloneOrNone : Set → Type 0
-HasHoleAloneOrNone set = HasNoHoleInSet set ⊎ ((hole : ℕ) × (set ≡ single (Hole hole)))
 
 -- what is asked is fit for a filling: a demand has the globals at the bottom of its context, is well formed, and its
 -- right side has no hole or is one hole alone

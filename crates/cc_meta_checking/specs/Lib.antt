@@ -5,6 +5,5 @@ pub mod ExampleDerivations
 pub mod ExampleVerdicts
 pub mod ExistenceLaws
 pub mod FillingLaws
-pub mod Holes
 pub mod InferenceLaws
 pub mod RepetitionLaws
