@@ -1,0 +1,3 @@
+mod BoundsFollowed
+mod CallLemmas
+mod WalkAgreement

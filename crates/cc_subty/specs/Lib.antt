@@ -1,0 +1,4 @@
+pub mod Comparing
+pub mod Demands
+pub mod Exposing
+pub mod Walking
