@@ -1,0 +1,2 @@
+pub mod AvoidingAnswers
+pub mod FreePositions
