@@ -1,0 +1,10 @@
+pub mod Additions
+pub mod Answered
+pub mod CollectedDemands
+pub mod DeclaredChains
+pub mod FilledMarkings
+pub mod HolesAlone
+pub mod Judgements
+pub mod LeastByArrival
+pub mod Puttings
+pub mod Saturation

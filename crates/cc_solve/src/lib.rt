@@ -1,0 +1,13 @@
+//! Least fillings of holes, and which of what is asked a filling fails first.
+#![tactic(auto)]
+
+mod ends;
+pub mod filling;
+pub mod judging;
+mod lists;
+pub mod solving;
+mod spreading;
+
+pub use filling::Filling;
+pub use judging::first_failed;
+pub use solving::solve;
