@@ -1,0 +1,15 @@
+pub mod AlikeFacts
+pub mod BareTexts
+pub mod BroughtFacts
+pub mod ElaboratedDefinitions
+pub mod ElaboratedHoles
+pub mod ElaboratedKinds
+pub mod KeptFacts
+pub mod ModuleLoops
+pub mod RefusalCodes
+pub mod RefusedNames
+pub mod ScopeFacts
+pub mod SecondNames
+pub mod StepEquations
+pub mod StepFacts
+pub mod WorkedElaborations

@@ -1,0 +1,42 @@
+-- The elaborated modules that values of the program stand for, and what is answered for a module.
+use Rattle.std.specs.Prelude.{◌≡◌, List, map, Result, Ok, Err, Vec}
+use Rattle.std.specs.declared.alloc.Global.{Global}
+use Rattle.cc_base.specs.declared.device.DeviceDecl.{DeviceDecl}
+use Rattle.cc_core.specs.declared.terms.CoreDef.{CoreDef}
+use Rattle.cc_core.specs.Views.{note_of, term_of}
+use Rattle.cc_core.specs.Places.{places_of}
+use Rattle.cc_parse.specs.Trees.{imports_syntax}
+use Rattle.cc_mnf.specs.declared.elaborate.CoreModule.{CoreModule as DeclaredModule}
+use Rattle.cc_mnf.specs.declared.error.ElaborateError.{ElaborateError}
+use Rattle.cc_mnf.specs.declared.error.ElaborateError.TheVariants as errors
+use Rattle.cc_mnf.specs.ElaboratedModules.{CoreDefinition, CoreModule, Elaboration, IsElaborated, IsRefused}
+use Rattle.cc_mnf.specs.Scopes.{Name}
+
+-- the definition
+abbrev pub definition_of : CoreDef → CoreDefinition
+definition_of it = record {
+  name = it.name;
+  name_at = it.name_at;
+  note = note_of it.note;
+  recursive = it.recursive;
+  right = term_of it.right.value;
+  places = places_of it.right.value;
+}
+
+-- the definitions, in order
+abbrev pub definitions_of : Vec CoreDef Global → List CoreDefinition
+definitions_of definitions = map definition_of definitions.items
+
+-- the module
+abbrev pub module_of : DeclaredModule → CoreModule
+module_of it = record { imports = imports_syntax it.imports; definitions = definitions_of it.defs }
+
+-- the names of declared devices, in order
+abbrev pub device_names : List DeviceDecl → List Name
+device_names devices = map (λ device. device.name) devices
+
+-- The answer is the elaboration, unless there is no memory.
+abbrev pub Elaborates : Result DeclaredModule ElaborateError → Elaboration → Type 0
+Elaborates (Ok it) elaboration = elaboration ≡ IsElaborated (module_of it)
+Elaborates (Err (errors.Refused diag)) elaboration = elaboration ≡ IsRefused diag.code diag.place
+Elaborates (Err errors.NoMemory) elaboration = Unit {0}

@@ -1,0 +1,17 @@
+pub mod CoreModules
+pub mod ElaboratedModules
+pub mod ElaboratedTypes
+pub mod Elaboration
+pub mod ElaborationLaws
+pub mod ExampleElaborations
+pub mod ExampleRefusals
+pub mod Examples
+pub mod Holes
+pub mod Layout
+pub mod NameLaws
+pub mod OperandViews
+pub mod Operands
+pub mod ScopeViews
+pub mod Scopes
+pub mod StepAnswers
+pub mod Steps

@@ -1,0 +1,16 @@
+//! The elaboration of modules: names become variables, and expressions become terms in monadic normal form.
+#![tactic(auto)]
+
+pub mod elaborate;
+pub mod error;
+pub mod examples;
+mod exprs;
+pub mod laws;
+pub mod names;
+mod operands;
+pub mod scope;
+pub mod stop;
+mod types;
+
+pub use elaborate::CoreModule;
+pub use error::ElaborateError;
