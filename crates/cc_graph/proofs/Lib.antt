@@ -1,0 +1,9 @@
+pub mod Paths
+pub mod BitLemmas
+pub mod RowLemmas
+pub mod Ranks
+pub mod NameLemmas
+pub mod GraphLemmas
+pub mod OrderLemmas
+pub mod OrderLaws
+pub mod OrderExistence

@@ -1,0 +1,8 @@
+use Rattle.std.proofs.Common.{◌≡◌, ℕ, ◌<◌, ◌≤◌, get_or}
+use Rattle.std.specs.Prelude.{bit_or}
+use Rattle.cc_graph.proofs.bits.join.Given as goal
+
+abbrev pub invariant-loop-at : goal.invariant-loop-at
+invariant-loop-at l =
+    ((j : ℕ) → j < l.at → get_or l.words j 0 ≡ bit_or (get_or l.fn.words j 0) (get_or l.others j 0))
+    × ((j : ℕ) → l.at ≤ j → get_or l.words j 0 ≡ get_or l.fn.words j 0)

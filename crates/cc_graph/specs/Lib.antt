@@ -1,0 +1,4 @@
+pub mod Graph
+pub mod Laws
+pub mod Places
+pub mod Examples

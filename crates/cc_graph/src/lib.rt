@@ -1,0 +1,7 @@
+//! The import graph of modules.
+#![tactic(auto)]
+
+mod bits;
+mod closure;
+pub mod imports;
+pub mod laws;
