@@ -1,0 +1,42 @@
+-- The worked examples, by computation.
+use Rattle.std.proofs.Common.{refl, [], arith}
+use Rattle.cc_capture.specs.Elements.{element_order, same_element}
+use Rattle.cc_capture.specs.Rising.{placed}
+use Rattle.cc_capture.specs.Sets.{contains, empty, insert, is_subset}
+use Rattle.cc_core.specs.Substitution.{single}
+use Rattle.cc_core.proofs.Moving.{Member-single_itself}
+use Rattle.cc_capture.specs.declared.var.Elem.TheVariants.{Hole}
+use Rattle.cc_sets.specs.Comparison.{demanded}
+use Rattle.cc_sets.specs.Fillings.{global, forced}
+use Rattle.cc_sets.specs.Inference.{demand_at}
+use Rattle.cc_type.specs.KeepingExamples.{with_local, number, NumbersAreBelowNothing, ConsolesAreKept, NumbersAreForced}
+use Rattle.cc_type.specs.KeepingExamples.{HolesAreBelowThemselves, HolesMayHaveCap, GreatestIsFound}
+
+pub numbers_are_below_nothing : NumbersAreBelowNothing
+unfolding contains empty insert placed element_order same_element is_subset
+numbers_are_below_nothing = refl
+
+pub consoles_are_kept : ConsolesAreKept
+unfolding contains empty insert placed element_order same_element is_subset
+consoles_are_kept = refl
+
+pub numbers_are_forced : NumbersAreForced
+unfolding contains empty insert placed element_order same_element is_subset
+numbers_are_forced at = (
+  refl,
+  forced (demanded with_local (single number) (single (Hole 0)))
+      ([], demand_at at (demanded with_local (single number) (single (Hole 0))), [], refl, refl) refl
+      (Member-single_itself number) (global (omega arith)),
+)
+
+pub holes_are_below_themselves : HolesAreBelowThemselves
+unfolding contains empty insert placed element_order same_element is_subset
+holes_are_below_themselves = refl
+
+pub holes_may_have_cap : HolesMayHaveCap
+unfolding contains empty insert placed element_order same_element is_subset
+holes_may_have_cap = (refl, refl, refl)
+
+pub greatest_is_found : GreatestIsFound
+unfolding contains empty insert placed element_order same_element is_subset
+greatest_is_found = (refl, refl)

@@ -1,0 +1,14 @@
+use Rattle.cc_type.proofs.KeptExamples.{numbers_are_below_nothing, consoles_are_kept, numbers_are_forced}
+use Rattle.cc_type.proofs.KeptExamples.{holes_are_below_themselves, holes_may_have_cap, greatest_is_found}
+use Rattle.cc_type.proofs.laws.examples.Goals as goal
+
+pub returns : goal.returns
+returns c =
+    record {
+      numbers = numbers_are_below_nothing;
+      consoles = consoles_are_kept;
+      forced = numbers_are_forced;
+      holes = holes_are_below_themselves;
+      capless = holes_may_have_cap;
+      greatest = greatest_is_found;
+    }

@@ -1,0 +1,65 @@
+-- Worked examples of what is kept: two globals, a console and a number; and a local variable whose set is a hole.
+use Rattle.std.specs.Prelude.{◌≡◌, true, false, [], ◌∷◌, Some, None}
+use Rattle.cc_base.specs.declared.literal.Base.TheVariants as bases
+use Rattle.cc_capture.specs.declared.var.Var.TheVariants.{Free}
+use Rattle.cc_capture.specs.declared.var.Elem.{Elem}
+use Rattle.cc_capture.specs.declared.var.Elem.TheVariants.{Var as Variable, Cap, Hole}
+use Rattle.cc_capture.specs.Sets.{empty, insert}
+use Rattle.cc_core.specs.Shapes.{BaseShape, FunctionShape, capturing}
+use Rattle.cc_core.specs.Contexts.{TermEntry, Context}
+use Rattle.cc_core.specs.Substitution.{single}
+use Rattle.cc_sets.specs.Comparison.{demanded}
+use Rattle.cc_sets.specs.Outcomes.{IsCapless}
+use Rattle.cc_sets.specs.Fillings.{IsForced}
+use Rattle.cc_type.specs.Keeping.{is_demand_settled, is_settled}
+use Rattle.cc_type.specs.Signatures.{greatest_position}
+use Rattle.cc_sets.specs.Inference.{demand_at}
+use Rattle.cc_base.specs.declared.place.Place.{Place}
+
+-- a console, a number of the empty set, and a local variable whose set is the first hole
+abbrev pub with_local : Context
+with_local =
+    TermEntry (BaseShape bases.Int) (single (Hole 0)) ∷ TermEntry (BaseShape bases.Int) empty
+    ∷ TermEntry (BaseShape bases.Console) (single Cap) ∷ []
+
+-- the variables at the positions
+abbrev pub console : Elem
+console = Variable (Free 0)
+
+abbrev pub number : Elem
+number = Variable (Free 1)
+
+abbrev pub local : Elem
+local = Variable (Free 2)
+
+-- the number is below the empty set, since its declared set has no member
+abbrev pub NumbersAreBelowNothing : Type 0
+NumbersAreBelowNothing = is_demand_settled (demanded with_local (single number) empty) ≡ true
+
+-- the console is not, and its demand is kept
+abbrev pub ConsolesAreKept : Type 0
+ConsolesAreKept = is_demand_settled (demanded with_local (single console) empty) ≡ false
+
+-- The number is below each hole as it stands, and yet it is kept: it is forced into that hole, by this demand alone.
+abbrev pub NumbersAreForced : Type 0
+NumbersAreForced =
+    (at : Place)
+    → (is_demand_settled (demanded with_local (single number) (single (Hole 0))) ≡ false)
+    × IsForced 2 (demand_at at (demanded with_local (single number) (single (Hole 0))) ∷ []) 0 number
+
+-- a hole below itself is settled
+abbrev pub HolesAreBelowThemselves : Type 0
+HolesAreBelowThemselves = is_demand_settled (demanded with_local (single (Hole 0)) (single (Hole 0))) ≡ true
+
+-- a set of variables alone has no universal capability under any filling, and with a hole it may have
+abbrev pub HolesMayHaveCap : Type 0
+HolesMayHaveCap =
+    (is_settled (IsCapless (single console)) ≡ true) × (is_settled (IsCapless (single (Hole 0))) ≡ false)
+    × (is_settled (IsCapless (single Cap)) ≡ false)
+
+-- the greatest position from the first definition on, and none where only devices are free
+abbrev pub GreatestIsFound : Type 0
+GreatestIsFound =
+    (greatest_position 1 (capturing (FunctionShape (BaseShape bases.Int) (single local) (BaseShape bases.Int) empty)
+    (insert number (single console))) ≡ Some 2)
+    × (greatest_position 1 (capturing (BaseShape bases.Int) (single console)) ≡ None)

@@ -1,0 +1,12 @@
+pub mod Ends
+pub mod FilledHoles
+pub mod FormedDemands
+pub mod Keeping
+pub mod KeepingExamples
+pub mod KeepingLaws
+pub mod LoggedInference
+pub mod Logs
+pub mod Parts
+pub mod Rows
+pub mod Signatures
+pub mod Standing

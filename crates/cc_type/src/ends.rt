@@ -1,0 +1,319 @@
+//! The last steps of inference for the forms with parts.
+
+ghost use Rattle.std.specs.Prelude.{◌≡◌, IfOk};
+ghost use Rattle.cc_capture.specs.Sets.{union};
+ghost use Rattle.cc_core.specs.Captured as captured;
+ghost use Rattle.cc_core.specs.Terms.{Boundary};
+ghost use Rattle.cc_core.specs.Views.{shape_of, type_of, note_of, term_of, context_of};
+ghost use Rattle.cc_core.specs.WellFormed.{IsWellFormedContext, IsWellFormedType};
+ghost use Rattle.cc_sets.specs.Inference as plain;
+ghost use Rattle.cc_sets.specs.Inference.{result as plain_result, tested};
+ghost use Rattle.cc_subty.specs.Demands.{asked_of};
+ghost use Rattle.cc_type.specs.Ends.{function_type, type_function_type, unavoidable_at, let_captured, own_choice, named_choice};
+ghost use Rattle.cc_type.specs.Logs.{Answers, Meets};
+ghost use Rattle.cc_type.specs.Parts.{found_of, named_of};
+ghost use Rattle.cc_type.specs.Rows.{ways, let_end, choice_end, choice_log};
+ghost use Rattle.cc_type.specs.Standing.{NoteReadsWell};
+
+use crate::found::{Found, Named};
+use crate::log::Log;
+use crate::operands::branch;
+use crate::sizes::with_parts;
+use crate::steps::entries;
+use crate::stop::{Stop, refused};
+use cc_avoid::{AvoidError, avoid_type};
+use cc_base::code::Code;
+use cc_base::place::Place;
+use cc_capture::{CapSet, Elem, Var};
+use cc_core::captured::{is_value, without_binder};
+use cc_core::reading::{read_set, read_shape, read_type, write_set};
+use cc_core::substitution::close_type;
+use cc_core::{Ctx, Form, Node, Note, Shape, Ty};
+use std::alloc::{AllocError, Global};
+use std::rc::Rc;
+
+// The type of a function: what it takes and gives, and what its body captures.
+fn function_type(
+    alloc: Global,
+    ctx: &Ctx,
+    takes: Ty,
+    gives: &Ty,
+    captured: &CapSet,
+) -> Result<Ty, AllocError>
+    ensures { IfOk result (λ t. type_of t ≡ function_type (context_of ctx.now) (type_of takes) (type_of gives.now) captured.now) }
+{
+    let gives = Rc::new(alloc, close_type(alloc, gives, entries(ctx))?)?;
+    let shape = Rc::new(alloc, Shape::Fun(Rc::new(alloc, takes)?, gives))?;
+    let set = read_set(alloc, captured, entries(ctx))?;
+    Ok(Ty { shape, set })
+}
+
+/// The function of a parameter's type, and of what was found for its body.
+pub(crate) fn function_end(
+    alloc: Global,
+    ctx: &Ctx,
+    node: &Node,
+    takes: &Rc<Ty>,
+    read: Ty,
+    part: Found,
+) -> Result<Found, Stop>
+    requires { type_of read ≡ plain.type_in (context_of ctx.now) (type_of takes.now.value) }
+    ensures { Answers found_of result (tested ways node.now.at (plain.function_found (context_of ctx.now) (shape_of takes.now.value.shape.value) takes.now.value.set (found_of part))) }
+{
+    let Found {
+        ty: gives,
+        node: body,
+        captured,
+    } = part;
+    let captured = without_binder(alloc, &captured)?;
+    let ty = function_type(alloc, ctx, read, &gives, &captured)?;
+    let found = with_parts(alloc, node, Form::Fun(takes.clone()?, body), ty, captured)?;
+    Ok(found)
+}
+
+// The type of a type function: its bound, what it gives, and what its body captures.
+fn type_function_type(
+    alloc: Global,
+    ctx: &Ctx,
+    bound: Rc<Shape>,
+    gives: &Ty,
+    captured: &CapSet,
+) -> Result<Ty, AllocError>
+    ensures { IfOk result (λ t. type_of t ≡ type_function_type (context_of ctx.now) (shape_of bound.value) (type_of gives.now) captured.now) }
+{
+    let gives = Rc::new(alloc, close_type(alloc, gives, entries(ctx))?)?;
+    let shape = Rc::new(alloc, Shape::TFun(bound, gives))?;
+    let set = read_set(alloc, captured, entries(ctx))?;
+    Ok(Ty { shape, set })
+}
+
+/// The type function of a bound, and of what was found for its body.
+pub(crate) fn type_function_end(
+    alloc: Global,
+    ctx: &Ctx,
+    node: &Node,
+    bound: &Rc<Shape>,
+    read: Rc<Shape>,
+    part: Found,
+) -> Result<Found, Stop>
+    requires { shape_of read.value ≡ plain.shape_in (context_of ctx.now) (shape_of bound.now.value) }
+    ensures { Answers found_of result (tested ways node.now.at (plain.type_function_found (context_of ctx.now) (shape_of bound.now.value) (found_of part))) }
+{
+    let Found {
+        ty: gives,
+        node: body,
+        captured,
+    } = part;
+    let captured = without_binder(alloc, &captured)?;
+    let ty = type_function_type(alloc, ctx, read, &gives, &captured)?;
+    let found = with_parts(alloc, node, Form::TFun(bound.clone()?, body), ty, captured)?;
+    Ok(found)
+}
+
+/// What a boundary gives.
+pub(crate) fn boundary_end(
+    alloc: Global,
+    node: &Node,
+    gives: &Rc<Shape>,
+    ty: Ty,
+    part: Found,
+) -> Result<Found, Stop>
+    ensures { Answers found_of result (tested ways node.now.at (plain_result (type_of ty) (Boundary (shape_of gives.now.value) (term_of part.node.value)))) }
+{
+    let Found {
+        ty: _,
+        node: body,
+        captured,
+    } = part;
+    let captured = without_binder(alloc, &captured)?;
+    let found = with_parts(
+        alloc,
+        node,
+        Form::Boundary(gives.clone()?, body),
+        ty,
+        captured,
+    )?;
+    Ok(found)
+}
+
+// What the failure of avoidance at the place is to checking.
+fn unavoidable_at(error: AvoidError, at: Place) -> Stop
+    ensures { result ≡ unavoidable_at error at }
+{
+    match error {
+        AvoidError::Unavoidable => refused(Code::E17, at),
+        AvoidError::NoMemory => Stop::NoMemory,
+    }
+}
+
+// The newest variable goes out of scope.
+fn left_behind(alloc: Global, ctx: &Ctx, declared: &CapSet, ty: &Ty, at: Place) -> Result<Ty, Stop>
+    ensures { Answers type_of result (plain.left_behind at (context_of ctx.now) declared.now (type_of ty.now)) }
+{
+    match avoid_type(alloc, entries(ctx), declared, ty) {
+        Ok(ty) => Ok(ty),
+        Err(error) => Err(unavoidable_at(error, at)),
+    }
+}
+
+// The captured variables of a let.
+fn let_captured(
+    alloc: Global,
+    right: &Rc<Node>,
+    of_right: &CapSet,
+    of_body: &CapSet,
+) -> Result<CapSet, AllocError>
+    ensures { IfOk result (λ s. s ≡ let_captured (term_of right.now.value) of_right.now of_body.now) }
+{
+    let outer = without_binder(alloc, of_body)?;
+    if is_value(right) && !of_body.contains(Elem::Var(Var::Bound(0))) {
+        return Ok(outer);
+    }
+    of_right.union(alloc, &outer)
+}
+
+/// A term whose value was named in the body.
+pub(crate) fn let_end(
+    alloc: Global,
+    ctx: &Ctx,
+    node: &Node,
+    named: Named,
+    one: Found,
+    two: Found,
+) -> Result<Found, Stop>
+    ensures { Answers found_of result (let_end (context_of ctx.now) node.now.at node.now.first (named_of named) (found_of one) (found_of two)) }
+{
+    let Named { ty: declared, note } = named;
+    let Found {
+        ty: _,
+        node: right,
+        captured: of_right,
+    } = one;
+    let Found {
+        ty: inner,
+        node: body,
+        captured: of_body,
+    } = two;
+    let ty = left_behind(alloc, ctx, &declared.set, &inner, node.first)?;
+    let captured = let_captured(alloc, &right, &of_right, &of_body)?;
+    let found = with_parts(alloc, node, Form::Let(note, right, body), ty, captured)?;
+    Ok(found)
+}
+
+// The captured variables of a choice.
+fn choice_captured(
+    alloc: Global,
+    test: Var,
+    one: &CapSet,
+    two: &CapSet,
+) -> Result<CapSet, AllocError>
+    ensures { IfOk result (λ s. s ≡ union (captured.variable_set test) (union one.now two.now)) }
+{
+    let mut set = one.union(alloc, two)?;
+    set.insert(Elem::Var(test))?;
+    Ok(set)
+}
+
+// The type and the note of a choice whose set is omitted: it has the set of both branches.
+fn own_choice(
+    alloc: Global,
+    root: u32,
+    ctx: &Ctx,
+    written: &Rc<Shape>,
+    one: &CapSet,
+    two: &CapSet,
+) -> Result<Named, AllocError>
+    ensures { IfOk result (λ n. named_of n ≡ own_choice root (context_of ctx.now) (shape_of written.now.value) one.now two.now) }
+{
+    let set = one.union(alloc, two)?;
+    let shape = written.clone()?;
+    let back = write_set(alloc, &set, root, entries(ctx))?;
+    let note = Note::Written(Rc::new(alloc, Ty { shape, set: back })?);
+    let shape = read_shape(alloc, written, entries(ctx))?;
+    Ok(Named {
+        ty: Ty { shape, set },
+        note,
+    })
+}
+
+// The type and the note of a choice.
+fn named_choice(
+    alloc: Global,
+    root: u32,
+    ctx: &Ctx,
+    note: &Note,
+    one: &CapSet,
+    two: &CapSet,
+) -> Result<Named, Stop>
+    ensures { Answers named_of result (named_choice root (context_of ctx.now) (note_of note.now) one.now two.now) }
+{
+    match note {
+        Note::Absent => Err(Stop::NoMemory),
+        Note::Written(written) => {
+            let ty = read_type(alloc, written, entries(ctx))?;
+            Ok(Named {
+                ty,
+                note: Note::Written(written.clone()?),
+            })
+        }
+        Note::Own(written) => Ok(own_choice(alloc, root, ctx, written, one, two)?),
+    }
+}
+
+// A choice of two branches.
+fn choice_end(
+    alloc: Global,
+    root: u32,
+    ctx: &Ctx,
+    node: &Node,
+    note: &Note,
+    test: Var,
+    one: Found,
+    two: Found,
+) -> Result<Found, Stop>
+    ensures { Answers found_of result (choice_end root (context_of ctx.now) node.now.at (note_of note.now) test (found_of one) (found_of two)) }
+{
+    let Named { ty, note } = named_choice(alloc, root, ctx, note, &one.ty.set, &two.ty.set)?;
+    let captured = choice_captured(alloc, test, &one.captured, &two.captured)?;
+    let Found {
+        ty: _,
+        node: positive,
+        captured: _,
+    } = one;
+    let Found {
+        ty: _,
+        node: negative,
+        captured: _,
+    } = two;
+    let found = with_parts(
+        alloc,
+        node,
+        Form::If(note, test, positive, negative),
+        ty,
+        captured,
+    )?;
+    Ok(found)
+}
+
+/// A choice of two branches, the second of which is compared with what is written for the choice.
+pub(crate) fn choice_rest(
+    alloc: Global,
+    root: u32,
+    ctx: &Ctx,
+    node: &Node,
+    note: &Note,
+    test: Var,
+    one: Found,
+    two: Found,
+    at: Place,
+    log: &mut Log,
+) -> Result<Found, Stop>
+    requires context { IsWellFormedContext (context_of ctx.now) }
+    requires ty { IsWellFormedType (context_of ctx.now) (type_of two.ty) }
+    requires note { NoteReadsWell (context_of ctx.now) (note_of note.now) }
+    ensures { Meets found_of result (asked_of log.new.demands) (choice_log root (context_of ctx.now) node.now.at (note_of note.now) test (found_of one) (found_of two) at (asked_of log.old.demands)) }
+{
+    branch(alloc, ctx, note, &two.ty, at, log)?;
+    let found = choice_end(alloc, root, ctx, node, note, test, one, two)?;
+    Ok(found)
+}

@@ -1,0 +1,69 @@
+//! The laws that checking a definition stands on, apart from any code. The functions do nothing; each has a law as its
+//! contract.
+ghost use Rattle.cc_type.specs.FilledHoles as holes;
+ghost use Rattle.cc_type.specs.KeepingExamples as example;
+ghost use Rattle.cc_type.specs.KeepingLaws as keeping;
+ghost use Rattle.cc_type.specs.LoggedInference.{InferenceOverLogs};
+ghost use Rattle.cc_type.specs.Signatures as signature;
+
+/// The test of sets decides subcapturing.
+pub fn test_of_sets()
+    ensures { keeping.TestOfSetsDecides }
+{}
+
+/// What is kept is what is not settled, and every filling serves what is settled.
+pub fn settled()
+    ensures served { keeping.SettledIsServed }
+    ensures kept { keeping.KeptIsNotSettled }
+    ensures of_both { keeping.KeptOfBoth }
+{}
+
+/// What is kept has the same least filling, is served by the same fillings, fails first alike, and is fit where all is.
+pub fn kept()
+    ensures forces { keeping.KeptForcesTheSame }
+    ensures served { keeping.KeptIsServedAlike }
+    ensures fails { keeping.KeptFailsAlike }
+    ensures fit { keeping.KeptIsFit }
+{}
+
+/// The greatest position is the greatest that is free; among globals it is that of a definition.
+pub fn greatest_positions()
+    ensures greatest { signature.GreatestPositionIsGreatest }
+    ensures entry { signature.GreatestPositionHasAnEntry }
+{}
+
+/// A signature comes by avoiding the greatest position that is free, again and again, until none is left from the
+/// devices on; each time it is a lower one.
+pub fn signatures()
+    ensures over_devices { signature.SignatureOfDevicesAlone }
+    ensures avoids { signature.SignatureAvoidsTheGreatest }
+    ensures falls { signature.GreatestPositionFalls }
+{}
+
+/// The holes of a term are counted, and a list with a set for each fills them.
+pub fn filled_holes()
+    ensures counted { holes.HolesAreCounted }
+    ensures agreeing { holes.AgreeingFillingsFillAlike }
+    ensures lists { holes.ListsFillAlike }
+{}
+
+/// What is found and asked has no other holes than what it is found for.
+pub fn found_holes()
+    ensures inference { holes.InferenceAddsNoHole }
+    ensures checking { holes.CheckingAddsNoHole }
+{}
+
+/// As the program goes through a term, it comes to what inference comes to, and keeps what that asks.
+pub fn inference_over_logs()
+    ensures { InferenceOverLogs }
+{}
+
+/// Worked examples of what is kept, and of greatest positions.
+pub fn examples()
+    ensures numbers { example.NumbersAreBelowNothing }
+    ensures consoles { example.ConsolesAreKept }
+    ensures forced { example.NumbersAreForced }
+    ensures holes { example.HolesAreBelowThemselves }
+    ensures capless { example.HolesMayHaveCap }
+    ensures greatest { example.GreatestIsFound }
+{}

@@ -1,0 +1,21 @@
+//! Checking one definition.
+#![tactic(auto)]
+
+pub mod comparing;
+pub mod contexts;
+mod ends;
+pub mod found;
+mod heads;
+pub mod infer;
+pub mod laws;
+pub mod log;
+pub mod operands;
+mod rows;
+mod sizes;
+mod steps;
+pub mod stop;
+
+pub use found::Found;
+pub use infer::infer_term;
+pub use log::Log;
+pub use stop::Stop;

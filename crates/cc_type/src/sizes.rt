@@ -1,0 +1,81 @@
+//! What is found for a form, and the test of its size.
+
+ghost use Rattle.std.specs.Prelude.{◌≡◌, nat_le, IfOk};
+ghost use Rattle.cc_core.specs.Captured.{captured_variables};
+ghost use Rattle.cc_core.specs.Sizes.{type_size, size_with};
+ghost use Rattle.cc_core.specs.Views.{shape_of, type_of, form_of, term_of};
+ghost use Rattle.cc_sets.specs.Inference.{result as plain_result, tested, greatest_size};
+ghost use Rattle.cc_type.specs.Logs.{Answers};
+ghost use Rattle.cc_type.specs.Parts.{found_of};
+ghost use Rattle.cc_type.specs.Rows.{ways};
+
+use crate::found::Found;
+use crate::stop::{Stop, refused};
+use cc_base::code::Code;
+use cc_capture::CapSet;
+use cc_core::captured::cv;
+use cc_core::sizes::{size, subst_size};
+use cc_core::{Form, Node, Shape, Ty};
+use std::alloc::{AllocError, Global};
+use std::rc::Rc;
+
+// No type may be larger.
+const GREATEST_SIZE: u64 = 4096;
+
+// Whether the type is not too large.
+fn fits(ty: &Ty) -> bool
+    ensures { result ≡ nat_le (type_size (type_of ty.now)) greatest_size }
+{
+    size(ty) <= GREATEST_SIZE
+}
+
+/// Whether the type is not too large with the shape put for the outermost index.
+pub(crate) fn fits_with(ty: &Ty, by: &Shape) -> bool
+    ensures { result ≡ nat_le (size_with (shape_of by.now) (type_of ty.now)) greatest_size }
+{
+    subst_size(ty, by) <= GREATEST_SIZE
+}
+
+// The form at the places of the node.
+fn at_places_of(alloc: Global, node: &Node, form: Form) -> Result<Rc<Node>, AllocError>
+    ensures { IfOk result (λ n. term_of n.value ≡ form_of form) }
+{
+    let node = Node {
+        form,
+        at: node.at,
+        first: node.first,
+        second: node.second,
+    };
+    Ok(Rc::new(alloc, node)?)
+}
+
+/// What is found for a form without parts, at the places of the node. A type that is too large is refused.
+pub(crate) fn leaf(alloc: Global, node: &Node, form: Form, ty: Ty) -> Result<Found, Stop>
+    ensures { Answers found_of result (tested ways node.now.at (plain_result (type_of ty) (form_of form))) }
+{
+    if !fits(&ty) {
+        return Err(refused(Code::E18, node.at));
+    }
+    let node = at_places_of(alloc, node, form)?;
+    let captured = cv(alloc, &node)?;
+    Ok(Found { ty, node, captured })
+}
+
+/// What is found for a form with these captured variables, at the places of the node. A type that is too large is
+/// refused.
+pub(crate) fn with_parts(
+    alloc: Global,
+    node: &Node,
+    form: Form,
+    ty: Ty,
+    captured: CapSet,
+) -> Result<Found, Stop>
+    requires { captured ≡ captured_variables (form_of form) }
+    ensures { Answers found_of result (tested ways node.now.at (plain_result (type_of ty) (form_of form))) }
+{
+    if !fits(&ty) {
+        return Err(refused(Code::E18, node.at));
+    }
+    let node = at_places_of(alloc, node, form)?;
+    Ok(Found { ty, node, captured })
+}
