@@ -1,0 +1,7 @@
+pub mod CheckedLogs
+pub mod CheckedTypes
+pub mod JudgedDefinitions
+pub mod JudgedResults
+pub mod LoggedSteps
+pub mod SignedTypes
+pub mod StandingDefinitions

@@ -1,0 +1,24 @@
+use Rattle.std.proofs.Common.{sym, subst}
+use Rattle.cc_core.specs.Views.{type_of, term_of, context_of}
+use Rattle.cc_core.specs.WellFormed.{IsWellFormedTerm, IsWellFormedType}
+use Rattle.cc_subty.specs.Demands.{asked_of}
+use Rattle.cc_type.specs.Logs.{Meets}
+use Rattle.cc_check.specs.Definitions.{definition_of, checking_of}
+use Rattle.cc_check.specs.Rows.{below_log}
+use Rattle.cc_check.proofs.StandingDefinitions.{type_with_own_name}
+use Rattle.cc_check.proofs.recursive.check_below.Goals as goal
+
+pub check_inside-requires-clause-ty : goal.check_inside-requires-clause-ty
+check_inside-requires-clause-ty c =
+    subst (λ g. IsWellFormedType g (type_of c.args.sig)) (sym c.in_ok-inner.ensures.is)
+    (type_with_own_name (context_of c.args.ctx.now) (type_of c.args.sig) c.requires.ty)
+
+pub check_inside-requires-clause-right : goal.check_inside-requires-clause-right
+check_inside-requires-clause-right c =
+    subst (λ g. IsWellFormedTerm g (term_of c.args.def.now.right.value)) (sym c.in_ok-inner.ensures.is) c.requires.right
+
+pub returns : goal.returns
+returns c =
+    subst (λ g. Meets checking_of c.check_inside.result (asked_of c.check_inside.new.log.demands)
+    (below_log g (definition_of c.args.def.now) (type_of c.args.sig) (asked_of c.args.log.now.demands)))
+    c.in_ok-inner.ensures.is c.check_inside.ensures

@@ -1,0 +1,186 @@
+//! The verdict of a definition.
+
+ghost use Rattle.std.specs.Prelude.{◌≡◌, IfOk, MatchOption, option_map};
+ghost use Rattle.cc_base.specs.declared.code.Code.TheVariants as codes;
+ghost use Rattle.cc_core.specs.Actions.{filled_by};
+ghost use Rattle.cc_core.specs.Occurrences.{HasNoHoleInType, HasNoHoleInTerm};
+ghost use Rattle.cc_core.specs.Substitution.{filled_type};
+ghost use Rattle.cc_core.specs.Typing.{HasType};
+ghost use Rattle.cc_core.specs.Views.{shape_of, type_of, note_of, term_of, context_of};
+ghost use Rattle.cc_core.specs.WellFormed.{IsWellFormedContext, IsWellFormedType};
+ghost use Rattle.cc_meta_checking.specs.CheckingLaws.{Fits, definition_context, oldest};
+ghost use Rattle.cc_meta_checking.specs.FillingLaws.{AreGlobals};
+ghost use Rattle.cc_core.specs.Holes.{HolesAreOfParameters};
+ghost use Rattle.cc_sets.specs.Verdicts.{IsRefused, settled_or, signature_under, signature_verdict};
+ghost use Rattle.cc_subty.specs.Demands.{asked_of};
+ghost use Rattle.cc_type.specs.Logs.{Meets};
+ghost use Rattle.cc_check.specs.Definitions.{definition_of, checking_of, accepted_of};
+ghost use Rattle.cc_check.specs.Judging.{Answers, Judges, HasNoTypeIfRefused, KeepsOf};
+ghost use Rattle.cc_check.specs.Rows.{checked_log};
+
+use crate::error::{CheckError, error_of};
+use crate::found::Checking;
+use crate::holes::hole_count;
+use crate::plain::check_plain;
+use crate::recursive::check_recursive;
+use crate::signature::signature;
+use cc_base::code::{Code, Diag};
+use cc_capture::CapSet;
+use cc_core::substitution::{fill_note, fill_term, fill_type};
+use cc_core::{Checked, CoreDef, Ctx, Ty};
+use cc_solve::{Filling, first_failed, solve};
+use cc_subty::Demands;
+use cc_type::{Log, Stop};
+use std::alloc::{AllocError, Global};
+
+/// Checks the definition in the context of the devices, so many, of what is imported and of the definitions before it.
+///
+/// It is accepted exactly where it has that verdict, and refused with the code and the place of its verdict. Fails with
+/// `NoMemory` only for want of memory.
+pub fn check_def(
+    alloc: Global,
+    ctx: &Ctx,
+    devices: u32,
+    def: &CoreDef,
+) -> Result<Checked, CheckError>
+    requires fits { Fits (context_of ctx.now) (definition_of def.now) }
+    requires holes { HolesAreOfParameters (term_of def.now.right.value) }
+    ensures verdict { Judges devices (context_of ctx.now) (definition_of def.now) result }
+    ensures typed { IfOk result (λ c. HasType (definition_context (context_of ctx.now) (definition_of def.now) (type_of c.sig)) (term_of c.filled.value) (type_of c.ty)
+        × HasType (definition_context (context_of ctx.now) (definition_of def.now) (type_of c.sig)) (term_of c.filled.value) (type_of c.sig)) }
+    ensures over_devices { IfOk result (λ c. IsWellFormedType (oldest devices (context_of ctx.now)) (type_of c.sig) × HasNoHoleInType (type_of c.sig)) }
+    ensures no_hole { IfOk result (λ c. HasNoHoleInTerm (term_of c.filled.value) × HasNoHoleInType (type_of c.ty)) }
+    ensures no_type { HasNoTypeIfRefused devices (context_of ctx.now) (definition_of def.now) result }
+{
+    judge(alloc, ctx, devices, def)
+}
+
+// The verdict.
+fn judge(alloc: Global, ctx: &Ctx, devices: u32, def: &CoreDef) -> Result<Checked, CheckError>
+    requires fits { Fits (context_of ctx.now) (definition_of def.now) }
+    requires holes { HolesAreOfParameters (term_of def.now.right.value) }
+    ensures { Judges devices (context_of ctx.now) (definition_of def.now) result }
+{
+    let mut log = Log::new(alloc);
+    match find(alloc, ctx, devices, def, &mut log) {
+        Ok(found) => judge_found(alloc, ctx, devices, def, found, log.demands()),
+        Err(stop) => Err(error_of(stop)),
+    }
+}
+
+// What is found for the definition, and what is kept of all that is asked.
+fn find(
+    alloc: Global,
+    ctx: &Ctx,
+    devices: u32,
+    def: &CoreDef,
+    log: &mut Log,
+) -> Result<Checking, Stop>
+    requires { Fits (context_of ctx.now) (definition_of def.now) }
+    ensures { Meets checking_of result (asked_of log.new.demands) (checked_log devices (context_of ctx.now) (definition_of def.now) (asked_of log.old.demands)) }
+{
+    if def.recursive {
+        check_recursive(alloc, ctx, devices, def, log)
+    } else {
+        check_plain(alloc, ctx, def, log)
+    }
+}
+
+// The verdict of what is found: all that was asked is judged under the least filling, and then the signature.
+fn judge_found(
+    alloc: Global,
+    ctx: &Ctx,
+    devices: u32,
+    def: &CoreDef,
+    found: Checking,
+    demands: &Demands,
+) -> Result<Checked, CheckError>
+    requires fits { Fits (context_of ctx.now) (definition_of def.now) }
+    requires holes { HolesAreOfParameters (term_of def.now.right.value) }
+    requires keeps { KeepsOf devices (context_of ctx.now) (definition_of def.now) (checking_of found) (asked_of demands.now) }
+    ensures { Judges devices (context_of ctx.now) (definition_of def.now) result }
+{
+    let holes = hole_count(&def.right)?;
+    let filling = solve(alloc, demands, ctx.len(), holes)?;
+    let failed = first_failed(alloc, demands, &filling)?;
+    decide(alloc, ctx, devices, def, found, filling.as_slice(), failed)
+}
+
+// The verdict by what fails first, if anything does.
+fn decide(
+    alloc: Global,
+    ctx: &Ctx,
+    devices: u32,
+    def: &CoreDef,
+    found: Checking,
+    sets: &[CapSet],
+    failed: Option<Diag>,
+) -> Result<Checked, CheckError>
+    requires context { IsWellFormedContext (context_of ctx.now) }
+    requires globals { AreGlobals (context_of ctx.now) }
+    requires ty { IsWellFormedType (context_of ctx.now) (filled_type (filled_by sets.now) (type_of found.ty)) }
+    ensures { MatchOption failed
+        (Answers result (signature_verdict (filled_by sets.now) (definition_of def.now) (checking_of found) (signature_under (filled_by sets.now) devices (context_of ctx.now) (checking_of found))))
+        (λ diag. Answers result (IsRefused diag.code diag.place)) }
+{
+    match failed {
+        Some(diag) => Err(CheckError::Refused(diag)),
+        None => accept(alloc, ctx, devices, def, found, sets),
+    }
+}
+
+// The verdict where all that was asked is served: the signature decides.
+fn accept(
+    alloc: Global,
+    ctx: &Ctx,
+    devices: u32,
+    def: &CoreDef,
+    found: Checking,
+    sets: &[CapSet],
+) -> Result<Checked, CheckError>
+    requires context { IsWellFormedContext (context_of ctx.now) }
+    requires globals { AreGlobals (context_of ctx.now) }
+    requires ty { IsWellFormedType (context_of ctx.now) (filled_type (filled_by sets.now) (type_of found.ty)) }
+    ensures { Answers result (signature_verdict (filled_by sets.now) (definition_of def.now) (checking_of found) (signature_under (filled_by sets.now) devices (context_of ctx.now) (checking_of found))) }
+{
+    let Checking {
+        note,
+        completed,
+        ty,
+        settled,
+    } = found;
+    let note = fill_note(alloc, &note, sets)?;
+    let filled = fill_term(alloc, &completed, sets)?;
+    let ty = fill_type(alloc, &ty, sets)?;
+    match signature_unless(alloc, ctx, devices, &ty, settled)? {
+        Some(sig) => Ok(Checked {
+            note,
+            filled,
+            ty,
+            sig,
+        }),
+        None => Err(CheckError::Refused(Diag {
+            code: Code::E17,
+            place: def.name_at,
+        })),
+    }
+}
+
+// The signature of the type, unless it is settled.
+fn signature_unless(
+    alloc: Global,
+    ctx: &Ctx,
+    devices: u32,
+    ty: &Ty,
+    settled: Option<Ty>,
+) -> Result<Option<Ty>, AllocError>
+    requires context { IsWellFormedContext (context_of ctx.now) }
+    requires globals { AreGlobals (context_of ctx.now) }
+    requires ty { IsWellFormedType (context_of ctx.now) (type_of ty.now) }
+    ensures { IfOk result (λ t. option_map type_of t ≡ settled_or (option_map type_of settled) devices (context_of ctx.now) (type_of ty.now)) }
+{
+    match settled {
+        Some(sig) => Ok(Some(sig)),
+        None => signature(alloc, ctx, devices, ty),
+    }
+}

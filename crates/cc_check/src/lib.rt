@@ -1,0 +1,13 @@
+//! The verdict of one definition.
+#![tactic(auto)]
+
+pub mod definition;
+pub mod error;
+mod found;
+mod holes;
+mod plain;
+mod recursive;
+mod signature;
+
+pub use definition::check_def;
+pub use error::CheckError;

@@ -1,0 +1,150 @@
+//! The type that others see.
+
+ghost use Rattle.std.specs.Prelude.{◌≡◌, Some, None, IfOk, MatchOption, option_map};
+ghost use Rattle.cc_core.specs.Views.{shape_of, type_of, context_of};
+ghost use Rattle.cc_core.specs.WellFormed.{IsWellFormedContext, IsWellFormedType};
+ghost use Rattle.cc_meta_checking.specs.FillingLaws.{AreGlobals};
+ghost use Rattle.cc_sets.specs.Verdicts.{signature_of};
+ghost use Rattle.cc_type.specs.Signatures as plain;
+ghost use Rattle.cc_check.specs.Signing.{IsNearer};
+
+use cc_avoid::{AvoidError, avoid};
+use cc_capture::{CapSet, Elem, Var};
+use cc_core::{Ctx, Shape, Ty};
+use std::alloc::{AllocError, Global};
+
+/// The type that others see of a definition of the type: each position from the first definition on is avoided, the
+/// greatest first. There is none where a position is free in a bound or in the shape of an exit.
+///
+/// Only the positions that occur are avoided. Fails only for want of memory.
+pub(crate) fn signature(
+    alloc: Global,
+    ctx: &Ctx,
+    devices: u32,
+    ty: &Ty,
+) -> Result<Option<Ty>, AllocError>
+    requires context { IsWellFormedContext (context_of ctx.now) }
+    requires globals { AreGlobals (context_of ctx.now) }
+    requires ty { IsWellFormedType (context_of ctx.now) (type_of ty.now) }
+    ensures { IfOk result (λ t. option_map type_of t ≡ signature_of devices (context_of ctx.now) (type_of ty.now)) }
+{
+    let mut seen = ty.clone()?;
+    while let Some(position) = greatest_position(devices, &seen) {
+        match avoid_greatest(alloc, ctx, devices, position, &seen)? {
+            Some(next) => seen = next,
+            None => return Ok(None),
+        }
+    }
+    Ok(Some(seen))
+}
+
+// The type in which the greatest position is avoided, if it can be.
+fn avoid_greatest(
+    alloc: Global,
+    ctx: &Ctx,
+    devices: u32,
+    position: u32,
+    ty: &Ty,
+) -> Result<Option<Ty>, AllocError>
+    requires context { IsWellFormedContext (context_of ctx.now) }
+    requires globals { AreGlobals (context_of ctx.now) }
+    requires ty { IsWellFormedType (context_of ctx.now) (type_of ty.now) }
+    requires greatest { plain.greatest_position devices (type_of ty.now) ≡ Some position }
+    ensures { IfOk result (λ t. MatchOption t (signature_of devices (context_of ctx.now) (type_of ty.now) ≡ None) (λ t. IsNearer devices (context_of ctx.now) (type_of ty.now) (type_of t))) }
+{
+    match avoid(alloc, ctx, position, ty) {
+        Ok(next) => Ok(Some(next)),
+        Err(AvoidError::Unavoidable) => Ok(None),
+        Err(AvoidError::NoMemory) => Err(AllocError),
+    }
+}
+
+/// The greatest position that is free in the type, from the first one on. It takes no memory.
+#[cycle(positions)]
+pub(crate) fn greatest_position(first: u32, ty: &Ty) -> Option<u32>
+    ensures { result ≡ plain.greatest_position first (type_of ty.now) }
+{
+    greater_of(
+        greatest_in(first, &ty.shape),
+        greatest_in_set(first, &ty.set),
+    )
+}
+
+// The same of a shape.
+#[cycle(positions)]
+fn greatest_in(first: u32, shape: &Shape) -> Option<u32>
+    ensures { result ≡ plain.greatest_in first (shape_of shape.now) }
+{
+    match shape {
+        Shape::Base(_) => None,
+        Shape::Any => None,
+        Shape::TVar(variable) => position_from(first, *variable),
+        Shape::Fun(takes, gives) => greater_of(
+            greatest_position(first, takes),
+            greatest_position(first, gives),
+        ),
+        Shape::TFun(bound, gives) => greater_of(
+            greatest_in(first, bound),
+            greatest_position(first, gives),
+        ),
+        Shape::Boxed(content) => greatest_position(first, content),
+        Shape::Exit(gives) => greatest_in(first, gives),
+    }
+}
+
+// The same of a set.
+fn greatest_in_set(first: u32, set: &CapSet) -> Option<u32>
+    ensures { result ≡ plain.greatest_in_set first set.now }
+{
+    let mut greatest = None;
+    for elem in set.iter() {
+        greatest = greater_of(greatest, element_position(first, elem));
+    }
+    greatest
+}
+
+// The position of an element, from the first one on.
+fn element_position(first: u32, elem: Elem) -> Option<u32>
+    ensures { result ≡ plain.element_position first elem }
+{
+    match elem {
+        Elem::Var(variable) => position_from(first, variable),
+        Elem::Cap => None,
+        Elem::Hole(_) => None,
+    }
+}
+
+// The position of a variable, from the first one on.
+fn position_from(first: u32, variable: Var) -> Option<u32>
+    ensures { result ≡ plain.position_from first variable }
+{
+    match variable {
+        Var::Free(position) => {
+            if position < first {
+                None
+            } else {
+                Some(position)
+            }
+        }
+        Var::Bound(_) => None,
+    }
+}
+
+// The greater of two positions, where there are any.
+fn greater_of(one: Option<u32>, other: Option<u32>) -> Option<u32>
+    ensures { result ≡ plain.greater_of one other }
+{
+    match one {
+        Some(first) => match other {
+            Some(second) => {
+                if first < second {
+                    Some(second)
+                } else {
+                    Some(first)
+                }
+            }
+            None => one,
+        },
+        None => other,
+    }
+}
