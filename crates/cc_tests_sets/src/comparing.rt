@@ -1,0 +1,295 @@
+// The comparison of types: whether they match, and what it asks of their sets, in order. In the context there are two
+// consoles, and a type variable over functions.
+ghost use Rattle.std.specs.Prelude.{IfOk};
+ghost use Rattle.cc_core.specs.Views.{context_of};
+ghost use Rattle.cc_core.specs.WellFormed.{IsWellFormedContext};
+
+use crate::making::{at, bounded, console, declared, function_type, nested_functions, type_of};
+use cc_base::place::Place;
+use cc_core::same::same_shape;
+use cc_core::wellformed::{wf, wf_shape};
+use cc_core::{Base, CapSet, Ctx, Elem, Shape, Ty, Var};
+use cc_subty::{Demand, Demands, SubtypeError, expose, subtype};
+use std::alloc::{AllocError, Global};
+use std::rc::Rc;
+
+const ONE: &[Elem] = &[Elem::Var(Var::Free(0))];
+
+const OTHER: &[Elem] = &[Elem::Var(Var::Free(1))];
+
+const BOTH: &[Elem] = &[Elem::Var(Var::Free(0)), Elem::Var(Var::Free(1))];
+
+// The parameter, or the shape that a type function takes, as it stands in the result; and where it is the entry after
+// the others.
+const PARAMETER: &[Elem] = &[Elem::Var(Var::Bound(0))];
+
+const PARAMETER_ENTRY: &[Elem] = &[Elem::Var(Var::Free(3))];
+
+const VARIABLE: Shape = Shape::TVar(Var::Free(2));
+
+// What a comparison came to.
+#[derive(Drop)]
+enum Compared {
+    IllFormed,
+    Apart,
+    Asks(Demands),
+}
+
+fn comparison(alloc: Global, ctx: &Ctx, left: &Ty, right: &Ty) -> Result<Compared, AllocError>
+    requires { IsWellFormedContext (context_of ctx.now) }
+{
+    if !wf(ctx, left) || !wf(ctx, right) {
+        return Ok(Compared::IllFormed);
+    }
+    let mut demands = Demands::new(alloc);
+    match subtype(
+        alloc,
+        ctx,
+        left,
+        right,
+        Place { line: 1, col: 1 },
+        &mut demands,
+    ) {
+        Ok(()) => Ok(Compared::Asks(demands)),
+        Err(SubtypeError::ShapeMismatch) => Ok(Compared::Apart),
+        Err(SubtypeError::NoMemory) => Err(AllocError),
+    }
+}
+
+// What a demand is to ask: that the first set is below the second one.
+type Wanted<'a> = (&'a [Elem], &'a [Elem]);
+
+fn is_wanted(alloc: Global, demand: &Demand, wanted: Wanted<'_>) -> Result<bool, AllocError> {
+    match demand {
+        Demand::Sub { left, right, .. } => {
+            let first = CapSet::from_elems(alloc, wanted.0)?;
+            let second = CapSet::from_elems(alloc, wanted.1)?;
+            Ok(*left == first && *right == second)
+        }
+        Demand::NoCap { .. } => Ok(false),
+    }
+}
+
+// Whether just this is asked, in this order.
+fn asks(alloc: Global, compared: &Compared, wanted: &[Wanted<'_>]) -> Result<bool, AllocError> {
+    match compared {
+        Compared::Asks(demands) => {
+            let mut all = demands.len() == wanted.len();
+            for (demand, pair) in demands.as_slice().iter().zip(wanted) {
+                all &= is_wanted(alloc, demand, *pair)?;
+            }
+            Ok(all)
+        }
+        _ => Ok(false),
+    }
+}
+
+fn matches(
+    alloc: Global,
+    ctx: &Ctx,
+    left: Ty,
+    right: Ty,
+    wanted: &[Wanted<'_>],
+) -> Result<bool, AllocError>
+    requires { IsWellFormedContext (context_of ctx.now) }
+{
+    let compared = comparison(alloc, ctx, &left, &right)?;
+    asks(alloc, &compared, wanted)
+}
+
+fn is_apart(alloc: Global, ctx: &Ctx, left: Ty, right: Ty) -> Result<bool, AllocError>
+    requires { IsWellFormedContext (context_of ctx.now) }
+{
+    match comparison(alloc, ctx, &left, &right)? {
+        Compared::Apart => Ok(true),
+        _ => Ok(false),
+    }
+}
+
+// The variable's bound is functions whose parameter has one console and whose result has the other.
+fn context(alloc: Global) -> Result<Ctx, AllocError>
+    ensures { IfOk result (λ c. IsWellFormedContext (context_of c)) }
+{
+    let ctx = console(alloc)?;
+    let ty = type_of(alloc, Shape::Base(Base::Console), &[Elem::Cap])?;
+    let ctx = declared(alloc, &ctx, ty)?;
+    bounded(alloc, &ctx, function(alloc, ONE, OTHER)?)
+}
+
+fn number(alloc: Global, elems: &[Elem]) -> Result<Ty, AllocError> {
+    type_of(alloc, Shape::Base(Base::Int), elems)
+}
+
+fn text(alloc: Global, elems: &[Elem]) -> Result<Ty, AllocError> {
+    type_of(alloc, Shape::Base(Base::Str), elems)
+}
+
+fn function(alloc: Global, taken: &[Elem], given: &[Elem]) -> Result<Shape, AllocError> {
+    let takes = Rc::new(alloc, number(alloc, taken)?)?;
+    let gives = Rc::new(alloc, number(alloc, given)?)?;
+    Ok(Shape::Fun(takes, gives))
+}
+
+fn type_function(alloc: Global, bound: Shape, gives: Ty) -> Result<Shape, AllocError> {
+    let bound = Rc::new(alloc, bound)?;
+    let gives = Rc::new(alloc, gives)?;
+    Ok(Shape::TFun(bound, gives))
+}
+
+fn boxed(alloc: Global, content: Ty) -> Result<Shape, AllocError> {
+    Ok(Shape::Boxed(Rc::new(alloc, content)?))
+}
+
+fn exit(alloc: Global, base: Base) -> Result<Shape, AllocError> {
+    Ok(Shape::Exit(Rc::new(alloc, Shape::Base(base))?))
+}
+
+#[test]
+fn base_shapes(rt: HostRuntime) -> Result<(), AllocError> {
+    let alloc = rt.alloc();
+    let ctx = context(alloc)?;
+    let (left, right) = (number(alloc, ONE)?, number(alloc, OTHER)?);
+    assert!(rt; matches(alloc, &ctx, left, right, &[(ONE, OTHER)])?);
+    let (left, right) = (number(alloc, ONE)?, text(alloc, ONE)?);
+    assert!(rt; is_apart(alloc, &ctx, left, right)?);
+    Ok(())
+}
+
+#[test]
+fn the_greatest_shape(rt: HostRuntime) -> Result<(), AllocError> {
+    let alloc = rt.alloc();
+    let ctx = context(alloc)?;
+    let left = type_of(alloc, function(alloc, ONE, PARAMETER)?, ONE)?;
+    let right = type_of(alloc, Shape::Any, OTHER)?;
+    assert!(rt; matches(alloc, &ctx, left, right, &[(ONE, OTHER)])?);
+    let left = type_of(alloc, Shape::Any, ONE)?;
+    let right = type_of(alloc, Shape::Any, OTHER)?;
+    assert!(rt; matches(alloc, &ctx, left, right.clone()?, &[(ONE, OTHER)])?);
+    assert!(rt; is_apart(alloc, &ctx, right, number(alloc, OTHER)?)?);
+    Ok(())
+}
+
+#[test]
+fn type_variables(rt: HostRuntime) -> Result<(), AllocError> {
+    let alloc = rt.alloc();
+    let ctx = context(alloc)?;
+    let left = type_of(alloc, VARIABLE, &[])?;
+    let right = type_of(alloc, function(alloc, OTHER, BOTH)?, BOTH)?;
+    let wanted: [Wanted<'_>; 3] = [(&[], BOTH), (OTHER, ONE), (OTHER, BOTH)];
+    assert!(rt; matches(alloc, &ctx, left.clone()?, right, &wanted)?);
+    let right = type_of(alloc, VARIABLE, ONE)?;
+    assert!(rt; matches(alloc, &ctx, left.clone()?, right, &[(&[], ONE)])?);
+    assert!(rt; is_apart(alloc, &ctx, left, number(alloc, &[])?)?);
+    Ok(())
+}
+
+#[test]
+fn functions(rt: HostRuntime) -> Result<(), AllocError> {
+    let alloc = rt.alloc();
+    let ctx = context(alloc)?;
+    let left = type_of(alloc, function(alloc, ONE, PARAMETER)?, ONE)?;
+    let right = type_of(alloc, function(alloc, OTHER, BOTH)?, OTHER)?;
+    let wanted: [Wanted<'_>; 3] = [(ONE, OTHER), (OTHER, ONE), (PARAMETER_ENTRY, BOTH)];
+    assert!(rt; matches(alloc, &ctx, left.clone()?, right, &wanted)?);
+    let right = type_of(alloc, VARIABLE, ONE)?;
+    assert!(rt; is_apart(alloc, &ctx, left, right)?);
+    Ok(())
+}
+
+#[test]
+fn type_functions(rt: HostRuntime) -> Result<(), AllocError> {
+    let alloc = rt.alloc();
+    let ctx = context(alloc)?;
+    let gives = type_of(alloc, Shape::TVar(Var::Bound(0)), ONE)?;
+    let left = type_of(
+        alloc,
+        type_function(alloc, Shape::Base(Base::Int), gives)?,
+        &[],
+    )?;
+    let shape = type_function(alloc, Shape::Base(Base::Int), number(alloc, OTHER)?)?;
+    let right = type_of(alloc, shape, ONE)?;
+    assert!(rt;
+        matches(
+            alloc,
+            &ctx,
+            left.clone()?,
+            right,
+            &[(&[], ONE), (ONE, OTHER)]
+        )?
+    );
+    let shape = type_function(alloc, Shape::Any, number(alloc, OTHER)?)?;
+    let right = type_of(alloc, shape, ONE)?;
+    assert!(rt; is_apart(alloc, &ctx, left, right)?);
+    Ok(())
+}
+
+#[test]
+fn boxes(rt: HostRuntime) -> Result<(), AllocError> {
+    let alloc = rt.alloc();
+    let ctx = context(alloc)?;
+    let left = type_of(alloc, boxed(alloc, number(alloc, ONE)?)?, &[])?;
+    let right = type_of(alloc, boxed(alloc, number(alloc, OTHER)?)?, ONE)?;
+    assert!(rt;
+        matches(
+            alloc,
+            &ctx,
+            left.clone()?,
+            right,
+            &[(&[], ONE), (ONE, OTHER)]
+        )?
+    );
+    let right = type_of(alloc, boxed(alloc, text(alloc, ONE)?)?, &[])?;
+    assert!(rt; is_apart(alloc, &ctx, left, right)?);
+    Ok(())
+}
+
+#[test]
+fn exits(rt: HostRuntime) -> Result<(), AllocError> {
+    let alloc = rt.alloc();
+    let ctx = context(alloc)?;
+    let left = type_of(alloc, exit(alloc, Base::Int)?, ONE)?;
+    let right = type_of(alloc, exit(alloc, Base::Int)?, OTHER)?;
+    assert!(rt; matches(alloc, &ctx, left.clone()?, right, &[(ONE, OTHER)])?);
+    let right = type_of(alloc, exit(alloc, Base::Str)?, ONE)?;
+    assert!(rt; is_apart(alloc, &ctx, left, right)?);
+    Ok(())
+}
+
+fn how_much(compared: &Compared) -> usize {
+    match compared {
+        Compared::Asks(demands) => demands.len(),
+        _ => 0,
+    }
+}
+
+// One demand for the outermost sets, and two for each function.
+#[test]
+fn nested_functions_ask_for_each_set(rt: HostRuntime) -> Result<(), AllocError> {
+    let alloc = rt.alloc();
+    let ctx = context(alloc)?;
+    let left = nested_functions(alloc, 200, ONE, ONE)?;
+    let right = nested_functions(alloc, 200, OTHER, OTHER)?;
+    assert!(rt; how_much(&comparison(alloc, &ctx, &left, &right)?) == 401);
+    Ok(())
+}
+
+// A type variable below numbers, and so many more, each below the one before.
+fn variables(alloc: Global, count: u32) -> Result<Ctx, AllocError>
+    ensures { IfOk result (λ c. IsWellFormedContext (context_of c)) }
+{
+    let mut ctx = bounded(alloc, &Ctx::new(), Shape::Base(Base::Int))?;
+    for index in 0..count {
+        ctx = bounded(alloc, &ctx, Shape::TVar(Var::Free(index)))?;
+    }
+    Ok(ctx)
+}
+
+#[test]
+fn a_chain_of_type_variables_is_exposed(rt: HostRuntime) -> Result<(), AllocError> {
+    let alloc = rt.alloc();
+    let ctx = variables(alloc, 99)?;
+    let newest = Rc::new(alloc, Shape::TVar(Var::Free(99)))?;
+    assert!(rt; wf_shape(&ctx, &newest));
+    assert!(rt; same_shape(expose(&ctx, &newest), &Shape::Base(Base::Int)));
+    Ok(())
+}
