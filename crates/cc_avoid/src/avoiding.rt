@@ -82,6 +82,7 @@ fn avoid_at(alloc: Global, bind: &Bind, position: u32, ty: &Ty) -> Result<Ty, Av
     match bind {
         Bind::Var(own) => avoid_type(alloc, position, &own.set, ty),
         Bind::TVar(_) => Err(AvoidError::Unavoidable),
+        Bind::Unread { set, .. } => avoid_type(alloc, position, set, ty),
     }
 }
 

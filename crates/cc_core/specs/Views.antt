@@ -17,6 +17,7 @@ use Rattle.cc_core.specs.Terms.{Note, Absent, Written, Own, Term, VariableTerm, 
 use Rattle.cc_core.specs.Terms.{TypeFunctionTerm, BoxTerm, Application, TypeApplication, Unboxing, Let, Primitive}
 use Rattle.cc_core.specs.Terms.{Conditional, Repetition, Operation, Boundary, Leave}
 use Rattle.cc_core.specs.Contexts.{Bind, TermEntry, TypeEntry, Context}
+use Rattle.cc_core.specs.Reading.{read_shape}
 
 -- the shape, with the types in it taken apart
 abbrev pub shape_of : DeclaredShape → Shape
@@ -63,10 +64,11 @@ form_of (forms.Leave gives exit value) = Leave (shape_of gives.value.shape.value
 abbrev pub term_of : Node → Term
 term_of node = form_of node.form
 
--- the entry of a context
+-- the entry of a context, whose shape is read where that is still to be done
 abbrev pub bind_of : DeclaredBind → Bind
 bind_of (binds.Var type) = TermEntry (shape_of type.shape.value) type.set
 bind_of (binds.TVar bound) = TypeEntry (shape_of bound.value)
+bind_of (binds.Unread shape set entries) = TermEntry (read_shape entries (shape_of shape.value)) set
 
 -- the context of a list of entries, the newest first
 abbrev pub context_of : List DeclaredBind → Context

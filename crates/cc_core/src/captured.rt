@@ -5,6 +5,7 @@ ghost use Rattle.cc_capture.specs.Sets.{union};
 ghost use Rattle.cc_capture.specs.declared.var.Elem.TheVariants.{Var as Variable};
 ghost use Rattle.cc_core.specs.Captured as plain;
 ghost use Rattle.cc_core.specs.Captured.{captured_variables};
+ghost use Rattle.cc_core.specs.Stores.{is_function};
 ghost use Rattle.cc_core.specs.Views.{form_of, term_of};
 
 use crate::terms::{Form, Node};
@@ -69,6 +70,17 @@ pub fn is_value(node: &Node) -> bool
         Form::Fun(_, _) => true,
         Form::TFun(_, _) => true,
         Form::Boxed(_) => true,
+        _ => false,
+    }
+}
+
+/// Whether the term is a function or a type function.
+pub fn is_function(node: &Node) -> bool
+    ensures { result ≡ is_function (term_of node.now) }
+{
+    match &node.form {
+        Form::Fun(_, _) => true,
+        Form::TFun(_, _) => true,
         _ => false,
     }
 }

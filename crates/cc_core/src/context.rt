@@ -4,15 +4,25 @@ ghost use Rattle.cc_core.specs.Entries.{tree_entries, entries, IsCounted, AreCou
 ghost use Rattle.cc_core.specs.Views.{bind_of, context_of};
 
 use crate::types::{Shape, Ty};
+use cc_capture::CapSet;
 use std::alloc::{AllocError, Global};
 use std::marker::Model;
 use std::rc::Rc;
 
-/// An entry of a context: a variable with its type, or a type variable with its bound.
+/// An entry of a context.
 #[derive(Drop)]
 pub enum Bind {
+    /// A variable of terms, with its type.
     Var(Ty),
+    /// A type variable, with its bound.
     TVar(Rc<Shape>),
+    /// A variable of terms whose shape is shared with a type that stands under so many entries: it is that shape as
+    /// `read_shape` reads it among them. The set is already as it stands in the context.
+    Unread {
+        shape: Rc<Shape>,
+        set: CapSet,
+        entries: u32,
+    },
 }
 
 // A tree of entries: the newest, and two halves with equally many of the others, the newer ones in the first. So it

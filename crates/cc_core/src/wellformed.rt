@@ -83,6 +83,7 @@ fn kind_of(bind: &Bind) -> Kind
     match bind {
         Bind::Var(_) => Kind::Term,
         Bind::TVar(_) => Kind::Shape,
+        Bind::Unread { .. } => Kind::Term,
     }
 }
 

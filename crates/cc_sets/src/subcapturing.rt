@@ -103,6 +103,7 @@ fn mark_declared(marks: &mut Marks, bind: &Bind, right: &CapSet) -> bool
     match bind {
         Bind::Var(ty) => mark_missing(marks, &ty.set, right),
         Bind::TVar(_) => false,
+        Bind::Unread { set, .. } => mark_missing(marks, set, right),
     }
 }
 

@@ -76,6 +76,7 @@ fn put_declared(
     match bind {
         Bind::Var(ty) => put_elems(marks, ends, globals, &ty.set),
         Bind::TVar(_) => Ok(()),
+        Bind::Unread { set, .. } => put_elems(marks, ends, globals, set),
     }
 }
 

@@ -78,8 +78,10 @@ fn failure(demand: &Demand) -> Diag
     }
 }
 
-// Whether the filling serves what is asked. The marks have to be clear, and are clear afterwards.
-fn is_served(
+/// Whether the filling serves what is asked. The marks have to be clear, and are clear afterwards.
+///
+/// Fails only for want of memory.
+pub fn is_served(
     alloc: Global,
     demand: &Demand,
     filling: &Filling,
@@ -87,7 +89,7 @@ fn is_served(
 ) -> Result<bool, AllocError>
     requires judged { CanBeJudged (filling_of filling.now) (demand_of demand.now ∷ []) }
     requires clear { IsClear marks.old }
-    ensures clear { OnOk result (IsClear marks.new) }
+    ensures clear { IsClear marks.new }
     ensures served { IfOk result (λ b. IsTrue b ↔ IsServed (filling_of filling.now) (demand_of demand.now).asked) }
 {
     match demand {
@@ -196,6 +198,7 @@ fn mark_declared(marks: &mut Marks, bind: &Bind, right: &CapSet, filling: &Filli
     match bind {
         Bind::Var(ty) => mark_filled(marks, &ty.set, right, filling),
         Bind::TVar(_) => false,
+        Bind::Unread { set, .. } => mark_filled(marks, set, right, filling),
     }
 }
 

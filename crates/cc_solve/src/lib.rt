@@ -9,5 +9,5 @@ pub mod solving;
 mod spreading;
 
 pub use filling::Filling;
-pub use judging::first_failed;
+pub use judging::{first_failed, is_served};
 pub use solving::solve;

@@ -328,12 +328,13 @@ fn same_bind(left: &Bind, right: &Bind) -> bool {
     match left {
         Bind::Var(ty) => match right {
             Bind::Var(other) => same_type(ty, other),
-            Bind::TVar(_) => false,
+            _ => false,
         },
         Bind::TVar(bound) => match right {
             Bind::TVar(other) => same_shape(bound, other),
-            Bind::Var(_) => false,
+            _ => false,
         },
+        Bind::Unread { .. } => false,
     }
 }
 
