@@ -20,7 +20,7 @@ use crate::exposing::bound_of;
 use cc_base::place::Place;
 use cc_capture::{CapSet, Var, same_var};
 use cc_core::acting::{self, Action};
-use cc_core::reading::{read_set, read_shape, read_type};
+use cc_core::reading::{read_set, read_shape};
 use cc_core::same::same_shape;
 use cc_core::{Bind, Ctx, Shape, Ty};
 use std::alloc::{AllocError, Global};
@@ -75,12 +75,21 @@ fn ask(
     })
 }
 
-// The context under a parameter of the type, which is read in the context.
+// The context under a parameter of the type, which is read in the context. Its shape is shared.
 fn under_parameter(alloc: Global, ctx: &Ctx, ty: &Ty) -> Result<Ctx, AllocError>
     ensures { IfOk result (λ c. context_of c ≡ entry_of (reading.read_type (length (context_of ctx.now)) (type_of ty.now)) ∷ context_of ctx.now) }
 {
-    let ty = read_type(alloc, ty, entries(ctx))?;
-    ctx.push(alloc, Bind::Var(ty))
+    let shape = ty.shape.clone()?;
+    let entries = entries(ctx);
+    let set = read_set(alloc, &ty.set, entries)?;
+    ctx.push(
+        alloc,
+        Bind::Unread {
+            shape,
+            set,
+            entries,
+        },
+    )
 }
 
 // The context under a type variable with the bound, which is read in the context.

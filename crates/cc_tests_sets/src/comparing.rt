@@ -4,7 +4,7 @@ ghost use Rattle.std.specs.Prelude.{IfOk};
 ghost use Rattle.cc_core.specs.Views.{context_of};
 ghost use Rattle.cc_core.specs.WellFormed.{IsWellFormedContext};
 
-use crate::making::{at, bounded, console, declared, function_type, nested_functions, type_of};
+use crate::making::{bounded, console, declared, nested_functions, nested_parameters, type_of};
 use cc_base::place::Place;
 use cc_core::same::same_shape;
 use cc_core::wellformed::{wf, wf_shape};
@@ -270,6 +270,105 @@ fn nested_functions_ask_for_each_set(rt: HostRuntime) -> Result<(), AllocError> 
     let left = nested_functions(alloc, 200, ONE, ONE)?;
     let right = nested_functions(alloc, 200, OTHER, OTHER)?;
     assert!(rt; how_much(&comparison(alloc, &ctx, &left, &right)?) == 401);
+    Ok(())
+}
+
+// Whether so many demands are asked, the first set to be below the other one and the other one to be below the first
+// in turn.
+fn asks_in_turn(alloc: Global, compared: &Compared, count: usize) -> Result<bool, AllocError> {
+    match compared {
+        Compared::Asks(demands) => {
+            let mut all = demands.len() == count;
+            let mut straight = true;
+            for demand in demands.as_slice() {
+                let wanted = if straight { (ONE, OTHER) } else { (OTHER, ONE) };
+                all &= is_wanted(alloc, demand, wanted)?;
+                straight = !straight;
+            }
+            Ok(all)
+        }
+        _ => Ok(false),
+    }
+}
+
+// Each parameter is compared the other way round than its function. The results are asked for last, the innermost
+// first, so that in all the demands go to and fro.
+#[test]
+fn nested_parameters_turn_round(rt: HostRuntime) -> Result<(), AllocError> {
+    let alloc = rt.alloc();
+    let ctx = context(alloc)?;
+    let left = nested_parameters(alloc, 200, ONE)?;
+    let right = nested_parameters(alloc, 200, OTHER)?;
+    assert!(rt; asks_in_turn(alloc, &comparison(alloc, &ctx, &left, &right)?, 401)?);
+    let deeper = nested_parameters(alloc, 201, OTHER)?;
+    assert!(rt; is_apart(alloc, &ctx, left, deeper)?);
+    Ok(())
+}
+
+// How much the types ask, which is found so many times, or none where they are not well formed or do not match.
+fn asked_often(
+    alloc: Global,
+    ctx: &Ctx,
+    left: &Ty,
+    right: &Ty,
+    times: u32,
+) -> Result<Option<usize>, AllocError>
+    requires { IsWellFormedContext (context_of ctx.now) }
+{
+    let mut asked = Some(0);
+    if !wf(ctx, left) || !wf(ctx, right) {
+        return Ok(None);
+    }
+    for _index in 0..times {
+        let mut demands = Demands::new(alloc);
+        match subtype(
+            alloc,
+            ctx,
+            left,
+            right,
+            Place { line: 1, col: 1 },
+            &mut demands,
+        ) {
+            Ok(()) => asked = Some(demands.len()),
+            Err(SubtypeError::ShapeMismatch) => return Ok(None),
+            Err(SubtypeError::NoMemory) => return Err(AllocError),
+        }
+    }
+    Ok(asked)
+}
+
+// Whether so many nested parameters, in a type of four times the size, ask for each of their sets, so many times.
+fn parameters(alloc: Global, count: u32, times: u32) -> Result<bool, AllocError> {
+    let ctx = context(alloc)?;
+    let left = nested_parameters(alloc, count, ONE)?;
+    let right = nested_parameters(alloc, count, OTHER)?;
+    match asked_often(alloc, &ctx, &left, &right, times)? {
+        Some(asked) => Ok(asked == 2 * count as usize + 1),
+        None => Ok(false),
+    }
+}
+
+#[test]
+fn parameters_of_2000_once(rt: HostRuntime) -> Result<(), AllocError> {
+    assert!(rt; parameters(rt.alloc(), 500, 1)?);
+    Ok(())
+}
+
+#[test]
+fn parameters_of_2000_a_hundred_times(rt: HostRuntime) -> Result<(), AllocError> {
+    assert!(rt; parameters(rt.alloc(), 500, 100)?);
+    Ok(())
+}
+
+#[test]
+fn parameters_of_4000_once(rt: HostRuntime) -> Result<(), AllocError> {
+    assert!(rt; parameters(rt.alloc(), 1000, 1)?);
+    Ok(())
+}
+
+#[test]
+fn parameters_of_4000_a_hundred_times(rt: HostRuntime) -> Result<(), AllocError> {
+    assert!(rt; parameters(rt.alloc(), 1000, 100)?);
     Ok(())
 }
 

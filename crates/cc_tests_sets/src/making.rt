@@ -47,6 +47,16 @@ pub fn nested_functions(
     Ok(ty)
 }
 
+// So many functions, each the parameter of the one before, down to one that takes a number. Each part has the set.
+pub fn nested_parameters(alloc: Global, count: u32, elems: &[Elem]) -> Result<Ty, AllocError> {
+    let mut ty = type_of(alloc, Shape::Base(Base::Int), elems)?;
+    for _index in 0..count {
+        let gives = type_of(alloc, Shape::Base(Base::Unit), elems)?;
+        ty = function_type(alloc, ty, gives, elems)?;
+    }
+    Ok(ty)
+}
+
 // Functions from numbers to unit, with a set.
 pub fn printer(alloc: Global, elems: &[Elem]) -> Result<Ty, AllocError> {
     let takes = type_of(alloc, Shape::Base(Base::Int), &[])?;
