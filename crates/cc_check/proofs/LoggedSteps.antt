@@ -1,9 +1,9 @@
 -- What steps come to behind a log, one after the other.
-use Rattle.std.proofs.Common.{◌≡◌, List, ◌++◌, Option, Some, None, refl, sym, ap, ◌∙◌}
+use Rattle.std.proofs.Common.{◌≡◌, List, Option, Some, None, refl, sym, ap, ◌∙◌}
 use Rattle.cc_base.specs.declared.code.Code.{Code}
 use Rattle.cc_base.specs.declared.place.Place.{Place}
 use Rattle.cc_sets.specs.Outcomes.{Placed, Outcome, NoAnswer, Refused, Found, finds, ◌>>=◌, found_or}
-use Rattle.cc_type.specs.Keeping.{kept}
+use Rattle.cc_type.specs.Keeping.{keeping}
 use Rattle.cc_type.specs.Logs.{Logged, Stopped, Got, after, followed, plainly}
 use Rattle.cc_type.proofs.InferredLogs.{none_kept, nothing_before, joined}
 
@@ -27,11 +27,11 @@ after_option log code at None rest next h = refl
 
 -- what an outcome was, from what it comes to behind a log
 pub got_parts : {A : Type 0} (log : List Placed) (o : Outcome A) (a : A) (later : List Placed) → after log o ≡ Got a later
-    → (asked : List Placed) × (o ≡ Found a asked) × (later ≡ log ++ kept asked)
+    → (asked : List Placed) × (o ≡ Found a asked) × (later ≡ keeping log asked)
 got_parts log NoAnswer a later e = cc
 got_parts log (Refused code at) a later e = cc
 got_parts log (Found b asked) a later e =
-    let same : b ≡ a = cc in let rest : later ≡ log ++ kept asked = cc in (asked, ap (λ x. Found x asked) same, rest)
+    let same : b ≡ a = cc in let rest : later ≡ keeping log asked = cc in (asked, ap (λ x. Found x asked) same, rest)
 
 pub stopped_parts : {A : Type 0} (log : List Placed) (o : Outcome A) (code : Code) (at : Place)
     → after log o ≡ Stopped code at → o ≡ Refused code at

@@ -1,6 +1,6 @@
 -- Inference over a log is inference, and what it asks is kept behind the log.
 use Rattle.std.proofs.Common.{◌≡◌, ℕ, Bool, true, false, cond, List, [], ◌∷◌, ◌++◌, length, Option, Some, None, refl}
-use Rattle.std.proofs.Common.{sym, ap, ◌∙◌, append_assoc, append-nil}
+use Rattle.std.proofs.Common.{sym, ap, ◌∙◌, append_assoc}
 use Rattle.cc_base.specs.declared.code.Code.TheVariants.{E13, E17, E18}
 use Rattle.cc_base.specs.declared.literal.Base.{Base}
 use Rattle.cc_base.specs.declared.literal.Base.TheVariants as bases
@@ -24,7 +24,7 @@ use Rattle.cc_sets.specs.Inference.{Result, result, in_context, type_in, shape_i
 use Rattle.cc_sets.specs.Inference.{entry_type, variable_type, function_head, type_function_head, box_head, exit_head}
 use Rattle.cc_sets.specs.Inference.{device_head, operand, operation_argument, opening_set, named_by, noted, left_behind}
 use Rattle.cc_sets.specs.Inference.{tested, sized, inferred}
-use Rattle.cc_type.specs.Keeping.{kept}
+use Rattle.cc_type.specs.Keeping.{keeping}
 use Rattle.cc_type.specs.Logs.{Logged, Lost, Stopped, Got, after, followed, plainly}
 use Rattle.cc_type.specs.Rows.{comparing, ways, directly, ends, operand_log, argument_log, opening_log, own_named}
 use Rattle.cc_type.specs.Rows.{noted_log, inferred_log}
@@ -36,8 +36,8 @@ IsPlain NoAnswer = Unit {0}
 IsPlain (Refused code at) = Unit {0}
 IsPlain (Found value asked) = asked ≡ []
 
-pub none_kept : (log : List Placed) → log ≡ log ++ kept []
-none_kept log = sym (append-nil log)
+pub none_kept : (log : List Placed) → log ≡ keeping log []
+none_kept log = refl
 
 pub nothing_before : {A : Type 0} (o : Outcome A) → asked_before [] o ≡ o
 nothing_before NoAnswer = refl
@@ -45,11 +45,10 @@ nothing_before (Refused code at) = refl
 nothing_before (Found a asked) = refl
 
 kept_behind : {A : Type 0} (log asked : List Placed) (o : Outcome A)
-    → after (log ++ kept asked) o ≡ after log (asked_before asked o)
+    → after (keeping log asked) o ≡ after log (asked_before asked o)
 kept_behind log asked NoAnswer = refl
 kept_behind log asked (Refused code at) = refl
-kept_behind log asked (Found a more) =
-    ap (λ l. Got a l) (append_assoc log (kept asked) (kept more) ∙ ap (λ l. log ++ l) (sym (kept_of_both asked more)))
+kept_behind log asked (Found a more) = ap (λ l. Got a l) (sym (kept_of_both log asked more))
 
 more_before : {A : Type 0} (one two : List Placed) (o : Outcome A)
     → asked_before (one ++ two) o ≡ asked_before one (asked_before two o)
@@ -72,7 +71,7 @@ pub joined : {A B : Type 0} (log : List Placed) (steps : Logged A) (rest : A →
 unfolding ◌>>=◌
 joined log steps rest NoAnswer next e h = ap (λ s. followed s rest) e
 joined log steps rest (Refused code at) next e h = ap (λ s. followed s rest) e
-joined log steps rest (Found a asked) next e h = ap (λ s. followed s rest) e ∙ h a (log ++ kept asked)
+joined log steps rest (Found a asked) next e h = ap (λ s. followed s rest) e ∙ h a (keeping log asked)
     ∙ kept_behind log asked (next a)
 
 -- a step that asks nothing, and the rest
@@ -107,7 +106,7 @@ directly_plain (Found a asked) f h = h a
 ended : {A : Type 0} (log : List Placed) (o : Outcome A) → IsPlain o → ends o log ≡ after log o
 ended log NoAnswer p = refl
 ended log (Refused code at) p = refl
-ended log (Found a asked) p = ap (λ l. Got a l) (none_kept log ∙ ap (λ l. log ++ kept l) (sym p))
+ended log (Found a asked) p = ap (λ l. Got a (keeping log l)) (sym p)
 
 finds_first : {A B : Type 0} (a : A) (f : A → Outcome B) → ◌>>=◌ (finds a) f ≡ f a
 unfolding ◌>>=◌

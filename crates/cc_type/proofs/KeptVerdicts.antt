@@ -1,5 +1,5 @@
 -- The verdict of a definition from what is kept, and from a list of sets that fills its holes.
-use Rattle.std.proofs.Common.{◌≡◌, ℕ, ◌<◌, length, Some, List, refl, ap, inl, inr}
+use Rattle.std.proofs.Common.{◌≡◌, ℕ, ◌<◌, length, Some, List, [], ◌∷◌, refl, ap, inl, inr}
 use Rattle.cc_base.specs.declared.code.Code.{Code}
 use Rattle.cc_base.specs.declared.place.Place.{Place}
 use Rattle.cc_capture.specs.declared.var.Elem.TheVariants.{Hole}
@@ -8,16 +8,17 @@ use Rattle.cc_core.specs.Actions.{filled_by}
 use Rattle.cc_core.specs.Shapes.{Shape, CapturingType}
 use Rattle.cc_core.specs.Contexts.{TermEntry, Context, lookup}
 use Rattle.cc_sets.specs.Comparison.{Demand}
-use Rattle.cc_sets.specs.Outcomes.{Asked, IsBelow, Placed, Found}
+use Rattle.cc_sets.specs.Outcomes.{Asked, IsBelow, IsCapless, Placed, Found}
 use Rattle.cc_sets.specs.Fillings.{Filling, AllServed, IsAskedIn, IsLeast, FailsFirst}
 use Rattle.cc_sets.specs.Verdicts.{Definition, Checking, IsRefused, IsChecked, Deserves, settled_or}
 use Rattle.cc_sets.specs.Verdicts.{signature_under, accepted_with, signature_verdict}
-use Rattle.cc_meta_checking.specs.FillingLaws.{AreFit}
+use Rattle.cc_meta_checking.specs.FillingLaws.{IsFit, AreFit}
 use Rattle.cc_meta_checking.specs.CheckingLaws.{Fits}
 use Rattle.cc_core.specs.Holes.{HolesAreOfParameters}
 use Rattle.cc_meta_checking.proofs.FitDemands.{asked_is_fit}
 use Rattle.cc_solve.specs.Solutions.{filling_of}
 use Rattle.cc_type.specs.FilledHoles.{HasAskedHolesBelow, holes_of, FillAlike, HasCheckingHolesBelow}
+use Rattle.cc_type.specs.FormedDemands.{IsWellFormedAsked, AllWellFormed}
 use Rattle.cc_type.specs.Keeping.{kept}
 use Rattle.cc_type.proofs.CheckedHoles.{checking_adds_no_hole}
 use Rattle.cc_type.proofs.FilledAlike.{lists_fill_alike}
@@ -49,34 +50,54 @@ pub kept_of_checking : (devices : ℕ) (globals : Context) (definition : Definit
 kept_of_checking devices globals definition found asked fits holes is = (
   kept_is_fit globals asked (asked_is_fit devices globals definition found asked fits holes is),
   λ one among. (checking_adds_no_hole devices globals definition found asked fits holes is).all one
-      ((kept_is_not_settled asked one).0 among).0,
+      (kept_is_not_settled asked one among).0,
 )
+
+-- all that is asked of a definition is well formed
+fit_formed : (globals : Context) (one : Asked) → IsFit globals one → IsWellFormedAsked one
+fit_formed globals (IsBelow d) fit = record { context = fit.1; left = fit.2 }
+fit_formed globals (IsCapless c) fit = tt
+
+formed_each : (list : List Placed) → ((one : Asked) → IsAskedIn list one → IsWellFormedAsked one) → AllWellFormed list
+formed_each [] each = tt
+formed_each (p ∷ list) each = (
+  each p.asked ([], p, list, refl, refl),
+  formed_each list (λ one (before, q, after, is, same). each one (p ∷ before, q, after, ap (λ l. p ∷ l) is, same)),
+)
+
+pub checking_formed : (devices : ℕ) (globals : Context) (definition : Definition) (found : Checking)
+    (asked : List Placed)
+    → Fits globals definition → HolesAreOfParameters definition.right
+    → IsChecked devices globals definition (Found found asked) → AllWellFormed asked
+checking_formed devices globals definition found asked fits holes is =
+    let fit = asked_is_fit devices globals definition found asked fits holes is in
+    formed_each asked (λ one among. fit_formed globals one (fit.each one among))
 
 -- where the first of what is kept fails, that is the verdict
 pub refused_by_kept : (devices : ℕ) (globals : Context) (definition : Definition) (found : Checking)
     (asked : List Placed)
     (filling : Filling) (code : Code) (at : Place)
-    → IsLeast (length globals) (kept asked) filling → FailsFirst filling (kept asked) code at
+    → AllWellFormed asked → IsLeast (length globals) (kept asked) filling → FailsFirst filling (kept asked) code at
     → Deserves devices globals definition (Found found asked) (IsRefused code at)
-refused_by_kept devices globals definition found asked filling code at least fails = (
+refused_by_kept devices globals definition found asked filling code at formed least fails = (
   filling,
   (kept_forces_the_same (length globals) asked filling).0 least,
   inl
-      (code, at, (kept_fails_alike filling asked code at).0 fails, refl),
+      (code, at, (kept_fails_alike filling asked code at formed).0 fails, refl),
 )
 
 -- where all that is kept is served, the signature decides
 pub decided_by_kept : (devices : ℕ) (globals : Context) (definition : Definition) (found : Checking)
     (asked : List Placed)
     (filling : Filling)
-    → IsLeast (length globals) (kept asked) filling → AllServed filling (kept asked)
+    → AllWellFormed asked → IsLeast (length globals) (kept asked) filling → AllServed filling (kept asked)
     → Deserves devices globals definition (Found found asked)
     (signature_verdict filling definition found (signature_under filling devices globals found))
-decided_by_kept devices globals definition found asked filling least serves = (
+decided_by_kept devices globals definition found asked filling formed least serves = (
   filling,
   (kept_forces_the_same (length globals) asked filling).0 least,
   inr
-      ((kept_is_served_alike filling asked).0 serves, refl),
+      ((kept_is_served_alike filling asked formed).0 serves, refl),
 )
 
 -- fillings that fill alike have one signature and one verdict

@@ -14,6 +14,7 @@ pub mod KeptExamples
 pub mod KeptLists
 pub mod KeptVerdicts
 pub mod LoggedDemands
+pub mod LostDemands
 pub mod SettledTests
 pub mod SignatureSteps
 pub mod StandingTerms

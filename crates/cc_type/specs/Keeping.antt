@@ -1,13 +1,16 @@
--- Of what is asked, only what may force an element into a hole, or may fail under some filling, has to be kept.
-use Rattle.std.specs.Prelude.{ℕ, nat_eq, Bool, false, not, ◌&&◌, ◌||◌, List, [], ◌∷◌, length, if◌then◌else◌}
+-- Of what is asked, only what may force an element into a hole, or may be the first to fail under some filling, has to
+-- be kept.
+use Rattle.std.specs.Prelude.{ℕ, nat_eq, Bool, false, not, ◌&&◌, ◌||◌, List, [], ◌∷◌, ◌++◌, length, if◌then◌else◌}
 use Rattle.std.specs.List.{list_any, list_all}
 use Rattle.cc_capture.specs.declared.var.Var.TheVariants.{Bound, Free}
 use Rattle.cc_capture.specs.declared.var.Elem.{Elem}
 use Rattle.cc_capture.specs.declared.var.Elem.TheVariants.{Var as Variable, Cap, Hole}
-use Rattle.cc_capture.specs.Sets.{Set, contains, is_subset}
+use Rattle.cc_capture.specs.Sets.{Set, contains, empty, is_subset}
 use Rattle.cc_core.specs.Contexts.{TermEntry, TypeEntry, Context}
 use Rattle.cc_core.specs.Questions.{is_hole}
+use Rattle.cc_core.specs.Substitution.{filled_set}
 use Rattle.cc_sets.specs.Comparison.{Demand}
+use Rattle.cc_sets.specs.Fillings.{Filling, filled_context}
 use Rattle.cc_sets.specs.Outcomes.{Asked, IsBelow, IsCapless, Placed}
 
 -- whether the element is the variable at the position
@@ -48,7 +51,43 @@ abbrev pub is_settled : Asked → Bool
 is_settled (IsBelow demand) = is_demand_settled demand
 is_settled (IsCapless set) = not (contains Cap set || has_hole set)
 
--- what is not settled, in its order
+-- Whether it may force an element into a hole: it has a hole on its right side.
+abbrev pub may_force : Asked → Bool
+may_force (IsBelow demand) = has_hole demand.right
+may_force (IsCapless set) = false
+
+-- whether the filling serves it
+abbrev pub is_served : Filling → Asked → Bool
+is_served filling (IsBelow demand) =
+    is_below (filled_context filling demand.context) (filled_set filling demand.left) (filled_set filling demand.right)
+is_served filling (IsCapless set) = not (contains Cap (filled_set filling set))
+
+-- the filling that puts nothing into any hole
+abbrev pub nothing : Filling
+nothing hole = empty
+
+-- Whether it is lost: no filling serves it. Without a hole on its right side a filling serves it where a larger one
+-- does, so it is lost where not even nothing serves it.
+abbrev pub is_lost : Asked → Bool
+is_lost asked = not (may_force asked) && not (is_served nothing asked)
+
+-- whether something in the list is lost
+abbrev pub has_lost : List Placed → Bool
+has_lost list = list_any (λ placed. is_lost placed.asked) list
+
+-- Whether it need not be kept behind the list. What forces nothing cannot be the first to fail behind what is lost.
+abbrev pub is_needless : List Placed → Asked → Bool
+is_needless list asked = (has_lost list && not (may_force asked)) || is_settled asked
+
+-- the list with one more thing that is asked, unless that is needless
+abbrev pub with_one : List Placed → Placed → List Placed
+with_one list placed = if is_needless list placed.asked then list else list ++ placed ∷ []
+
+-- the list with all that is asked then, in its order, but for what is needless
+abbrev pub keeping : List Placed → List Placed → List Placed
+keeping list [] = list
+keeping list (first ∷ rest) = keeping (with_one list first) rest
+
+-- what is kept of all that is asked
 abbrev pub kept : List Placed → List Placed
-kept [] = []
-kept (first ∷ rest) = if is_settled first.asked then kept rest else first ∷ kept rest
+kept asked = keeping [] asked

@@ -9,9 +9,9 @@ use Rattle.cc_core.specs.Shapes.{BaseShape, FunctionShape, capturing}
 use Rattle.cc_core.specs.Contexts.{TermEntry, Context}
 use Rattle.cc_core.specs.Substitution.{single}
 use Rattle.cc_sets.specs.Comparison.{demanded}
-use Rattle.cc_sets.specs.Outcomes.{IsCapless}
+use Rattle.cc_sets.specs.Outcomes.{IsBelow, IsCapless, Placed}
 use Rattle.cc_sets.specs.Fillings.{IsForced}
-use Rattle.cc_type.specs.Keeping.{is_demand_settled, is_settled}
+use Rattle.cc_type.specs.Keeping.{is_demand_settled, is_settled, is_lost, kept}
 use Rattle.cc_type.specs.Signatures.{greatest_position}
 use Rattle.cc_sets.specs.Inference.{demand_at}
 use Rattle.cc_base.specs.declared.place.Place.{Place}
@@ -56,6 +56,38 @@ abbrev pub HolesMayHaveCap : Type 0
 HolesMayHaveCap =
     (is_settled (IsCapless (single console)) ≡ true) × (is_settled (IsCapless (single (Hole 0))) ≡ false)
     × (is_settled (IsCapless (single Cap)) ≡ false)
+
+-- The console is below nothing under no filling; the local variable is where the hole is filled with nothing, and is not
+-- lost. What may force something never is.
+abbrev pub ConsolesAreLost : Type 0
+ConsolesAreLost =
+    (is_lost (IsBelow (demanded with_local (single console) empty)) ≡ true)
+    × (is_lost (IsBelow (demanded with_local (single local) empty)) ≡ false)
+    × (is_lost (IsBelow (demanded with_local (single console) (single (Hole 0)))) ≡ false)
+    × (is_lost (IsCapless (single Cap)) ≡ true) × (is_lost (IsCapless (single (Hole 0))) ≡ false)
+
+-- at the place, that the variable is below nothing
+abbrev pub below_nothing : Place → Elem → Placed
+below_nothing at e = demand_at at (demanded with_local (single e) empty)
+
+-- and that it is below the first hole
+abbrev pub below_hole : Place → Elem → Placed
+below_hole at e = demand_at at (demanded with_local (single e) (single (Hole 0)))
+
+-- Behind the console, which is lost, the number is kept, which is forced into the hole. Neither the local variable is,
+-- which may fail, nor the console again.
+abbrev pub OneLostAndWhatForcesAreKept : Type 0
+OneLostAndWhatForcesAreKept =
+    (at : Place)
+    → kept (below_nothing at console ∷ below_nothing at local ∷ below_hole at number ∷ below_nothing at console ∷ [])
+    ≡ below_nothing at console ∷ below_hole at number ∷ []
+
+-- what may fail is kept before what is lost
+abbrev pub WhatMayFailIsKept : Type 0
+WhatMayFailIsKept =
+    (at : Place)
+    → kept (below_nothing at local ∷ below_nothing at console ∷ below_nothing at local ∷ [])
+    ≡ below_nothing at local ∷ below_nothing at console ∷ []
 
 -- the greatest position from the first definition on, and none where only devices are free
 abbrev pub GreatestIsFound : Type 0

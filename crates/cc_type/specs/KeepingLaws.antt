@@ -1,5 +1,5 @@
 -- The laws of what is kept of all that is asked.
-use Rattle.std.specs.Prelude.{◌≡◌, ◌↔◌, ℕ, false, List, ◌++◌, IsTrue}
+use Rattle.std.specs.Prelude.{◌≡◌, ◌↔◌, ℕ, ◌≤◌, false, List, ◌∷◌, ◌++◌, length, IsTrue}
 use Rattle.cc_base.specs.declared.code.Code.{Code}
 use Rattle.cc_base.specs.declared.place.Place.{Place}
 use Rattle.cc_capture.specs.Sets.{Set}
@@ -9,7 +9,9 @@ use Rattle.cc_core.specs.Subcapturing.{SubcapturesSet}
 use Rattle.cc_sets.specs.Outcomes.{Asked, Placed}
 use Rattle.cc_sets.specs.Fillings.{Filling, IsServed, AllServed, IsAskedIn, IsLeast, FailsFirst}
 use Rattle.cc_meta_checking.specs.FillingLaws.{AreFit}
-use Rattle.cc_type.specs.Keeping.{is_below, is_settled, kept}
+use Rattle.cc_type.specs.FilledHoles.{HasAskedHolesBelow}
+use Rattle.cc_type.specs.FormedDemands.{IsWellFormedAsked, AllWellFormed}
+use Rattle.cc_type.specs.Keeping.{is_below, is_settled, may_force, is_lost, has_lost, keeping, kept}
 
 -- the test of a set decides subcapturing
 abbrev pub TestOfSetsDecides : Type 0
@@ -21,15 +23,39 @@ TestOfSetsDecides =
 abbrev pub SettledIsServed : Type 0
 SettledIsServed = (filling : Filling) (asked : Asked) → IsTrue (is_settled asked) → IsServed filling asked
 
--- what is kept is exactly what is not settled
+-- what is lost is served by none
+abbrev pub LostIsNeverServed : Type 0
+LostIsNeverServed =
+    (filling : Filling) (asked : Asked) → IsWellFormedAsked asked → IsTrue (is_lost asked)
+    → IsServed filling asked → ⊥
+
+-- what is kept was asked and is not settled
 abbrev pub KeptIsNotSettled : Type 0
 KeptIsNotSettled =
     (list : List Placed) (asked : Asked)
-    → IsAskedIn (kept list) asked ↔ (IsAskedIn list asked × (is_settled asked ≡ false))
+    → IsAskedIn (kept list) asked → IsAskedIn list asked × (is_settled asked ≡ false)
+
+-- all that may force something and is not settled is kept
+abbrev pub WhatMayForceIsKept : Type 0
+WhatMayForceIsKept =
+    (list : List Placed) (asked : Asked)
+    → IsAskedIn list asked → is_settled asked ≡ false → IsTrue (may_force asked) → IsAskedIn (kept list) asked
+
+-- of the rest nothing is kept behind what is lost
+abbrev pub OneLostIsEnough : Type 0
+OneLostIsEnough =
+    (list before after : List Placed) (placed : Placed)
+    → kept list ≡ before ++ placed ∷ after → IsTrue (has_lost before) → IsTrue (may_force placed.asked)
+
+-- so one thing at most is kept where there is no hole
+abbrev pub OneIsKeptWithoutHoles : Type 0
+OneIsKeptWithoutHoles =
+    (list : List Placed) → AllWellFormed list
+    → ((asked : Asked) → IsAskedIn list asked → HasAskedHolesBelow 0 asked) → length (kept list) ≤ 1
 
 -- what is kept of two lists
 abbrev pub KeptOfBoth : Type 0
-KeptOfBoth = (first second : List Placed) → kept (first ++ second) ≡ kept first ++ kept second
+KeptOfBoth = (list first second : List Placed) → keeping list (first ++ second) ≡ keeping (keeping list first) second
 
 -- what is kept has the same least filling
 abbrev pub KeptForcesTheSame : Type 0
@@ -38,12 +64,14 @@ KeptForcesTheSame =
 
 -- the same fillings serve it
 abbrev pub KeptIsServedAlike : Type 0
-KeptIsServedAlike = (filling : Filling) (list : List Placed) → AllServed filling (kept list) ↔ AllServed filling list
+KeptIsServedAlike =
+    (filling : Filling) (list : List Placed) → AllWellFormed list
+    → AllServed filling (kept list) ↔ AllServed filling list
 
 -- and it fails first with the same code at the same place
 abbrev pub KeptFailsAlike : Type 0
 KeptFailsAlike =
-    (filling : Filling) (list : List Placed) (code : Code) (at : Place)
+    (filling : Filling) (list : List Placed) (code : Code) (at : Place) → AllWellFormed list
     → FailsFirst filling (kept list) code at ↔ FailsFirst filling list code at
 
 -- what is kept of what is fit is fit

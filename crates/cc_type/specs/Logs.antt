@@ -1,6 +1,6 @@
 -- What steps of inference come to in the program, which keeps a log of what is asked: it has all that is kept of what
 -- was asked so far, and grows with each step.
-use Rattle.std.specs.Prelude.{◌≡◌, List, ◌++◌, Result, Ok, Err}
+use Rattle.std.specs.Prelude.{◌≡◌, List, Result, Ok, Err}
 use Rattle.cc_base.specs.declared.code.Code.{Code}
 use Rattle.cc_base.specs.declared.code.Code.TheVariants.{E14}
 use Rattle.cc_base.specs.declared.place.Place.{Place}
@@ -11,7 +11,7 @@ use Rattle.cc_subty.specs.declared.demands.Demand.{Demand as DeclaredDemand}
 use Rattle.cc_subty.specs.Demands.{asked_of}
 use Rattle.cc_type.specs.declared.stop.Stop.{Stop}
 use Rattle.cc_type.specs.declared.stop.Stop.TheVariants as stops
-use Rattle.cc_type.specs.Keeping.{kept}
+use Rattle.cc_type.specs.Keeping.{keeping}
 
 -- steps that were taken after others: there is no answer, or a refusal, or a value and the log then
 pub data Logged (A : Type 0) : Type 0 where
@@ -19,11 +19,11 @@ pub data Logged (A : Type 0) : Type 0 where
   Stopped : (code : Code) (at : Place) → Logged A
   Got : (value : A) (log : List Placed) → Logged A
 
--- an outcome where this is in the log before: what is kept of what it asks stands behind
+-- an outcome where this is in the log before, which keeps what has to be kept of what it asks
 abbrev pub after : {A : Type 0} → List Placed → Outcome A → Logged A
 after log NoAnswer = Lost
 after log (Refused code at) = Stopped code at
-after log (Found value asked) = Got value (log ++ kept asked)
+after log (Found value asked) = Got value (keeping log asked)
 
 -- one step, and then the rest for its value and the log
 abbrev pub followed : {A B : Type 0} → Logged A → (A → List Placed → Logged B) → Logged B

@@ -27,7 +27,7 @@ use Rattle.cc_sets.specs.Inference.{exit_head, device_head, demand_at, below, ag
 use Rattle.cc_sets.specs.Inference.{named_by, left_behind, Ways, limited, tested, function_found, type_function_found}
 use Rattle.cc_sets.specs.Inference.{choice_found, exit_entry}
 use Rattle.cc_subty.specs.Comparing.{most_steps}
-use Rattle.cc_type.specs.Keeping.{kept}
+use Rattle.cc_type.specs.Keeping.{with_one}
 use Rattle.cc_type.specs.Logs.{Logged, Lost, Stopped, Got, after, followed, plainly}
 
 -- comparisons as the program makes them
@@ -94,7 +94,7 @@ argument_log at context None None log = Got tt log
 -- the set under which a box is opened
 abbrev pub opening_log : Place → Context → Set → Option Set → List Placed → Logged Set
 opening_log at context content (Some set) log =
-    Got (set_in context set) (log ++ kept (demand_at at (demanded context content (set_in context set)) ∷ []))
+    Got (set_in context set) (with_one log (demand_at at (demanded context content (set_in context set))))
 opening_log at context content None log = Got content log
 
 -- a type that is written has to be above the one found

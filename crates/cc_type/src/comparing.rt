@@ -78,7 +78,7 @@ pub fn below(
     ensures { Meets (λ u. u) result (asked_of log.new.demands) (after (asked_of log.old.demands) (plain.below comparing at (context_of ctx.now) (type_of left.now) (type_of right.now))) }
 {
     let demands = asked_below(alloc, ctx, left, right, at)?;
-    keep_all(log, &demands)?;
+    keep_all(alloc, log, &demands)?;
     Ok(())
 }
 
@@ -97,6 +97,6 @@ pub(crate) fn against(
     ensures { Meets (λ u. u) result (asked_of log.new.demands) (after (asked_of log.old.demands) (plain.against comparing at (context_of ctx.now) (shape_of left.now) (shape_of right.now))) }
 {
     let demands = asked_against(alloc, ctx, left, right, at)?;
-    keep_all(log, &demands)?;
+    keep_all(alloc, log, &demands)?;
     Ok(())
 }

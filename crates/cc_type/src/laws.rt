@@ -11,10 +11,19 @@ pub fn test_of_sets()
     ensures { keeping.TestOfSetsDecides }
 {}
 
-/// What is kept is what is not settled, and every filling serves what is settled.
+/// Every filling serves what is settled, and none what is lost.
 pub fn settled()
     ensures served { keeping.SettledIsServed }
-    ensures kept { keeping.KeptIsNotSettled }
+    ensures never_served { keeping.LostIsNeverServed }
+{}
+
+/// What is kept was asked and is not settled; all that may force something is kept, and behind what is lost nothing else.
+/// So one thing at most is kept where there is no hole.
+pub fn kept_alone()
+    ensures not_settled { keeping.KeptIsNotSettled }
+    ensures may_force { keeping.WhatMayForceIsKept }
+    ensures one_lost { keeping.OneLostIsEnough }
+    ensures one { keeping.OneIsKeptWithoutHoles }
     ensures of_both { keeping.KeptOfBoth }
 {}
 
@@ -65,5 +74,8 @@ pub fn examples()
     ensures forced { example.NumbersAreForced }
     ensures holes { example.HolesAreBelowThemselves }
     ensures capless { example.HolesMayHaveCap }
+    ensures lost { example.ConsolesAreLost }
+    ensures kept { example.OneLostAndWhatForcesAreKept }
+    ensures may_fail { example.WhatMayFailIsKept }
     ensures greatest { example.GreatestIsFound }
 {}

@@ -1,4 +1,4 @@
-//! Checking one definition.
+//! Inference of a term: its type, the completed term, and a log of what is asked.
 #![tactic(auto)]
 
 pub mod comparing;

@@ -1,13 +1,13 @@
 //! The log of inference: all that is kept of what was asked.
 
-ghost use Rattle.std.specs.Prelude.{◌≡◌, ◌↔◌, ◌<◌, ◌≤◌, [], ◌∷◌, ◌++◌, length, IsTrue, OnOk, IfOk};
+ghost use Rattle.std.specs.Prelude.{◌≡◌, ◌↔◌, ◌<◌, ◌≤◌, [], ◌∷◌, ◌++◌, ◌&&◌, ◌||◌, not, length, IsTrue, OnOk, IfOk};
 ghost use Rattle.cc_core.specs.Subcapturing.{SubcapturesSet};
 ghost use Rattle.cc_core.specs.Views.{context_of};
 ghost use Rattle.cc_core.specs.WellFormed.{IsWellFormedContext, IsWellFormedSet};
 ghost use Rattle.cc_sets.specs.Marked.{IsClear};
 ghost use Rattle.cc_subty.specs.Demands.{demand_of, asked_of};
 ghost use Rattle.cc_type.specs.Keeping as keeping;
-ghost use Rattle.cc_type.specs.Keeping.{kept};
+ghost use Rattle.cc_type.specs.Keeping.{has_lost};
 ghost use Rattle.cc_type.specs.FormedDemands.{IsWellFormedAsked, AllWellFormed};
 
 use cc_base::steps::Steps;
@@ -16,19 +16,23 @@ use cc_core::Ctx;
 use cc_core::occurrences::set_has_hole;
 use cc_sets::marks::Marks;
 use cc_sets::subcapturing::subcap;
+use cc_solve::{Filling, is_served};
 use cc_subty::{Demand, Demands};
 use std::alloc::{AllocError, Global};
 use std::marker::Brand;
 use std::sync::ledger::{Blank, Ledger};
 
-/// What is kept of what was asked, in order: each demand that may force an element into a hole, or may fail under some
-/// filling.
+/// What is kept of what was asked, in order: each demand that may force an element into a hole, or may be the first to
+/// fail under some filling.
 #[derive(Drop)]
 pub struct Log {
     pub demands: Demands,
-    // For the test whether a demand is settled: they are clear between two tests.
+    // Whether something that is kept is lost.
+    lost: bool,
+    // For the tests of a demand: they are clear between two tests.
     marks: Marks,
     ghost clear: { IsClear marks },
+    ghost told: { lost ≡ has_lost (asked_of demands) },
 }
 
 impl Log {
@@ -38,6 +42,7 @@ impl Log {
     {
         Log {
             demands: Demands::new(alloc),
+            lost: false,
             marks: Marks::new(alloc),
         }
     }
@@ -157,24 +162,97 @@ fn copy(demand: &Demand) -> Result<Demand, AllocError>
     }
 }
 
-/// Keeps what is asked, unless it is settled as it stands.
-pub(crate) fn keep(log: &mut Log, demand: &Demand) -> Result<(), AllocError>
-    requires { IsWellFormedAsked (demand_of demand.now).asked }
-    ensures { OnOk result (asked_of log.new.demands ≡ asked_of log.old.demands ++ kept (demand_of demand.now ∷ [])) }
+// Whether what is asked may force an element into a hole.
+fn may_force(demand: &Demand) -> bool
+    ensures { result ≡ keeping.may_force (demand_of demand.now).asked }
 {
-    if is_settled(&mut log.marks, demand)? {
-        return Ok(());
+    match demand {
+        Demand::Sub {
+            ctx: _,
+            left: _,
+            right,
+            at: _,
+        } => has_hole(right),
+        Demand::NoCap { set: _, at: _ } => false,
     }
-    log.demands.push(copy(demand)?)
 }
 
-/// Keeps all that is asked, but for what is settled as it stands.
-pub(crate) fn keep_all(log: &mut Log, demands: &Demands) -> Result<(), AllocError>
+// Whether no filling serves what is asked.
+fn is_lost(alloc: Global, marks: &mut Marks, demand: &Demand) -> Result<bool, AllocError>
+    requires formed { IsWellFormedAsked (demand_of demand.now).asked }
+    requires clear { IsClear marks.old }
+    ensures lost { IfOk result (λ b. b ≡ keeping.is_lost (demand_of demand.now).asked) }
+    ensures clear { IsClear marks.new }
+{
+    if may_force(demand) {
+        return Ok(false);
+    }
+    let nothing = Filling::new(Vec::new(alloc));
+    let served = is_served(alloc, demand, &nothing, marks)?;
+    Ok(!served)
+}
+
+// Whether something is lost in a list with what is asked, where it is so in the list.
+fn is_either_lost(
+    alloc: Global,
+    lost: bool,
+    marks: &mut Marks,
+    demand: &Demand,
+) -> Result<bool, AllocError>
+    requires formed { IsWellFormedAsked (demand_of demand.now).asked }
+    requires clear { IsClear marks.old }
+    ensures lost { IfOk result (λ b. b ≡ (lost || keeping.is_lost (demand_of demand.now).asked)) }
+    ensures clear { IsClear marks.new }
+{
+    if lost {
+        return Ok(true);
+    }
+    is_lost(alloc, marks, demand)
+}
+
+// Whether what is asked need not be kept behind a list in which something is lost or not.
+fn is_needless(lost: bool, marks: &mut Marks, demand: &Demand) -> Result<bool, AllocError>
+    requires formed { IsWellFormedAsked (demand_of demand.now).asked }
+    requires clear { IsClear marks.old }
+    ensures needless { IfOk result (λ b. b ≡ ((lost && not (keeping.may_force (demand_of demand.now).asked)) || keeping.is_settled (demand_of demand.now).asked)) }
+    ensures clear { IsClear marks.new }
+{
+    if lost && !may_force(demand) {
+        return Ok(true);
+    }
+    is_settled(marks, demand)
+}
+
+// Puts a demand behind the others.
+fn add(log: &mut Log, demand: Demand, lost: bool) -> Result<(), AllocError>
+    requires { lost ≡ has_lost (asked_of log.old.demands ++ demand_of demand ∷ []) }
+    ensures { OnOk result (asked_of log.new.demands ≡ asked_of log.old.demands ++ demand_of demand ∷ []) }
+{
+    log.demands.push(demand)?;
+    log.lost = lost;
+    Ok(())
+}
+
+/// Keeps what is asked, unless that is needless.
+pub(crate) fn keep(alloc: Global, log: &mut Log, demand: &Demand) -> Result<(), AllocError>
+    requires { IsWellFormedAsked (demand_of demand.now).asked }
+    ensures { OnOk result (asked_of log.new.demands ≡ keeping.with_one (asked_of log.old.demands) (demand_of demand.now)) }
+{
+    if is_needless(log.lost, &mut log.marks, demand)? {
+        return Ok(());
+    }
+    let lost = is_either_lost(alloc, log.lost, &mut log.marks, demand)?;
+    let demand = copy(demand)?;
+    add(log, demand, lost)
+}
+
+/// Keeps all that is asked, but for what is needless.
+pub(crate) fn keep_all(alloc: Global, log: &mut Log, demands: &Demands) -> Result<(), AllocError>
     requires { AllWellFormed (asked_of demands.now) }
-    ensures { OnOk result (asked_of log.new.demands ≡ asked_of log.old.demands ++ kept (asked_of demands.now)) }
+    ensures { OnOk result (asked_of log.new.demands ≡ keeping.keeping (asked_of log.old.demands) (asked_of demands.now)) }
 {
     for demand in demands.as_slice() {
-        keep(log, demand)?;
+        keep(alloc, log, demand)?;
     }
     Ok(())
 }

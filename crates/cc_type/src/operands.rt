@@ -108,7 +108,7 @@ pub(crate) fn opening_set(
                 right: under.clone()?,
                 at,
             };
-            keep(log, &demand)?;
+            keep(alloc, log, &demand)?;
             Ok(under)
         }
         None => Ok(content.clone()?),
@@ -116,14 +116,14 @@ pub(crate) fn opening_set(
 }
 
 /// The set may not have the universal capability.
-pub(crate) fn capless(set: &CapSet, at: Place, log: &mut Log) -> Result<(), Stop>
+pub(crate) fn capless(alloc: Global, set: &CapSet, at: Place, log: &mut Log) -> Result<(), Stop>
     ensures { Meets (λ u. u) result (asked_of log.new.demands) (after (asked_of log.old.demands) (plain.capless at set.now)) }
 {
     let demand = Demand::NoCap {
         set: set.clone()?,
         at,
     };
-    keep(log, &demand)?;
+    keep(alloc, log, &demand)?;
     Ok(())
 }
 

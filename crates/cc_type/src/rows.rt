@@ -250,7 +250,7 @@ pub(crate) fn unboxing(
 {
     let inside = box_part(alloc, ctx, node.first, content)?;
     let under = opening_set(alloc, ctx, &inside.set, set, node.first, log)?;
-    capless(&under, node.second, log)?;
+    capless(alloc, &under, node.second, log)?;
     let found = unboxing_end(alloc, root, ctx, node, set, content, &inside, under)?;
     Ok(found)
 }

@@ -3,9 +3,12 @@
 ghost use Rattle.std.specs.Prelude.{◌≡◌, length, IfOk, option_map};
 ghost use Rattle.cc_core.specs.Captured as captured;
 ghost use Rattle.cc_core.specs.Contexts.{lookup};
+ghost use Rattle.cc_core.specs.Reading.{read_shape};
+ghost use Rattle.cc_core.specs.Shapes.{capturing};
 ghost use Rattle.cc_core.specs.Views.{shape_of, type_of, bind_of, context_of};
 ghost use Rattle.cc_core.specs.WellFormed.{IsWellFormedContext, IsWellFormedShape, IsWellFormedType};
 ghost use Rattle.cc_sets.specs.Inference as plain;
+ghost use Rattle.cc_sets.specs.Outcomes.{finds};
 ghost use Rattle.cc_type.specs.Logs.{Answers};
 ghost use Rattle.cc_type.specs.Parts.{some_entry};
 
@@ -15,6 +18,7 @@ use cc_base::literal::Base;
 use cc_base::place::Place;
 use cc_capture::{CapSet, Elem, Var};
 use cc_core::acting::read_variable;
+use cc_core::reading::read_shape;
 use cc_core::same::same_shape;
 use cc_core::{Bind, Ctx, Shape, Ty};
 use std::alloc::{AllocError, Global};
@@ -52,6 +56,15 @@ fn declared_type(alloc: Global, variable: Var, declared: &Ty) -> Result<Ty, Stop
     Ok(Ty { shape, set })
 }
 
+// The type of a variable that is declared with the shape, which is read as it stands under so many entries.
+fn unread_type(alloc: Global, variable: Var, shape: &Rc<Shape>, entries: u32) -> Result<Ty, Stop>
+    ensures { Answers type_of result (finds (capturing (read_shape entries (shape_of shape.now.value)) (captured.variable_set variable))) }
+{
+    let shape = read_shape(alloc, shape, entries)?;
+    let set = variable_set(alloc, variable)?;
+    Ok(Ty { shape, set })
+}
+
 // The type of a variable that the entry declares. It is none where no memory is wanting.
 fn entry_type(alloc: Global, variable: Var, found: Option<&Bind>) -> Result<Ty, Stop>
     ensures { Answers type_of result (plain.entry_type variable (option_map (λ b. bind_of b.now) found.entry)) }
@@ -60,6 +73,7 @@ fn entry_type(alloc: Global, variable: Var, found: Option<&Bind>) -> Result<Ty, 
         Some(bind) => match bind {
             Bind::Var(declared) => declared_type(alloc, variable, declared),
             Bind::TVar(_) => Err(Stop::NoMemory),
+            Bind::Unread { shape, entries, .. } => unread_type(alloc, variable, shape, *entries),
         },
         None => Err(Stop::NoMemory),
     }
