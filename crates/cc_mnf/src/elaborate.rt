@@ -4,8 +4,6 @@
 ghost use Rattle.std.specs.Prelude.{◌≡◌, false, [], ◌∷◌, ◌++◌, IfOk, OnOk, map, if◌then◌else◌};
 ghost use Rattle.std.specs.List.{IsDistinct, list_any};
 ghost use Rattle.std.specs.Str.{bytes_eq};
-ghost use Rattle.cc_core.specs.Captured as values;
-ghost use Rattle.cc_core.specs.Stores as stores;
 ghost use Rattle.cc_core.specs.Views.{note_of, term_of};
 ghost use Rattle.cc_mnf.specs.CoreModules.{definition_of, definitions_of, device_names, module_of, Elaborates};
 ghost use Rattle.cc_mnf.specs.ElaboratedModules as plain;
@@ -29,7 +27,8 @@ use cc_base::device::DeviceDecl;
 use cc_base::literal::Import;
 use cc_base::name::Name;
 use cc_base::place::Place;
-use cc_core::{CoreDef, Form, Node, Note};
+use cc_core::captured::{is_function, is_value};
+use cc_core::{CoreDef, Node, Note};
 use cc_parse::tree::{Def, Module};
 use std::alloc::{AllocError, Global};
 use std::rc::Rc;
@@ -72,24 +71,6 @@ fn add_imports(names: &mut Names, imports: &[Import]) -> Result<(), Stop>
         add_name(names, &import.def, import.def_at)?;
     }
     Ok(())
-}
-
-fn is_function(node: &Node) -> bool
-    ensures { result ≡ stores.is_function (term_of node.now) }
-{
-    match &node.form {
-        Form::Fun(_, _) | Form::TFun(_, _) => true,
-        _ => false,
-    }
-}
-
-fn is_value(node: &Node) -> bool
-    ensures { result ≡ values.is_value (term_of node.now) }
-{
-    match &node.form {
-        Form::Lit(_) | Form::Boxed(_) => true,
-        _ => is_function(node),
-    }
 }
 
 /// Whether the term may be a right side: a value, and a function where the definition is recursive.

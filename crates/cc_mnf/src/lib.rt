@@ -6,10 +6,10 @@ pub mod error;
 pub mod examples;
 mod exprs;
 pub mod laws;
-pub mod names;
+mod names;
 mod operands;
-pub mod scope;
-pub mod stop;
+mod scope;
+mod stop;
 mod types;
 
 pub use elaborate::CoreModule;
