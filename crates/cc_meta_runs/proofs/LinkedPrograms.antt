@@ -48,7 +48,7 @@ all_turned test (x ∷ xs) acc e all =
     let parts = and_parts (test x) (list_all test xs) e in
     all_turned test xs (x ∷ acc) parts.1 (parts.0, all)
 
-all_reversed : {A : Type 0} (test : A → Bool) (xs : List A) → list_all test xs ≡ true → AllByRecursion (λ x. test x ≡ true) (reverse xs)
+pub all_reversed : {A : Type 0} (test : A → Bool) (xs : List A) → list_all test xs ≡ true → AllByRecursion (λ x. test x ≡ true) (reverse xs)
 all_reversed test xs e = all_turned test xs [] e tt
 
 lookup_turned : {A : Type 0} (xs acc : List A) (p : ℕ) (b : A) → lookup (reverse_aux xs acc) p ≡ Some b → (lookup acc p ≡ Some b) ⊎ ((i : ℕ) × (p ≡ length acc + i) × (slice_get xs i ≡ Some b))
@@ -114,7 +114,7 @@ below_definitions to (d ∷ ds) st p n b e =
     no_device : (t : Term) → ValueCell t ≡ DeviceCell n b → ⊥
     no_device t q = cc
 
-linked_device : (devices : List Base) (ms : List Module) (p n : ℕ) (b : Base) → lookup (linked_store devices ms) p ≡ Some (DeviceCell n b) → (p ≡ n) × (slice_get devices n ≡ Some b)
+pub linked_device : (devices : List Base) (ms : List Module) (p n : ℕ) (b : Base) → lookup (linked_store devices ms) p ≡ Some (DeviceCell n b) → (p ≡ n) × (slice_get devices n ≡ Some b)
 linked_device devices [] p n b e = let at = device_at (reverse devices) p n b e in (at.0, lookup_reversed devices n b at.1)
 linked_device devices (m ∷ ms) p n b e =
     linked_device devices ms p n b (below_definitions (linked_position (length devices) ms (reverse m.imports)) (reverse m.definitions) (linked_store devices ms) p n b e)
@@ -130,7 +130,7 @@ cells_length : (to : ℕ → ℕ) (ds : List Definition) (st : Store) → length
 cells_length to [] st = omega arith
 cells_length to (d ∷ ds) st = let rest = cells_length to ds st in omega arith
 
-linked_store_length : (devices : List Base) (ms : List Module) → length (linked_store devices ms) ≡ length devices + count_definitions ms
+pub linked_store_length : (devices : List Base) (ms : List Module) → length (linked_store devices ms) ≡ length devices + count_definitions ms
 linked_store_length devices [] = let start = device_cells_length (reverse devices) in let same = length-reverse devices in omega arith
 linked_store_length devices (m ∷ ms) =
     let rest = linked_store_length devices ms in
@@ -173,7 +173,7 @@ no_label_in_definitions : (to : ℕ → ℕ) (ds : List Definition) (st : Store)
 no_label_in_definitions to [] st e = e
 no_label_in_definitions to (d ∷ ds) st e = no_label_in_definitions to ds st e
 
-no_label_linked : (devices : List Base) (ms : List Module) → labels_in (linked_store devices ms) ≡ []
+pub no_label_linked : (devices : List Base) (ms : List Module) → labels_in (linked_store devices ms) ≡ []
 no_label_linked devices [] = no_label_in_devices (reverse devices)
 no_label_linked devices (m ∷ ms) = no_label_in_definitions (linked_position (length devices) ms (reverse m.imports)) (reverse m.definitions) (linked_store devices ms) (no_label_linked devices ms)
 

@@ -10,10 +10,10 @@ use Rattle.cc_core.specs.Contexts.{entry_of, lookup}
 use Rattle.cc_core.specs.Typing.{base_operated, HasType}
 use Rattle.cc_core.specs.Stores.{ValueCell, DeviceCell, HasStoreTyping}
 use Rattle.cc_core.specs.Programs.{Definition, Entry, definition_in, IsEntry}
+use Rattle.cc_device.specs.Declarations.{declared_state, declared_base}
 use Rattle.cc_device.specs.Devices.{Devices, base_of_device}
 use Rattle.cc_device.specs.Events.{Event, Operated, Exited, IsWellScoped}
 use Rattle.cc_meta_runs.specs.Links.{entry_store, entry_context, position_of, program_context, program_start}
-use Rattle.cc_meta_runs.specs.Links.{declared_state, declared_base}
 use Rattle.cc_meta_runs.specs.Reach.{SetReaches, captured_set}
 use Rattle.cc_meta_runs.specs.Runs.{State, IsStuck, Moves, move, Leads, IsStopped, run}
 use Rattle.cc_meta_runs.specs.Soundness.{scopes_of, IsListed}

@@ -1,13 +1,11 @@
 -- Programs that are linked from the modules of an entry: the store with the devices and the definitions of all modules,
 -- and the start of a run. The functions take lists that are turned round, as those on checked modules do.
-use Rattle.std.specs.Prelude.{ℕ, pos, ◌+◌, ◌-◌, nat_eq, nat_lt, List, [], ◌∷◌, ◌++◌, map, reverse, length, Option, Some}
+use Rattle.std.specs.Prelude.{ℕ, ◌+◌, ◌-◌, nat_eq, nat_lt, List, [], ◌∷◌, ◌++◌, map, reverse, length, Option, Some}
 use Rattle.std.specs.Prelude.{None, if◌then◌else◌}
 use Rattle.std.specs.Option.{unwrap_or}
 use Rattle.std.specs.Str.{bytes_eq}
 use Rattle.cc_base.specs.declared.literal.Base.{Base}
 use Rattle.cc_base.specs.declared.literal.Base.TheVariants as bases
-use Rattle.cc_base.specs.declared.device.Kind.{Kind}
-use Rattle.cc_base.specs.declared.device.Kind.TheVariants as kinds
 use Rattle.cc_capture.specs.declared.var.Var.TheVariants.{Free}
 use Rattle.cc_base.specs.Literals.{UnitLiteral}
 use Rattle.cc_capture.specs.Sets.{empty}
@@ -17,7 +15,6 @@ use Rattle.cc_core.specs.Contexts.{TermEntry, Context}
 use Rattle.cc_core.specs.Substitution.{renamed_term}
 use Rattle.cc_core.specs.Stores.{Cell, ValueCell, DeviceCell, Store}
 use Rattle.cc_core.specs.Programs.{Import, Definition, Module, Entry, device_context, definition_context}
-use Rattle.cc_device.specs.Devices.{DeviceState, Console, File, Counter}
 use Rattle.cc_meta_runs.specs.Machine.{Configuration, configured}
 
 -- how many definitions the modules have
@@ -105,15 +102,3 @@ abbrev pub program_start : Entry → Configuration
 program_start entry =
     configured (program_store entry) [] 0
     (Application (Free (entry_position entry)) (Free (length (entry_store entry))))
-
--- the state that a device of the kind begins with
-abbrev pub declared_state : Kind → DeviceState
-declared_state kinds.Console = Console []
-declared_state (kinds.File numbers) = File numbers 0
-declared_state kinds.Counter = Counter (pos 0)
-
--- the base shape of a device of the kind
-abbrev pub declared_base : Kind → Base
-declared_base kinds.Console = bases.Console
-declared_base (kinds.File numbers) = bases.File
-declared_base kinds.Counter = bases.Counter
