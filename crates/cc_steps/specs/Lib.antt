@@ -1,0 +1,12 @@
+pub mod Environments
+pub mod ExampleEnvironments
+pub mod Finding
+pub mod Growing
+pub mod Lines
+pub mod Naming
+pub mod Operands
+pub mod Parts
+pub mod Placing
+pub mod Putting
+pub mod Reserving
+pub mod Unwinding
