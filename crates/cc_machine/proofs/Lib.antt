@@ -1,0 +1,6 @@
+pub mod FinalStates
+pub mod FreeOperands
+pub mod Keeping
+pub mod LoadedCells
+pub mod RunLemmas
+pub mod StandingLemmas

@@ -1,0 +1,4 @@
+pub mod Loading
+pub mod Machines
+pub mod Reports
+pub mod Standing

@@ -1,0 +1,109 @@
+//! The machine.
+ghost use Rattle.cc_machine.specs.Standing.{StandsSoundly};
+ghost use Rattle.cc_steps.specs.Parts.{configuration_of, IsLinked, HasRoom};
+
+use crate::loading::{add_devices, add_values};
+use cc_device::{Devices, Event, Shown};
+use cc_program::Program;
+use cc_steps::{Cell, Focus, Parts, Small};
+use std::alloc::{AllocError, Global};
+
+/// A machine that runs a program. Each variable is looked up in an environment, and no step copies a term.
+///
+/// It stands for each configuration that is one with what it holds but for types and shapes that are written; one of
+/// them is sound.
+#[derive(Drop)]
+pub struct Machine<'a> {
+    parts: Parts<'a>,
+    spare: u32,
+    pub ghost linked: { IsLinked parts },
+    pub ghost room: { HasRoom parts spare },
+    pub ghost sound: { ∥ StandsSoundly (configuration_of parts) ∥₁ },
+}
+
+impl<'a> Machine<'a> {
+    ghost use Rattle.std.specs.Prelude.{◌≡◌, ◌≢◌, ◌<◌, ◌≤◌, ◌+◌, ◌↔◌, max, Some, IfOk, IsOk, IsTrue, OnErr, OnOk, length, option_map};
+    ghost use Rattle.cc_device.specs.Views.{event_of, shown_of};
+    ghost use Rattle.cc_machine.specs.Machines.{count_cells, held_by, spare_of};
+    ghost use Rattle.cc_machine.specs.Standing.{KeepsShapes, StepsAlike, with_devices};
+    ghost use Rattle.cc_meta_runs.specs.Alike.{erased_configuration};
+    ghost use Rattle.cc_meta_runs.specs.Answers.{shown};
+    ghost use Rattle.cc_meta_runs.specs.Machine as table;
+    ghost use Rattle.cc_meta_runs.specs.Runs.{Moves, move};
+    ghost use Rattle.cc_meta_runs.specs.SoundRuns.{HasShapesOfCells};
+    ghost use Rattle.cc_program.specs.Programs.{start_of};
+    ghost use Rattle.cc_steps.specs.Lines.{IsWriting};
+
+    /// The machine at the start of the program. Fails only for want of memory.
+    pub fn load(alloc: Global, program: &'a Program) -> Result<Machine<'a>, AllocError>
+        requires { length (start_of program.now).store < 4294967296 }
+        ensures start { IfOk result (λ machine. held_by machine ≡ erased_configuration (start_of program.now)) }
+        ensures spare { IfOk result (λ machine. spare_of machine ≡ 0) }
+    {
+        let mut cells = Vec::new(alloc);
+        add_devices(&mut cells, program.devices())?;
+        add_values(&mut cells, program.cells())?;
+        cells.push(Cell::Small(Small::Unit))?;
+        program.starts_soundly();
+        let parts = Parts {
+            links: Vec::new(alloc),
+            cells,
+            frames: Vec::new(alloc),
+            labels: 0,
+            focus: Focus::Code(program.term(), 0),
+        };
+        Ok(Machine { parts, spare: 0 })
+    }
+
+    /// Takes memory for so many steps. Fails only for want of memory. Nothing else changes.
+    pub fn reserve(&mut self, steps: u32) -> Result<(), AllocError>
+        requires { count_cells self.old + steps < 4294967295 }
+        ensures held { held_by self.new ≡ held_by self.old }
+        ensures spare { OnOk result (spare_of self.new ≡ max (spare_of self.old) steps) }
+        ensures kept { OnErr result (spare_of self.new ≡ spare_of self.old) }
+    {
+        self.parts.reserve(steps as usize)?;
+        if self.spare < steps {
+            self.spare = steps;
+        }
+        Ok(())
+    }
+
+    /// Whether the machine is at its end.
+    pub fn is_final(&self) -> bool
+        ensures { IsTrue result ↔ (table.step (held_by self.now) ≡ table.Final) }
+    {
+        self.parts.is_final()
+    }
+
+    /// What is shown of the answer at the end.
+    pub fn value(&self) -> Shown<'a>
+        requires { table.step (held_by self.now) ≡ table.Final }
+        ensures { shown (held_by self.now) ≡ Some (shown_of result) }
+    {
+        match self.parts.shown() {
+            Some(shown) => shown,
+            None => unreachable!(),
+        }
+    }
+
+    /// Takes one step on the devices. Fails only for want of memory, and then machine and devices are as before.
+    pub fn step(&mut self, devices: &mut Devices) -> Result<Option<Event>, AllocError>
+        requires positions { count_cells self.old < 4294967295 }
+        requires fits { HasShapesOfCells (held_by self.old).store devices.old }
+        requires running { table.step (held_by self.old) ≢ table.Final }
+        ensures moves { IfOk result (λ event. move (with_devices (held_by self.old) devices.old) ≡ Moves (option_map event_of event) (with_devices (held_by self.new) devices.new)) }
+        ensures steps { IfOk result (λ event. StepsAlike (held_by self.old) devices.old (option_map event_of event) (held_by self.new) devices.new) }
+        ensures kept { OnErr result ((held_by self.new ≡ held_by self.old) × (devices.new ≡ devices.old)) }
+        ensures fits { HasShapesOfCells (held_by self.new).store devices.new }
+        ensures shapes { KeepsShapes devices.old devices.new }
+        ensures cells { count_cells self.new ≤ count_cells self.old + 1 }
+        ensures spare { OnOk result (spare_of self.old ≤ spare_of self.new + 1) }
+        ensures no_memory { 0 < spare_of self.old → (IsWriting (held_by self.old).term → ⊥) → IsOk result }
+    {
+        self.parts.reserve(1)?;
+        let event = self.parts.step(devices)?;
+        self.spare = self.spare.saturating_sub(1);
+        Ok(event)
+    }
+}
