@@ -1,0 +1,11 @@
+pub mod Asking
+pub mod FilledValues
+pub mod GlobalContexts
+pub mod JudgedDefinitions
+pub mod ModuleVerdictLaws
+pub mod PresentLaws
+pub mod PresentVerdicts
+pub mod ReadingLaws
+pub mod ReadyModules
+pub mod Schedules
+pub mod WorkedModules

@@ -1,0 +1,6 @@
+pub mod ExampleModules
+pub mod ModuleLaws
+pub mod ModuleVerdicts
+pub mod PresentTexts
+pub mod ReadyDefinitions
+pub mod Readings
