@@ -1,3 +1,7 @@
+mod ContextLoops
+mod JudgedTexts
+mod JudgedTrees
 mod ReadTexts
 mod Refusals
+mod TextsRead
 mod VerdictLaws

@@ -1,2 +1,5 @@
+pub mod Findings
+pub mod Judgements
 pub mod Scope
+pub mod TextReadings
 pub mod Verdict

@@ -1,6 +1,12 @@
 //! The verdict of a module's text.
 #![tactic(auto)]
 
+mod contexts;
+pub mod finding;
+pub mod imports;
+pub mod judgement;
+pub mod judging;
 pub mod laws;
+mod reading;
 mod scope;
 pub mod verdict;

@@ -1,0 +1,11 @@
+use Rattle.cc_meta_modules.proofs.ReadingLaws.{refused_is}
+use Rattle.cc_module.proofs.TextsRead.{text_read}
+use Rattle.cc_module.proofs.reading.read.Goals as goal
+
+pub returns-in-Ok : goal.returns-in-Ok
+returns-in-Ok c = text_read _ c.in-Ok.tokens c.read_tokens.result c.in-Ok.ensures c.read_tokens.ensures
+
+pub returns-in-Err-Refused : goal.returns-in-Err-Refused
+returns-in-Err-Refused c =
+    rw c.in-Err-Refused.diag-is
+    (refused_is _ c.in-Err-Refused.diag (rw c.in-Err-Refused.field-0-is at c.in-Err-Refused.ensures))
