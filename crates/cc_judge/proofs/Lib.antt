@@ -1,0 +1,15 @@
+pub mod Lists
+pub mod FindingTests
+pub mod Entries
+pub mod TextPlaces
+pub mod Graphs
+pub mod PlaceSchedules
+pub mod StaleCounts
+pub mod RightPlans
+pub mod CarryLemmas
+pub mod AllPlanned
+pub mod Loops
+pub mod PushedPlaces
+pub mod FoundImports
+pub mod PutPlans
+pub mod ScheduledPlans

@@ -1,0 +1,12 @@
+use Rattle.std.proofs.Common.{◌≡◌, ◌∙◌, ◌++◌, ◌∷◌, [], None, ap, replicate, arith}
+use Rattle.std.proofs.lemmas.List.{replicate_more}
+use Rattle.cc_judge.proofs.judging.no_plans.Goals as goal
+
+pub loop-preserved : goal.loop-preserved
+loop-preserved c =
+    c.in_ok-push.ensures.items ∙ ap (λ ps. ps ++ None ∷ []) c.loop.invariant ∙ replicate_more c.loop.counter None
+
+pub returns : goal.returns
+returns c =
+    let all : c.loop.counter ≡ c.args.count = omega (arith, c.loop.auto.counter-end, c.loop-test.false) in
+    c.loop.invariant ∙ ap (λ n. replicate n None) all

@@ -1,0 +1,11 @@
+use Rattle.std.proofs.Common.{rules}
+use Rattle.std.proofs.lemmas.Fn.{always_returns_same}
+use Rattle.cc_graph.specs.Graph.{compare_names}
+use Rattle.cc_judge.proofs.Entries.{found_key}
+use Rattle.cc_judge.proofs.names.search_texts.Goals as goal
+
+pub returns : goal.returns
+returns c =
+    let found = c.binary_search_by.ensures.position (λ m. compare_names m.0 c.args.name.now)
+    (always_returns_same _ _ _ (λ a r f' k. search rules)) in
+    found_key c.args.texts.now c.requires c.args.name.now c.binary_search_by.result c.binary_search_by.ensures.bound found

@@ -1,0 +1,29 @@
+use Rattle.std.proofs.Common.{◌≡◌, ◌≤◌, ◌+◌, if◌then◌else◌, Bool, true, List, map, sym, subst, arith}
+use Rattle.std.proofs.lemmas.Result.{IfOk-weaker}
+use Rattle.cc_module.specs.Findings.{finding_of}
+use Rattle.cc_module.specs.declared.finding.Finding.{Finding}
+use Rattle.cc_judge.specs.Judgements.{is_stale}
+use Rattle.cc_judge.specs.Kept.{judgements_of}
+use Rattle.cc_judge.specs.Plans.{IsJudgedAt}
+use Rattle.cc_judge.proofs.RightPlans.{kept_plan}
+use Rattle.cc_judge.proofs.plans.plan_module.Goals as goal
+
+pub returns-in-Some-clause-plan : goal.returns-in-Some-clause-plan
+returns-in-Some-clause-plan g c =
+    let last = judgements_of c.args.last.now in
+    let P : List Finding → Type 0 = λ fs. IsJudgedAt last c.args.name.now c.args.text.now (map finding_of fs)
+    c.in-Some.at in
+    kept_plan c.args.devices.now last c.args.name.now c.args.text.now (map finding_of c.args.findings.items)
+    c.in-Some.at c.requires.kept.judged (subst P c.as_slice.ensures.value c.in-Some.ensures)
+
+pub returns-in-None-clause-ticks : goal.returns-in-None-clause-ticks
+returns-in-None-clause-ticks g c =
+    let last = judgements_of c.args.last.now in
+    let P : List Finding → Type 0 = λ fs. is_stale last c.args.name.now c.args.text.now (map finding_of fs) ≡ true in
+    let stale = subst P c.as_slice.ensures.value c.in-None.ensures in
+    let Q : Bool → Type 0 = λ b. c.judge.new.steps ≤ c.args.steps.now + (if b then 1 else 0) in
+    subst Q (sym stale) (omega (arith, c.judge.ensures.tick))
+
+pub returns-in-None-clause-plan : goal.returns-in-None-clause-plan
+returns-in-None-clause-plan g c =
+    IfOk-weaker c.judge.result _ _ (λ plan is. is (judgements_of c.args.last.now)) c.judge.ensures.plan

@@ -1,0 +1,201 @@
+//! Judging the present modules.
+
+ghost use Rattle.std.specs.Prelude.{◌≡◌, ℕ, ◌+◌, ◌<◌, ◌≤◌, List, [], length, map, option_map, replicate, slice_set, Some, None, IfOk, OnOk, OnErr, if◌then◌else◌};
+ghost use Rattle.std.specs.Option.{unwrap_or};
+ghost use Rattle.cc_meta_modules.specs.ModuleVerdicts.{ModuleVerdict};
+ghost use Rattle.cc_meta_modules.specs.ModuleLaws.{NamesOfDevicesDiffer};
+ghost use Rattle.cc_meta_modules.specs.PresentTexts.{ArePresent, graph_of, AreVerdicts};
+ghost use Rattle.cc_module.specs.Findings.{finding_of};
+ghost use Rattle.cc_parse.specs.Trees.{imports_syntax};
+ghost use Rattle.cc_judge.specs.Dependencies.{AreDependencies};
+ghost use Rattle.cc_judge.specs.Found.{AreFoundFor};
+ghost use Rattle.cc_judge.specs.Judgements.{AreCurrent, stale_count};
+ghost use Rattle.cc_judge.specs.Kept.{judgements_of, IsKept};
+ghost use Rattle.cc_judge.specs.Plans.{ArePlans, AsksPlanned, PlansPlace, AreAllPlanned, IsRightPlan, is_stale_at, steps_for};
+
+use crate::carrying::carry_out;
+use crate::dependencies::{Dependencies, find_dependencies};
+use crate::findings::findings;
+use crate::grounds::SharedText;
+use crate::last::Last;
+use crate::plans::{Plan, plan_module};
+use cc_base::device::DeviceDecl;
+use cc_base::literal::Import;
+use cc_base::name::Name;
+use cc_base::steps::Steps;
+use cc_module::finding::Finding;
+use std::alloc::{AllocError, Global};
+use std::mem::replace;
+use std::sync::ledger::Ledger;
+
+// So many places without a plan.
+fn no_plans(alloc: Global, count: usize) -> Result<Vec<Option<Plan>>, AllocError>
+    ensures { IfOk result (λ plans. plans.items ≡ replicate count None) }
+{
+    let mut plans = Vec::with_capacity(alloc, count)?;
+    for _ in 0..count {
+        plans.push(None)?;
+    }
+    Ok(plans)
+}
+
+// Puts the plan at the place.
+fn put_plan(plans: &mut Vec<Option<Plan>>, place: usize, plan: Plan)
+    requires { place < length plans.old.items }
+    ensures { plans.new.items ≡ slice_set plans.old.items place (Some plan) }
+{
+    plans[place] = Some(plan);
+}
+
+// What is found for the imports of the module, if its text is one.
+fn findings_of(
+    alloc: Global,
+    texts: &[(Name, SharedText)],
+    dependencies: &Dependencies,
+    last: &Last,
+    plans: &[Option<Plan>],
+    name: &Name,
+    reading: &Option<Vec<Import>>,
+) -> Result<Vec<Finding>, AllocError>
+    requires present { ArePresent texts.now }
+    requires graph { dependencies.now.graph ≡ graph_of texts.now }
+    requires count { length plans.now ≡ length texts.now }
+    ensures { IfOk result (λ found. AreFoundFor texts.now last.now.verdicts.items plans.now name.now (unwrap_or (option_map imports_syntax reading.now) []) (map finding_of found.items)) }
+{
+    match reading {
+        Some(imports) => findings(
+            alloc,
+            texts,
+            &dependencies.graph,
+            last,
+            plans,
+            name,
+            imports.as_slice(),
+        ),
+        None => Ok(Vec::new(alloc)),
+    }
+}
+
+// Makes the plan for a place that has none yet.
+fn plan_new<L: Ledger>(
+    alloc: Global,
+    devices: &[DeviceDecl],
+    texts: &[(Name, SharedText)],
+    dependencies: &Dependencies,
+    last: &Last,
+    plans: &[Option<Plan>],
+    place: usize,
+    steps: &mut Steps<L>,
+) -> Result<Plan, AllocError>
+    requires differ { NamesOfDevicesDiffer devices.now }
+    requires present { ArePresent texts.now }
+    requires found { AreDependencies texts.now dependencies.now }
+    requires kept { IsKept devices.now last.now }
+    requires plans { ArePlans devices.now texts.now (judgements_of last.now) plans.now }
+    requires within { place < length texts.now }
+    requires asked { AsksPlanned texts.now plans.now place }
+    ensures ticks { (verdicts : List ℕ → ModuleVerdict) → AreVerdicts devices.now texts.now verdicts → steps.new ≤ steps.old + (if is_stale_at (judgements_of last.now) texts.now verdicts place then 1 else 0) }
+    ensures plan { IfOk result (λ plan. IsRightPlan devices.now texts.now (judgements_of last.now) place plan) }
+{
+    let entry = &texts[place];
+    let reading = &dependencies.imports[place];
+    let found = findings_of(alloc, texts, dependencies, last, plans, &entry.0, reading)?;
+    plan_module(alloc, devices, last, &entry.0, &entry.1, found, steps)
+}
+
+// Makes the plan for the place, if it has none yet.
+fn plan_place<L: Ledger>(
+    alloc: Global,
+    devices: &[DeviceDecl],
+    texts: &[(Name, SharedText)],
+    dependencies: &Dependencies,
+    last: &Last,
+    plans: &mut Vec<Option<Plan>>,
+    place: usize,
+    steps: &mut Steps<L>,
+) -> Result<(), AllocError>
+    requires differ { NamesOfDevicesDiffer devices.now }
+    requires present { ArePresent texts.now }
+    requires found { AreDependencies texts.now dependencies.now }
+    requires kept { IsKept devices.now last.now }
+    requires plans { ArePlans devices.now texts.now (judgements_of last.now) plans.old.items }
+    requires count { length plans.old.items ≡ length texts.now }
+    requires within { place < length texts.now }
+    requires asked { AsksPlanned texts.now plans.old.items place }
+    ensures ticks { (verdicts : List ℕ → ModuleVerdict) → AreVerdicts devices.now texts.now verdicts → steps.new ≤ steps.old + steps_for (judgements_of last.now) texts.now verdicts plans.old.items place }
+    ensures ok { OnOk result (PlansPlace devices.now texts.now (judgements_of last.now) place plans.old.items plans.new.items) }
+{
+    if plans[place].is_some() {
+        return Ok(());
+    }
+    let plan = plan_new(
+        alloc,
+        devices,
+        texts,
+        dependencies,
+        last,
+        plans.as_slice(),
+        place,
+        steps,
+    )?;
+    put_plan(plans, place, plan);
+    Ok(())
+}
+
+// A plan for each present module.
+fn plan_all<L: Ledger>(
+    alloc: Global,
+    devices: &[DeviceDecl],
+    texts: &[(Name, SharedText)],
+    last: &Last,
+    steps: &mut Steps<L>,
+) -> Result<Vec<Option<Plan>>, AllocError>
+    requires differ { NamesOfDevicesDiffer devices.now }
+    requires present { ArePresent texts.now }
+    requires kept { IsKept devices.now last.now }
+    ensures ticks { (verdicts : List ℕ → ModuleVerdict) → AreVerdicts devices.now texts.now verdicts → steps.new ≤ steps.old + stale_count (judgements_of last.now) texts.now verdicts }
+    ensures plans { IfOk result (λ plans. AreAllPlanned devices.now texts.now (judgements_of last.now) plans.items) }
+{
+    let dependencies = find_dependencies(alloc, texts)?;
+    let mut plans = no_plans(alloc, texts.len())?;
+    for place in dependencies.schedule.iter() {
+        plan_place(
+            alloc,
+            devices,
+            texts,
+            &dependencies,
+            last,
+            &mut plans,
+            *place,
+            &mut *steps,
+        )?;
+    }
+    Ok(plans)
+}
+
+/// Judges the present modules: those that are not stale keep their last verdicts.
+///
+/// It counts at most one step for each stale module. Fails only for want of memory, and leaves the last judgements as
+/// they were then.
+pub fn judge_all<L: Ledger>(
+    alloc: Global,
+    devices: &[DeviceDecl],
+    texts: &[(Name, SharedText)],
+    last: &mut Last,
+    steps: &mut Steps<L>,
+) -> Result<(), AllocError>
+    requires differ { NamesOfDevicesDiffer devices.now }
+    requires present { ArePresent texts.now }
+    requires kept { IsKept devices.now last.old }
+    ensures ticks { (verdicts : List ℕ → ModuleVerdict) → AreVerdicts devices.now texts.now verdicts → steps.new ≤ steps.old + stale_count (judgements_of last.old) texts.now verdicts }
+    ensures current { OnOk result (AreCurrent devices.now texts.now (judgements_of last.new)) }
+    ensures kept { OnOk result (IsKept devices.now last.new) }
+    ensures err { OnErr result (last.new ≡ last.old) }
+{
+    let plans = plan_all(alloc, devices, texts, &*last, steps)?;
+    let verdicts = Vec::with_capacity(alloc, plans.len())?;
+    let grounds = Vec::with_capacity(alloc, plans.len())?;
+    let old = replace(&mut *last, Last { verdicts, grounds });
+    carry_out(old, plans, &mut *last);
+    Ok(())
+}

@@ -1,0 +1,14 @@
+//! Judging the present modules, each with what is found for its imports. A module that was judged before with the same
+//! text and the same findings keeps its verdict.
+#![tactic(auto)]
+
+mod carrying;
+mod dependencies;
+pub mod findings;
+pub mod grounds;
+pub mod judging;
+pub mod last;
+pub mod laws;
+pub mod names;
+mod plans;
+mod same;

@@ -1,0 +1,35 @@
+//! Entries in order of name.
+
+ghost use Rattle.std.specs.Prelude.{◌≡◌, MatchOption, MatchResult, slice_get, Some};
+ghost use Rattle.std.specs.List.Sorted.{IsStrictlySortedBy};
+ghost use Rattle.std.specs.Map.{keys_of};
+ghost use Rattle.cc_graph.specs.Graph.{compare_names};
+ghost use Rattle.cc_judge.specs.Places.{IsGap, IsAbsentKey};
+
+use crate::grounds::SharedText;
+use cc_base::name::Name;
+use cc_module::judgement::ModuleVerdict;
+
+/// The place of the present module of the name, or the place where it would stand.
+pub fn search_texts(texts: &[(Name, SharedText)], name: &Name) -> Result<usize, usize>
+    requires { IsStrictlySortedBy compare_names (keys_of texts.now) }
+    ensures { MatchResult result (λ at. slice_get (keys_of texts.now) at ≡ Some name.now) (λ gap. IsGap (keys_of texts.now) name.now gap) }
+{
+    texts.binary_search_by(|entry| entry.0.cmp(name))
+}
+
+/// The place of the present module of the name.
+pub fn place_of_text(texts: &[(Name, SharedText)], name: &Name) -> Option<usize>
+    requires { IsStrictlySortedBy compare_names (keys_of texts.now) }
+    ensures { MatchOption result (IsAbsentKey (keys_of texts.now) name.now) (λ at. slice_get (keys_of texts.now) at ≡ Some name.now) }
+{
+    search_texts(texts, name).ok()
+}
+
+/// The place of the verdict of the module of the name.
+pub fn place_of_verdict(verdicts: &[(Name, ModuleVerdict)], name: &Name) -> Option<usize>
+    requires { IsStrictlySortedBy compare_names (keys_of verdicts.now) }
+    ensures { MatchOption result (IsAbsentKey (keys_of verdicts.now) name.now) (λ at. slice_get (keys_of verdicts.now) at ≡ Some name.now) }
+{
+    verdicts.binary_search_by(|entry| entry.0.cmp(name)).ok()
+}
