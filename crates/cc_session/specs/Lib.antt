@@ -1,0 +1,4 @@
+pub mod Sessions
+pub mod Signatures
+pub mod LinkOrders
+pub mod LinkedModules

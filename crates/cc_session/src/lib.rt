@@ -1,0 +1,7 @@
+//! A session: modules are put and removed, checked together, and asked for their verdicts, signatures and definitions.
+#![tactic(auto)]
+
+pub mod laws;
+pub mod refusals;
+pub mod session;
+mod texts;
