@@ -1,0 +1,5 @@
+//! Tests of reading jobs.
+#![tactic(auto)]
+
+#[cfg(test)]
+mod jobs;
