@@ -1,0 +1,4 @@
+pub mod ElementTexts
+pub mod ShapeWords
+pub mod TypeTextLaws
+pub mod Words
