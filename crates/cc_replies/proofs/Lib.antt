@@ -1,0 +1,4 @@
+pub mod Mapped
+pub mod OutputLaws
+pub mod PresentAfter
+pub mod ReplyLaws

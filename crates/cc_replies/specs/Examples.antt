@@ -1,0 +1,99 @@
+-- Worked replies.
+use Rattle.std.specs.Prelude.{◌≡◌, ℕ, true, false, List, [], ◌∷◌, ◌++◌, codes, replicate, refl}
+use Rattle.std.specs.Fmt.{digits}
+use Rattle.cc_base.specs.declared.code.Code.TheVariants.{E15, E30, E31, E32, E34}
+use Rattle.cc_base.specs.declared.literal.Base.TheVariants as bases
+use Rattle.cc_base.specs.declared.place.Place.{Place}
+use Rattle.cc_capture.specs.declared.var.Elem.TheVariants.{Var as Variable}
+use Rattle.cc_capture.specs.declared.var.Var.TheVariants.{Free}
+use Rattle.cc_capture.specs.Rising.{placed}
+use Rattle.cc_capture.specs.Sets.{from_list, insert, empty}
+use Rattle.cc_core.specs.Shapes.{BaseShape, FunctionShape, CapturingType, capturing}
+use Rattle.cc_core.specs.Terms.{Absent, LiteralTerm}
+use Rattle.cc_base.specs.Literals.{UnitLiteral}
+use Rattle.cc_meta_modules.specs.ModuleVerdicts.{CheckedDefinition, IsAccepted, IsRefused}
+use Rattle.cc_replies.specs.ReplyTexts.{PutDone, PutRefused, DropDone, DropRefused, Verdicts, Signatures}
+use Rattle.cc_replies.specs.ReplyTexts.{SignaturesRefused, line, reply_text, is_refusal}
+use Rattle.cc_replies.specs.Replies.{PutText, DropModule, put_reply, after}
+use Rattle.cc_replies.specs.Outputs.{IsOutput}
+use lib.Utf8.{encode}
+
+abbrev a : List ℕ
+a = codes "a"
+
+abbrev b : List ℕ
+b = codes "b"
+
+-- a head with a code
+pub refused_put : reply_text [] (PutRefused a E30) ≡ line (codes "put a refused E30")
+unfolding encode
+refused_put = refl
+
+abbrev third_line : Place
+third_line = record { line = 3; col = 7 }
+
+-- a line for each module, and one that is refused makes the reply one of a refusal
+pub two_verdicts :
+    reply_text [] (Verdicts ((a, IsAccepted []) ∷ (b, IsRefused E15 third_line) ∷ []))
+    ≡ line (codes "check") ++ line (codes "  a ok") ++ line (codes "  b E15 3:7")
+unfolding encode digits
+two_verdicts = refl
+
+pub one_refused : is_refusal (Verdicts ((a, IsAccepted []) ∷ (b, IsRefused E15 third_line) ∷ [])) ≡ true
+one_refused = refl
+
+pub none_refused : is_refusal (Verdicts ((a, IsAccepted []) ∷ (b, IsAccepted []) ∷ [])) ≡ false
+none_refused = refl
+
+-- functions that the first device lets run
+abbrev runs : CapturingType
+runs = capturing (FunctionShape (BaseShape bases.Unit) (from_list []) (BaseShape bases.Unit) (from_list [])) (from_list (Variable (Free 0) ∷ []))
+
+abbrev main : CheckedDefinition
+main = record {
+  name = codes "main";
+  recursive = false;
+  accepted = record { note = Absent; filled = LiteralTerm UnitLiteral; type = runs; signature = runs };
+}
+
+-- types carry the names of the devices
+pub one_signature :
+    reply_text (codes "out" ∷ []) (Signatures a (main ∷ []))
+    ≡ line (codes "sig a") ++ line (codes "  main: ((_0: Unit) -> Unit)^{out}")
+unfolding encode digits from_list insert empty placed
+one_signature = refl
+
+pub refused_signature : reply_text [] (SignaturesRefused a E34) ≡ line (codes "sig a refused E34")
+unfolding encode
+refused_signature = refl
+
+-- where 256 modules of other names are present there is no room for one more; one that is present gets another text
+pub no_room : put_reply (replicate 256 (a, [])) b [] ≡ PutRefused b E31
+no_room = refl
+
+pub last_room : put_reply (replicate 255 (a, [])) b [] ≡ PutDone b
+last_room = refl
+
+pub other_text : put_reply (replicate 256 (a, [])) a [] ≡ PutDone a
+other_text = refl
+
+-- texts stand in order of name, and a module has the last one that was put
+pub in_order :
+    after (after (after [] (PutText b [])) (PutText a [])) (PutText b (32 ∷ [])) ≡ (a, []) ∷ (b, 32 ∷ []) ∷ []
+unfolding encode
+in_order = refl
+
+-- what is removed is not there any more
+pub removed_twice :
+    IsOutput [] [] (PutText a [] ∷ DropModule a ∷ DropModule a ∷ [])
+    (line (codes "put a") ++ line (codes "drop a") ++ line (codes "drop a refused E32")) true
+unfolding encode
+removed_twice = (
+  PutDone a,
+  line (codes "drop a") ++ line (codes "drop a refused E32"),
+  true,
+  refl,
+  (DropDone a, line (codes "drop a refused E32"), true, refl, (DropRefused a E32, [], false, refl, (refl, refl), refl, refl), refl, refl),
+  refl,
+  refl,
+)

@@ -1,0 +1,75 @@
+-- Replies to commands, and how they are written: a head line, and then lines that begin with two spaces.
+use Rattle.std.specs.Prelude.{ℕ, Bool, true, false, List, [], ◌∷◌, ◌++◌, codes, encode_utf8_all}
+use Rattle.std.specs.List.{flat_map, list_any}
+use Rattle.cc_base.specs.Texts.{code_text, place_text}
+use Rattle.cc_base.specs.declared.code.Code.{Code}
+use Rattle.cc_base.specs.declared.place.Place.{Place}
+use Rattle.cc_print.specs.TypeTexts.{type_text}
+use Rattle.cc_meta_modules.specs.ModuleVerdicts.{CheckedDefinition, ModuleVerdict, IsAccepted, IsRefused}
+
+-- What is answered to a command: the module was put, or was removed, or that was refused; the verdicts of modules; the
+-- definitions of an accepted module, or why they are not shown.
+pub data Reply : Type 0 where
+  PutDone : (name : List ℕ) → Reply
+  PutRefused : (name : List ℕ) (code : Code) → Reply
+  DropDone : (name : List ℕ) → Reply
+  DropRefused : (name : List ℕ) (code : Code) → Reply
+  Verdicts : (verdicts : List (List ℕ × ModuleVerdict)) → Reply
+  Signatures : (name : List ℕ) (definitions : List CheckedDefinition) → Reply
+  SignaturesRefused : (name : List ℕ) (code : Code) → Reply
+
+-- a line is its text and a line feed
+abbrev pub line : List ℕ → List ℕ
+line text = text ++ 10 ∷ []
+
+-- the head line of a command about a module
+abbrev pub head : List ℕ → List ℕ → List ℕ
+head word name = line (word ++ codes " " ++ encode_utf8_all name)
+
+-- the same of a command that is refused
+abbrev pub refused_head : List ℕ → List ℕ → Code → List ℕ
+refused_head word name code = line (word ++ codes " " ++ encode_utf8_all name ++ codes " refused " ++ code_text code)
+
+-- a refusal: its code and its place
+abbrev pub refusal_text : Code → Place → List ℕ
+refusal_text code at = code_text code ++ codes " " ++ place_text at
+
+-- a verdict: that the module is accepted, or its refusal
+abbrev pub verdict_text : ModuleVerdict → List ℕ
+verdict_text (IsAccepted definitions) = codes "ok"
+verdict_text (IsRefused code at) = refusal_text code at
+
+-- a line for each module
+abbrev pub verdict_line : List ℕ × ModuleVerdict → List ℕ
+verdict_line one = line (codes "  " ++ encode_utf8_all one.0 ++ codes " " ++ verdict_text one.1)
+
+-- a line for each definition, where the first free positions have these names
+abbrev pub signature_line : List (List ℕ) → CheckedDefinition → List ℕ
+signature_line names one =
+    line (codes "  " ++ encode_utf8_all one.name ++ codes ": " ++ type_text names 0 one.accepted.signature)
+
+-- the text of a reply where the devices have these names
+abbrev pub reply_text : List (List ℕ) → Reply → List ℕ
+reply_text names (PutDone name) = head (codes "put") name
+reply_text names (PutRefused name code) = refused_head (codes "put") name code
+reply_text names (DropDone name) = head (codes "drop") name
+reply_text names (DropRefused name code) = refused_head (codes "drop") name code
+reply_text names (Verdicts verdicts) = line (codes "check") ++ flat_map verdict_line verdicts
+reply_text names (Signatures name definitions) =
+    head (codes "sig") name ++ flat_map (signature_line names) definitions
+reply_text names (SignaturesRefused name code) = refused_head (codes "sig") name code
+
+-- the module is refused
+abbrev pub is_refused : ModuleVerdict → Bool
+is_refused (IsAccepted definitions) = false
+is_refused (IsRefused code at) = true
+
+-- The reply tells of a refusal: that of the command, or of a module.
+abbrev pub is_refusal : Reply → Bool
+is_refusal (PutDone name) = false
+is_refusal (PutRefused name code) = true
+is_refusal (DropDone name) = false
+is_refusal (DropRefused name code) = true
+is_refusal (Verdicts verdicts) = list_any (λ one. is_refused one.1) verdicts
+is_refusal (Signatures name definitions) = false
+is_refusal (SignaturesRefused name code) = true

@@ -1,0 +1,16 @@
+//! The laws of replies and of outputs. The functions do nothing.
+ghost use Rattle.cc_replies.specs.Laws as law;
+
+/// A command has one reply, and leaves texts in order of name, one for each name.
+pub fn commands_have_one_reply()
+    ensures stay { law.TextsStayPresent }
+    ensures exist { law.RepliesExist }
+    ensures unique { law.RepliesAreUnique }
+{}
+
+/// The commands of a job have one output.
+pub fn commands_have_one_output()
+    ensures exist { law.OutputsExist }
+    ensures unique { law.OutputsAreUnique }
+    ensures joined { law.OutputsAreJoined }
+{}
