@@ -1,0 +1,4 @@
+pub mod BecomingTerms
+pub mod FoundAgain
+pub mod Staying
+pub mod StayingDefinitions

@@ -1,0 +1,4 @@
+//! The laws of building canonical derivations, without code.
+#![tactic(auto)]
+
+pub mod laws;
