@@ -1,3 +1,12 @@
 pub mod Steps
 pub mod NameBytes
+pub mod Splits
+pub mod LineLists
+pub mod Numbers
+pub mod HeadLaws
+pub mod ItemLists
+pub mod Standing
 pub mod JobLaws
+pub mod WorkedJobs
+pub mod UnbuiltLines
+pub mod UnbuiltLaws

@@ -1,17 +1,15 @@
 -- Each step of reading gives what stands there, and what stands there is read.
-use Rattle.std.proofs.Common.{◌≡◌, ℕ, ◌+◌, ◌-◌, ◌^◌, ◌<◌, ◌%◌, Bool, true, false, ◌&&◌, ◌==◌, cond, List, [], ◌∷◌, ◌++◌, length, take, drop, get_or, Option, Some, None, refl, sym, ap, ◌∙◌, subst, inl, inr, ◌⊎◌, ⊎_elim, arith}
-use Rattle.std.specs.Prelude.{codes, encode_utf8_all}
+use Rattle.std.proofs.Common.{◌≡◌, ℕ, ◌+◌, ◌<◌, Bool, true, false, ◌&&◌, ◌==◌, cond, List, [], ◌∷◌, ◌++◌, length, take, drop, get_or, Option, Some, None, refl, sym, ap, ◌∙◌, subst, arith}
+use Rattle.std.specs.Prelude.{encode_utf8_all}
 use Rattle.std.specs.Option.{option_map}
 use Rattle.std.specs.Str.{chars, is_utf8, IsUtf8}
-use Rattle.std.specs.Fmt.{decimal}
 use Rattle.std.proofs.lemmas.Str.{IsUtf8-from_is_utf8, is_utf8-from_IsUtf8, encodes-chars}
 use Rattle.std.proofs.lemmas.Slice.Eq.{bytes_eq-Decides}
-use Rattle.std.proofs.lemmas.List.{take-append-drop, take_at, drop_at, length-append, at_drop_more, append_assoc, take_more, same_from_push}
-use Rattle.std.proofs.lemmas.Bool.Decides.{nat_tests, Decides-eqb}
-use Rattle.std.proofs.lemmas.Fmt.{decimal_by_steps}
+use Rattle.std.proofs.lemmas.List.{take-append-drop, take_at, drop_at, length-append, at_drop_more, append_assoc, take_more}
+use Rattle.std.proofs.lemmas.Bool.Decides.{Decides-eqb}
 use Rattle.std.proofs.lemmas.Option.{some_pair_parts}
 use Rattle.cc_base.specs.Names.{spells_name, IsName}
-use Rattle.cc_job.specs.Reading.{◌>>=◌, after_prefix, before_suffix, cut_at, name_of, first_of_both, text_before_check}
+use Rattle.cc_job.specs.Reading.{◌>>=◌, after_prefix, cut_at, name_of}
 
 -- a step that gave something
 pub some_from_bind : {A B : Type 0} (o : Option A) (f : A → Option B) (y : B) → (o >>= f) ≡ Some y → (x : A) × (o ≡ Some x) × (f x ≡ Some y)
@@ -39,19 +37,6 @@ pub after_prefix-append : (prefix rest : List ℕ) → after_prefix (prefix ++ r
 after_prefix-append prefix rest =
     let same = (bytes_eq-Decides (take (length prefix) (prefix ++ rest)) prefix).1 (take_at prefix rest (length prefix) refl) in
     rw (same, drop_at prefix rest (length prefix) refl)
-
-pub before_suffix_gives : (bytes suffix front : List ℕ) → before_suffix bytes suffix ≡ Some front → bytes ≡ front ++ suffix
-before_suffix_gives bytes suffix front h =
-    let n = length bytes - length suffix in
-    let p = passed _ _ _ h in
-    let back = (bytes_eq-Decides (drop n bytes) suffix).0 p.0 in
-    sym (take-append-drop n bytes) ∙ (ap (λ xs. take n bytes ++ xs) back ∙ ap (λ xs. xs ++ suffix) p.1)
-
-pub before_suffix-append : (front suffix : List ℕ) → before_suffix (front ++ suffix) suffix ≡ Some front
-before_suffix-append front suffix =
-    let n : length front ≡ length (front ++ suffix) - length suffix = omega (arith, length-append front suffix) in
-    let same = (bytes_eq-Decides (drop (length (front ++ suffix) - length suffix) (front ++ suffix)) suffix).1 (drop_at front suffix _ n) in
-    rw (same, take_at front suffix _ n)
 
 -- the list has no c
 abbrev pub Lacks : ℕ → List ℕ → Type 0
@@ -109,44 +94,6 @@ pub Lacks-append : (c : ℕ) (xs ys : List ℕ) → Lacks c xs → Lacks c ys �
 Lacks-append c [] ys p q = q
 Lacks-append c (x ∷ xs) ys p q = (p.0, Lacks-append c xs ys p.1 q)
 
-not_line_feed : (d : ℕ) → ((48 + d) == 10) ≡ false
-not_line_feed d = grind (arith, nat_tests)
-
-pub Lacks-decimal : (n : ℕ) → n < 2 ^ 64 → Lacks 10 (decimal n)
-Lacks-decimal n small =
-    decimal_by_steps (λ n ds. Lacks 10 ds) (λ d h. (not_line_feed d, tt)) (λ n ds h p. Lacks-append 10 ds _ p (not_line_feed (n % 10), tt)) n small
-
--- a job ends with its last line, with or without a line feed
-abbrev pub EndsWithCheck : List ℕ → List ℕ → Type 0
-EndsWithCheck bytes text = (bytes ≡ text ++ (codes "check" ++ 10 ∷ [])) ⊎ (bytes ≡ text ++ codes "check")
-
-pub text_before_check_gives : (bytes text : List ℕ) → text_before_check bytes ≡ Some text → EndsWithCheck bytes text
-unfolding text_before_check
-text_before_check_gives bytes text h =
-    choose (before_suffix bytes (codes "check" ++ 10 ∷ [])) refl h
-  where
-    choose : (o : Option (List ℕ)) → before_suffix bytes (codes "check" ++ 10 ∷ []) ≡ o → first_of_both o (before_suffix bytes (codes "check")) ≡ Some text → EndsWithCheck bytes text
-    choose (Some front) e h = inl (before_suffix_gives bytes (codes "check" ++ 10 ∷ []) text (e ∙ h))
-    choose None e h = inr (before_suffix_gives bytes (codes "check") text h)
-
--- no text ends both ways
-one_ending : (xs ys : List ℕ) → xs ++ codes "check" ≡ ys ++ (codes "check" ++ 10 ∷ []) → ⊥
-one_ending xs ys h =
-    let left = append_assoc xs (codes "chec") (107 ∷ []) in
-    let right = append_assoc ys (codes "check") (10 ∷ []) in
-    let ends = same_from_push (xs ++ codes "chec") (ys ++ codes "check") 107 10 (left ∙ (h ∙ sym right)) in
-    absurd (clash ends.1)
-  where
-    clash : ◌≡◌ {A = ℕ} 107 10 → ⊥
-    clash e = omega arith
-
-pub text_before_check-append : (bytes text : List ℕ) → EndsWithCheck bytes text → text_before_check bytes ≡ Some text
-unfolding text_before_check
-text_before_check-append bytes text ends = ⊎_elim (λ e. at_line e) (λ e. at_end e (before_suffix bytes (codes "check" ++ 10 ∷ [])) refl) ends
-  where
-    at_line : bytes ≡ text ++ (codes "check" ++ 10 ∷ []) → first_of_both (before_suffix bytes (codes "check" ++ 10 ∷ [])) (before_suffix bytes (codes "check")) ≡ Some text
-    at_line e = ap (λ o. first_of_both o (before_suffix bytes (codes "check"))) (ap (λ bs. before_suffix bs (codes "check" ++ 10 ∷ [])) e ∙ before_suffix-append text (codes "check" ++ 10 ∷ []))
-
-    at_end : bytes ≡ text ++ codes "check" → (o : Option (List ℕ)) → before_suffix bytes (codes "check" ++ 10 ∷ []) ≡ o → first_of_both o (before_suffix bytes (codes "check")) ≡ Some text
-    at_end e (Some front) is = absurd (one_ending text front (sym e ∙ before_suffix_gives bytes (codes "check" ++ 10 ∷ []) front is))
-    at_end e None is = ap (λ bs. before_suffix bs (codes "check")) e ∙ before_suffix-append text (codes "check")
+-- what stands behind a cut is shorter
+pub cut_shorter : (c : ℕ) (bytes word rest : List ℕ) → Some (word, rest) ≡ cut_at c bytes → length rest < length bytes
+cut_shorter c bytes word rest e = omega (arith, ap length (cut_at_gives c bytes word rest (sym e)), length-append word (c ∷ rest))

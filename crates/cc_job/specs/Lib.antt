@@ -1,2 +1,4 @@
-pub mod Job
+pub mod Jobs
+pub mod Unbuilt
 pub mod Reading
+pub mod Examples

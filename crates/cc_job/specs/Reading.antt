@@ -1,12 +1,24 @@
 -- Reading a job, step by step from its front.
-use Rattle.std.specs.Prelude.{ℕ, ◌-◌, Bool, ◌&&◌, ◌==◌, nat_le, List, [], ◌∷◌, ◌++◌, length, take, drop, codes}
-use Rattle.std.specs.Prelude.{Option, Some, None, if◌then◌else◌}
+use Rattle.std.specs.Prelude.{◌≡◌, ℕ, zero, suc, ◌-◌, Bool, true, false, ◌&&◌, ◌||◌, not, ◌==◌, nat_le, nat_lt, ℤ, pos, negsuc}
+use Rattle.std.specs.Prelude.{List, [], ◌∷◌, ◌++◌, length, take, drop, codes, Option, Some, None, if◌then◌else◌}
 use Rattle.std.specs.Option.{option_map, option_and_then}
+use Rattle.std.specs.List.{list_all, list_any}
+use Rattle.std.specs.Char.{is_ascii_digit}
 use Rattle.std.specs.Str.{chars, is_utf8, bytes_eq}
-use Rattle.std.specs.Fmt.{decimal}
+use Rattle.std.specs.Str.Parse.{digits_value}
 use Rattle.cc_base.specs.Names.{spells_name}
-use Rattle.cc_job.specs.declared.job.Job.{Job}
-use Rattle.cc_job.specs.Job.{text_limit, are_lines, line_count}
+use Rattle.cc_base.specs.declared.device.Kind.{Kind}
+use Rattle.cc_base.specs.declared.device.Kind.TheVariants.{Console, File, Counter}
+use Rattle.cc_job.specs.declared.job.Command.{Command}
+use Rattle.cc_job.specs.declared.job.Command.TheVariants.{Put, Drop, Check, Sig, Derive, Run, Tasks}
+use Rattle.cc_job.specs.declared.head.Head.{Head}
+use Rattle.cc_job.specs.declared.head.Head.TheVariants.{Device, Put as PutHead, Command as CommandHead}
+use Rattle.cc_base.specs.declared.device.DeviceDecl.{DeviceDecl}
+use Rattle.cc_job.specs.declared.read.Step.{Step}
+use Rattle.cc_job.specs.declared.read.Step.TheVariants.{Read as ReadStep, BadLine as BadStep, CutShort as CutStep}
+use Rattle.cc_job.specs.Jobs.{Line}
+use Rattle.cc_job.specs.Unbuilt.{is_built}
+pub use Rattle.cc_job.specs.Jobs.{covers}
 
 infixl 10 ◌>>=◌
 abbrev pub ◌>>=◌ : {A B : Type 0} → Option A → (A → Option B) → Option B
@@ -17,57 +29,279 @@ abbrev pub after_prefix : List ℕ → List ℕ → Option (List ℕ)
 after_prefix bytes prefix =
     if bytes_eq (take (length prefix) bytes) prefix then Some (drop (length prefix) bytes) else None
 
--- the bytes before the suffix
-abbrev pub before_suffix : List ℕ → List ℕ → Option (List ℕ)
-before_suffix bytes suffix =
-    let front = length bytes - length suffix in
-    if bytes_eq (drop front bytes) suffix then Some (take front bytes) else None
-
 -- the bytes before the first c, and those behind it
 abbrev pub cut_at : ℕ → List ℕ → Option (List ℕ × List ℕ)
 cut_at c [] = None
 cut_at c (b ∷ bs) = if b == c then Some ([], bs) else option_map (λ cut. (b ∷ cut.0, cut.1)) (cut_at c bs)
 
+-- the byte before the first word
+abbrev pub before_first : ℕ → List (List ℕ) → List (List ℕ)
+before_first b [] = (b ∷ []) ∷ []
+before_first b (word ∷ words) = (b ∷ word) ∷ words
+
+-- what stands between the bytes c
+abbrev pub split_at : ℕ → List ℕ → List (List ℕ)
+split_at c [] = [] ∷ []
+split_at c (b ∷ bs) = if b == c then [] ∷ split_at c bs else before_first b (split_at c bs)
+
+abbrev pub first_and_rest : List (List ℕ) → Option (List ℕ × List (List ℕ))
+first_and_rest [] = None
+first_and_rest (word ∷ words) = Some (word, words)
+
+-- the word, where there is one alone
+abbrev pub one_of : List (List ℕ) → Option (List ℕ)
+one_of [] = None
+one_of (word ∷ []) = Some word
+one_of (word ∷ other ∷ words) = None
+
+-- the two words, where there are two
+abbrev pub two_of : List (List ℕ) → Option (List ℕ × List ℕ)
+two_of [] = None
+two_of (word ∷ []) = None
+two_of (word ∷ other ∷ []) = Some (word, other)
+two_of (word ∷ other ∷ more ∷ words) = None
+
 -- the name that a word is
 unfoldable pub name_of : List ℕ → Option (List ℕ)
 name_of word = if is_utf8 word && spells_name (chars word) then Some (chars word) else None
 
-unfoldable pub device_line : List ℕ → Option (List ℕ × List ℕ)
-device_line bytes = do
-  rest ← after_prefix bytes (codes "capc 1" ++ 10 ∷ codes "device ")
-  cut ← cut_at 32 rest
-  name ← name_of cut.0
-  behind ← after_prefix cut.1 (codes "console" ++ 10 ∷ [])
-  Some (name, behind)
+-- there is a first byte, and it is no 0 unless it stands alone
+abbrev pub begins_numeral : List ℕ → Bool
+begins_numeral [] = false
+begins_numeral (b ∷ bs) = not (b == 48) || length (b ∷ bs) == 1
 
--- the name, the digits of the number of lines, and the rest
-unfoldable pub put_line : List ℕ → Option (List ℕ × List ℕ × List ℕ)
-put_line bytes = do
-  rest ← after_prefix bytes (codes "put ")
-  cut ← cut_at 32 rest
-  name ← name_of cut.0
-  number ← cut_at 10 cut.1
-  Some (name, number.0, number.1)
+-- digits, the first of which is no 0 unless it stands alone
+abbrev pub is_numeral : List ℕ → Bool
+is_numeral word = begins_numeral word && list_all is_ascii_digit word
 
--- the first that is there
-abbrev pub first_of_both : {A : Type 0} → Option A → Option A → Option A
-first_of_both (Some x) other = Some x
-first_of_both None other = other
+-- the number up to the limit that a word writes
+unfoldable pub number_of : ℕ → List ℕ → Option ℕ
+number_of most word =
+    if is_numeral word && nat_le (digits_value 10 word) most then Some (digits_value 10 word) else None
 
--- what stands before the last line
-unfoldable pub text_before_check : List ℕ → Option (List ℕ)
-text_before_check bytes =
-    first_of_both (before_suffix bytes (codes "check" ++ 10 ∷ [])) (before_suffix bytes (codes "check"))
+-- what stands behind a minus: no 0
+abbrev pub negative_of : ℕ → Option ℤ
+negative_of zero = None
+negative_of (suc n) = Some (negsuc n)
 
--- the text is whole lines, as many as the digits say, and no longer than the limit
-unfoldable pub is_text : List ℕ → List ℕ → Bool
-is_text digits text = are_lines text && nat_le (length text) text_limit && bytes_eq (decimal (line_count text)) digits
+-- the number behind a minus, or the number of the word where there is none
+abbrev pub signed_with : List ℕ → Option (List ℕ) → Option ℤ
+signed_with word (Some digits) = option_and_then negative_of (number_of 9223372036854775808 digits)
+signed_with word None = option_map pos (number_of 9223372036854775807 word)
 
-unfoldable pub job_of : List ℕ → Option Job
-job_of bytes = do
-  device ← device_line bytes
-  put ← put_line device.1
-  text ← text_before_check put.2
-  if is_text put.1 text
-      then Some (record { device_name = device.0; module_name = put.0; text = text })
-      else None
+unfoldable pub signed_of : List ℕ → Option ℤ
+signed_of word = signed_with word (after_prefix word (codes "-"))
+
+-- what each of the words is, where each is something
+abbrev pub all_of : {A : Type 0} → (List ℕ → Option A) → List (List ℕ) → Option (List A)
+all_of read [] = Some []
+all_of read (word ∷ words) = option_and_then (λ x. option_map (λ xs. x ∷ xs) (all_of read words)) (read word)
+
+unfoldable pub pair_of : List ℕ → Option (List ℕ × List ℕ)
+pair_of word = do
+  two ← two_of (split_at 46 word)
+  first ← name_of two.0
+  second ← name_of two.1
+  Some (first, second)
+
+unfoldable pub is_schedule : ℕ → List ℕ → Bool
+is_schedule tasks schedule = nat_le 1 (length schedule) && nat_le (length schedule) 64 && covers tasks schedule
+
+unfoldable pub schedule_of : ℕ → List ℕ → Option (List ℕ)
+schedule_of tasks word = do
+  numbers ← all_of (number_of (tasks - 1)) (split_at 44 word)
+  if is_schedule tasks numbers then Some numbers else None
+
+-- what these tasks say with this fuel and this schedule
+unfoldable pub turns_of : ℕ → List ℕ → List (List ℕ) → Option Command
+turns_of fuel numbers words =
+    if nat_lt (length words) 1 || nat_lt 8 (length words) then None
+    else do
+      entries ← all_of pair_of words
+      schedule ← schedule_of (length words) numbers
+      Some (Tasks fuel schedule entries)
+
+unfoldable pub file_of : List (List ℕ) → Option Kind
+file_of words = option_map File (all_of signed_of words)
+
+-- the kind that a word and those behind it say
+unfoldable pub kind_with : List ℕ → List (List ℕ) → Option Kind
+kind_with word rest =
+    if bytes_eq word (codes "file") then file_of rest
+    else if not (nat_le (length rest) 0) then None
+    else if bytes_eq word (codes "console") then Some Console
+    else if bytes_eq word (codes "counter") then Some Counter
+    else None
+
+unfoldable pub kind_of : List (List ℕ) → Option Kind
+kind_of words = do
+  split ← first_and_rest words
+  kind_with split.0 split.1
+
+unfoldable pub device_of : List (List ℕ) → Option Head
+device_of words = do
+  split ← first_and_rest words
+  name ← name_of split.0
+  kind ← kind_of split.1
+  Some (Device (record { name = name; kind = kind }))
+
+unfoldable pub put_of : List (List ℕ) → Option Head
+put_of words = do
+  two ← two_of words
+  name ← name_of two.0
+  count ← number_of 4194304 two.1
+  Some (PutHead name count)
+
+unfoldable pub drop_of : List (List ℕ) → Option Command
+drop_of words = do
+  word ← one_of words
+  name ← name_of word
+  Some (Drop name)
+
+unfoldable pub check_of : List (List ℕ) → Option Command
+check_of [] = Some Check
+check_of (word ∷ words) = None
+
+unfoldable pub sig_of : List (List ℕ) → Option Command
+sig_of words = do
+  word ← one_of words
+  name ← name_of word
+  Some (Sig name)
+
+unfoldable pub derive_of : List (List ℕ) → Option Command
+derive_of words = do
+  word ← one_of words
+  pair ← pair_of word
+  Some (Derive pair.0 pair.1)
+
+unfoldable pub run_of : List (List ℕ) → Option Command
+run_of words = do
+  two ← two_of words
+  pair ← pair_of two.0
+  fuel ← number_of 1000000 two.1
+  Some (Run pair.0 pair.1 fuel)
+
+unfoldable pub tasks_of : List (List ℕ) → Option Command
+tasks_of words = do
+  split ← first_and_rest words
+  fuel ← number_of 1000000 split.0
+  behind ← first_and_rest split.1
+  turns_of fuel behind.0 behind.1
+
+-- the command that a word and those behind it say, other than a put
+unfoldable pub command_with : List ℕ → List (List ℕ) → Option Command
+command_with word rest =
+    if bytes_eq word (codes "drop") then drop_of rest
+    else if bytes_eq word (codes "check") then check_of rest
+    else if bytes_eq word (codes "sig") then sig_of rest
+    else if bytes_eq word (codes "derive") then derive_of rest
+    else if bytes_eq word (codes "run") then run_of rest
+    else if bytes_eq word (codes "tasks") then tasks_of rest
+    else None
+
+unfoldable pub head_with : List ℕ → List (List ℕ) → Option Head
+head_with word rest =
+    if bytes_eq word (codes "device") then device_of rest
+    else if bytes_eq word (codes "put") then put_of rest
+    else option_map CommandHead (command_with word rest)
+
+-- what a line says, without the text behind it
+unfoldable pub head_of : List ℕ → Option Head
+head_of line = do
+  split ← first_and_rest (split_at 32 line)
+  head_with split.0 split.1
+
+-- how many lines stand behind the line
+abbrev pub text_size : Head → ℕ
+text_size (Device device) = 0
+text_size (PutHead name count) = count
+text_size (CommandHead command) = 0
+
+-- one less where a line ends
+abbrev pub left_behind : ℕ → ℕ → ℕ
+left_behind b count = if b == 10 then count - 1 else count
+
+-- the text of so many whole lines, and what stands behind it
+abbrev pub text_cut : ℕ → List ℕ → Option (List ℕ × List ℕ)
+text_cut count [] = if count == 0 then Some ([], []) else None
+text_cut count (b ∷ bs) =
+    if count == 0 then Some ([], b ∷ bs)
+    else option_map (λ cut. (b ∷ cut.0, cut.1)) (text_cut (left_behind b count) bs)
+
+-- the first line, and what stands behind it
+abbrev pub or_all : List ℕ → Option (List ℕ × List ℕ) → List ℕ × List ℕ
+or_all bytes (Some cut) = cut
+or_all bytes None = (bytes, [])
+
+abbrev pub next_line : List ℕ → List ℕ × List ℕ
+next_line bytes = or_all bytes (cut_at 10 bytes)
+
+-- whether a device has the name
+abbrev pub has_device : List DeviceDecl → DeviceDecl → Bool
+has_device devices device = list_any (λ other. bytes_eq device.name other.name) devices
+
+-- the device may be declared: there is no command yet, there are less than 16 devices, and none has its name
+unfoldable pub admits : List DeviceDecl → List Command → DeviceDecl → Bool
+admits devices commands device =
+    (length commands == 0) && nat_lt (length devices) 16 && not (has_device devices device)
+
+abbrev pub is_admitted : List DeviceDecl → List Command → Head → Bool
+is_admitted devices commands (Device device) = admits devices commands device
+is_admitted devices commands (PutHead name count) = true
+is_admitted devices commands (CommandHead command) = true
+
+-- the devices and the commands, with what a line and the text behind it say
+abbrev pub devices_with : List DeviceDecl → Head → List DeviceDecl
+devices_with devices (Device device) = devices ++ device ∷ []
+devices_with devices (PutHead name count) = devices
+devices_with devices (CommandHead command) = devices
+
+abbrev pub commands_with : List Command → Head → List ℕ → List Command
+commands_with commands (Device device) text = commands
+commands_with commands (PutHead name count) text = commands ++ Put name text ∷ []
+commands_with commands (CommandHead command) text = commands ++ command ∷ []
+
+-- whether the last of the commands is not carried out
+abbrev pub ends_unbuilt : List Command → Bool
+ends_unbuilt [] = false
+ends_unbuilt (command ∷ []) = not (is_built command)
+ends_unbuilt (command ∷ other ∷ commands) = ends_unbuilt (other ∷ commands)
+
+-- the line of the first command that is not carried out, where that of the last one is this
+abbrev pub first_unbuilt : Option ℕ → List Command → ℕ → Option ℕ
+first_unbuilt (Some number) commands line = Some number
+first_unbuilt None commands line = if ends_unbuilt commands then Some line else None
+
+-- What is read at the front: a line and so many behind it, with the devices and the commands then, and what stands
+-- behind; or the line begins no job; or the text of a put is cut short.
+pub data Next : Type 0 where
+  Read : (count : ℕ) (devices : List DeviceDecl) (commands : List Command) (behind : List ℕ) → Next
+  BadLine : Next
+  CutShort : Next
+
+abbrev pub next_text : List DeviceDecl → List Command → Head → Option (List ℕ × List ℕ) → Next
+next_text devices commands head None = CutShort
+next_text devices commands head (Some cut) =
+    Read (text_size head) (devices_with devices head) (commands_with commands head cut.0) cut.1
+
+abbrev pub next_head : List DeviceDecl → List Command → List ℕ → Option Head → Next
+next_head devices commands behind None = BadLine
+next_head devices commands behind (Some head) =
+    if is_admitted devices commands head
+    then next_text devices commands head (text_cut (text_size head) behind)
+    else BadLine
+
+abbrev pub next_in : List DeviceDecl → List Command → Line → List ℕ → Next
+next_in devices commands [] behind = Read 0 devices commands behind
+next_in devices commands (b ∷ bs) behind = next_head devices commands behind (head_of (b ∷ bs))
+
+unfoldable pub next_item : List ℕ → List DeviceDecl → List Command → Next
+next_item bytes devices commands =
+    let cut = next_line bytes in
+    next_in devices commands cut.0 cut.1
+
+-- what the step is where the lists have become these
+abbrev pub IsStep : Step → List DeviceDecl → List Command → Next → Type 0
+IsStep (ReadStep count behind) devices commands next = next ≡ Read count devices commands behind.now
+IsStep BadStep devices commands next = next ≡ BadLine
+IsStep CutStep devices commands next = next ≡ CutShort

@@ -1,103 +1,177 @@
-ghost use Rattle.std.specs.Prelude.{◌≡◌, IfOk};
-ghost use Rattle.std.specs.Option.{option_map};
-ghost use Rattle.cc_job.specs.Job.{ReadsJob};
-ghost use Rattle.cc_job.specs.Reading.{job_of, device_line, put_line};
+ghost use Rattle.std.specs.Prelude.{◌≡◌};
 
-use crate::lines::{after_prefix, cut_at, is_text, name_of, text_before_check};
+use cc_base::device::DeviceDecl;
 use cc_base::name::Name;
 use cc_base::text::Text;
-use std::alloc::{AllocError, Global};
+use std::marker::Model;
 
-/// The greatest number of bytes of a module's text.
-pub const TEXT_LIMIT: usize = 65_536;
+/// The declared devices of a job, in order. Contracts see their list.
+#[derive(Drop)]
+pub struct DeviceList {
+    devices: Vec<DeviceDecl>,
+}
 
-/// A job: a console is declared, a module is put, and it is checked.
+impl Model for DeviceList {
+    ghost use Rattle.std.specs.Prelude.{List};
+    ghost use Rattle.cc_base.specs.declared.device.DeviceDecl.{DeviceDecl};
+
+    ghost Value = { List DeviceDecl };
+
+    ghost view = { λ d. d.devices.items };
+}
+
+impl DeviceList {
+    /// The devices of a list, in its order.
+    pub fn new(devices: Vec<DeviceDecl>) -> DeviceList
+        ensures { result ≡ devices.items }
+    {
+        DeviceList { devices }
+    }
+
+    /// The devices, in order.
+    pub fn as_slice(&self) -> &[DeviceDecl]
+        ensures { result.now ≡ self.now }
+    {
+        self.devices.as_slice()
+    }
+
+    /// The list of the devices. It takes no memory.
+    pub fn into_vec(self) -> Vec<DeviceDecl>
+        ensures { result.items ≡ self }
+    {
+        self.devices
+    }
+}
+
+/// The numbers of tasks whose turns follow each other. Contracts see their list.
+#[derive(Drop)]
+pub struct Schedule {
+    numbers: Vec<u32>,
+}
+
+impl Model for Schedule {
+    ghost use Rattle.std.specs.Prelude.{List, ℕ};
+
+    ghost Value = { List ℕ };
+
+    ghost view = { λ s. s.numbers.items };
+}
+
+impl Schedule {
+    /// The schedule of a list, in its order.
+    pub fn new(numbers: Vec<u32>) -> Schedule
+        ensures { result ≡ numbers.items }
+    {
+        Schedule { numbers }
+    }
+
+    /// The numbers, in order.
+    pub fn as_slice(&self) -> &[u32]
+        ensures { result.now ≡ self.now }
+    {
+        self.numbers.as_slice()
+    }
+}
+
+/// Definitions of modules that run together, each with its module's name before its own. Contracts see their list.
+#[derive(Drop)]
+pub struct EntryList {
+    entries: Vec<(Name, Name)>,
+}
+
+impl Model for EntryList {
+    ghost use Rattle.std.specs.Prelude.{List, ℕ};
+
+    ghost Value = { List (List ℕ × List ℕ) };
+
+    ghost view = { λ e. e.entries.items };
+}
+
+impl EntryList {
+    /// The entries of a list, in its order.
+    pub fn new(entries: Vec<(Name, Name)>) -> EntryList
+        ensures { result ≡ entries.items }
+    {
+        EntryList { entries }
+    }
+
+    /// The entries, in order.
+    pub fn as_slice(&self) -> &[(Name, Name)]
+        ensures { result.now ≡ self.now }
+    {
+        self.entries.as_slice()
+    }
+}
+
+/// What a job asks for.
+#[derive(Drop)]
+pub enum Command {
+    /// The module gets the text.
+    Put(Name, Text),
+    /// The module is removed.
+    Drop(Name),
+    /// All modules are checked.
+    Check,
+    /// The signature of the module is shown.
+    Sig(Name),
+    /// The certificate of a module's definition is shown.
+    Derive(Name, Name),
+    /// A module's definition is run, for at most so many steps.
+    Run(Name, Name, u32),
+    /// Definitions are run together by a schedule, each for at most so many steps.
+    Tasks(u32, Schedule, EntryList),
+}
+
+/// The commands of a job, in order. Contracts see their list.
+#[derive(Drop)]
+pub struct CommandList {
+    commands: Vec<Command>,
+}
+
+impl Model for CommandList {
+    ghost use Rattle.std.specs.Prelude.{List};
+    ghost use Rattle.cc_job.specs.declared.job.Command.{Command};
+
+    ghost Value = { List Command };
+
+    ghost view = { λ c. c.commands.items };
+}
+
+impl CommandList {
+    /// The commands of a list, in its order.
+    pub fn new(commands: Vec<Command>) -> CommandList
+        ensures { result ≡ commands.items }
+    {
+        CommandList { commands }
+    }
+
+    /// The commands, in order.
+    pub fn as_slice(&self) -> &[Command]
+        ensures { result.now ≡ self.now }
+    {
+        self.commands.as_slice()
+    }
+}
+
+/// A job: the devices that it declares, and what it asks for.
 #[derive(Drop)]
 pub struct Job {
-    pub device_name: Name,
-    pub module_name: Name,
-    pub text: Text,
+    pub devices: DeviceList,
+    pub commands: CommandList,
+}
+
+/// A job that was read, and the line of its first command that the program does not carry out, if there is one.
+#[derive(Drop)]
+pub struct JobReading {
+    pub job: Job,
+    pub unbuilt: Option<u32>,
 }
 
 /// Why bytes give no `Job`.
 #[derive(Clone, Copy, Debug, PartialEq, Eq)]
 pub enum JobError {
-    /// The bytes are no job. The number of a line is not told yet, and is 0.
+    /// The bytes are no job. The line is the first such that no job begins with the lines up to it, or one more than
+    /// the number of lines where there is none.
     BadJob { line: u32 },
     NoMemory,
-}
-
-/// The job whose text the bytes are.
-pub fn read_job(alloc: Global, bytes: &[u8]) -> Result<Job, JobError>
-    ensures { ReadsJob bytes.now result }
-{
-    match find_job(alloc, bytes) {
-        Ok(Some(job)) => Ok(job),
-        Ok(None) => Err(JobError::BadJob { line: 0 }),
-        Err(AllocError) => Err(JobError::NoMemory),
-    }
-}
-
-/// The device's name and the rest, behind the lines that declare it.
-#[tactic(auto, unfolding(crate::specs::Reading::device_line))]
-fn device_line(alloc: Global, bytes: &[u8]) -> Result<Option<(Name, &[u8])>, AllocError>
-    ensures { IfOk result (λ found. option_map (λ it. (it.0, it.1.now)) found ≡ device_line bytes.now) }
-{
-    let Some(rest) = after_prefix(bytes, b"capc 1\ndevice ") else {
-        return Ok(None);
-    };
-    let Some((word, rest)) = cut_at(rest, b' ') else {
-        return Ok(None);
-    };
-    let Some(name) = name_of(alloc, word)? else {
-        return Ok(None);
-    };
-    let Some(rest) = after_prefix(rest, b"console\n") else {
-        return Ok(None);
-    };
-    Ok(Some((name, rest)))
-}
-
-/// The module's name, the digits of the number of its lines, and the rest.
-#[tactic(auto, unfolding(crate::specs::Reading::put_line))]
-fn put_line(alloc: Global, bytes: &[u8]) -> Result<Option<(Name, &[u8], &[u8])>, AllocError>
-    ensures { IfOk result (λ found. option_map (λ it. (it.0, it.1.now, it.2.now)) found ≡ put_line bytes.now) }
-{
-    let Some(rest) = after_prefix(bytes, b"put ") else {
-        return Ok(None);
-    };
-    let Some((word, rest)) = cut_at(rest, b' ') else {
-        return Ok(None);
-    };
-    let Some(name) = name_of(alloc, word)? else {
-        return Ok(None);
-    };
-    let Some((digits, rest)) = cut_at(rest, b'\n') else {
-        return Ok(None);
-    };
-    Ok(Some((name, digits, rest)))
-}
-
-#[tactic(auto, unfolding(crate::specs::Reading::job_of))]
-fn find_job(alloc: Global, bytes: &[u8]) -> Result<Option<Job>, AllocError>
-    ensures { IfOk result (λ job. job ≡ job_of bytes.now) }
-{
-    let Some((device_name, rest)) = device_line(alloc, bytes)? else {
-        return Ok(None);
-    };
-    let Some((module_name, digits, rest)) = put_line(alloc, rest)? else {
-        return Ok(None);
-    };
-    let Some(text) = text_before_check(rest) else {
-        return Ok(None);
-    };
-    if !is_text(alloc, digits, text)? {
-        return Ok(None);
-    }
-    let text = Text::new(Vec::from_slice(alloc, text)?);
-    Ok(Some(Job {
-        device_name,
-        module_name,
-        text,
-    }))
 }

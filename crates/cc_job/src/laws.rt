@@ -1,6 +1,38 @@
-ghost use Rattle.cc_job.specs.Job.{BytesHaveOneJob};
+ghost use Rattle.cc_job.specs.Jobs.{BytesHaveOneJob, BytesHaveOneBadLine};
+ghost use Rattle.cc_job.specs.Unbuilt.{JobsAreBuiltOrNot, BuiltJobsHaveNoUnbuiltLine, JobsHaveOneUnbuiltLine};
+ghost use Rattle.cc_job.specs.Examples.{ShortestJob, LongJob, NothingIsBad, TwoSpacesAreBad, MinusZeroIsBad, MissingTaskIsBad, LateDeviceIsBad, SecondNameIsBad, ShortTextIsBad, OpenTextIsBad};
 
 /// Bytes are the text of at most one job.
 pub fn bytes_have_one_job()
     ensures { BytesHaveOneJob }
+{}
+
+/// Bytes that are no job have one bad line.
+pub fn bytes_have_one_bad_line()
+    ensures { BytesHaveOneBadLine }
+{}
+
+/// A job has a first command that the program does not carry out, on one line, or the program carries all of them out.
+pub fn jobs_have_one_unbuilt_line()
+    ensures found { JobsAreBuiltOrNot }
+    ensures none { BuiltJobsHaveNoUnbuiltLine }
+    ensures one { JobsHaveOneUnbuiltLine }
+{}
+
+/// Worked jobs.
+pub fn worked_jobs()
+    ensures shortest { ShortestJob }
+    ensures long { LongJob }
+{}
+
+/// Bytes that are no job, with their lines.
+pub fn worked_refusals()
+    ensures nothing { NothingIsBad }
+    ensures spaces { TwoSpacesAreBad }
+    ensures minus { MinusZeroIsBad }
+    ensures task { MissingTaskIsBad }
+    ensures device { LateDeviceIsBad }
+    ensures name { SecondNameIsBad }
+    ensures short { ShortTextIsBad }
+    ensures open { OpenTextIsBad }
 {}

@@ -1,7 +1,7 @@
 // Jobs, as their devices and commands, and bytes that are none, as their bad lines.
 use cc_base::device::{DeviceDecl, Kind};
-use cc_jobs::job::{Command, Job, JobError};
-use cc_jobs::read::read_job;
+use cc_job::job::{Command, Job, JobError};
+use cc_job::read::read_job;
 use std::alloc::{AllocError, Global};
 use std::test::Fail;
 

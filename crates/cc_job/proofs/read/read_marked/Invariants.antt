@@ -1,0 +1,10 @@
+use Rattle.std.proofs.Common.{length}
+use Rattle.cc_job.specs.Unbuilt.{HasUnbuilt}
+use Rattle.cc_job.proofs.Standing.{Stands, job_with}
+use Rattle.cc_job.proofs.read.read_marked.Given as goal
+
+abbrev pub invariant-loop-rest : goal.invariant-loop-rest
+invariant-loop-rest l = Stands l.bytes l.rest l.devices.items l.commands.items l.number × HasUnbuilt l.bytes (job_with l.devices.items l.commands.items) l.unbuilt
+
+abbrev pub decreases-loop-rest : goal.decreases-loop-rest
+decreases-loop-rest l = length l.rest

@@ -1,0 +1,192 @@
+//! Reading a job.
+
+ghost use Rattle.std.specs.Prelude.{◌≡◌, ◌+◌, ◌-◌, ◌^◌, ◌<◌, length, OnOk, IfOk};
+ghost use Rattle.cc_job.specs.Jobs.{ReadsJob};
+ghost use Rattle.cc_job.specs.Unbuilt.{is_built, ReadsMarked};
+ghost use Rattle.cc_job.specs.Reading.{text_size, ends_unbuilt, first_unbuilt, has_device, admits, is_admitted, devices_with, commands_with, next_item, IsStep};
+
+use crate::head::{Head, head_of};
+use crate::job::{Command, CommandList, DeviceList, Job, JobError, JobReading};
+use crate::lines::{line_count, next_line, text_cut};
+use cc_base::device::DeviceDecl;
+use cc_base::text::Text;
+use std::alloc::{AllocError, Global};
+
+// How many lines of text stand behind the line.
+fn text_size(head: &Head) -> u32
+    ensures { result ≡ text_size head.now }
+{
+    match head {
+        Head::Device(_) => 0,
+        Head::Put(_, count) => *count,
+        Head::Command(_) => 0,
+    }
+}
+
+// Whether a device has the name.
+fn has_device(devices: &[DeviceDecl], device: &DeviceDecl) -> bool
+    ensures { result ≡ has_device devices.now device.now }
+{
+    devices.iter().any(|other| device.name == other.name)
+}
+
+// Whether the device may be declared: there is no command yet, there are less than 16 devices, and none has its name.
+#[tactic(auto, unfolding(crate::specs::Reading::admits))]
+fn admits(devices: &[DeviceDecl], commands: &[Command], device: &DeviceDecl) -> bool
+    ensures { result ≡ admits devices.now commands.now device.now }
+{
+    commands.len() == 0 && devices.len() < 16 && !has_device(devices, device)
+}
+
+fn is_admitted(devices: &[DeviceDecl], commands: &[Command], head: &Head) -> bool
+    ensures { result ≡ is_admitted devices.now commands.now head.now }
+{
+    match head {
+        Head::Device(device) => admits(devices, commands, device),
+        Head::Put(_, _) => true,
+        Head::Command(_) => true,
+    }
+}
+
+// Adds what a line and the text behind it say.
+fn add(
+    alloc: Global,
+    devices: &mut Vec<DeviceDecl>,
+    commands: &mut Vec<Command>,
+    head: Head,
+    text: &[u8],
+) -> Result<(), AllocError>
+    ensures devices { OnOk result (devices.new.items ≡ devices_with devices.old.items head) }
+    ensures commands { OnOk result (commands.new.items ≡ commands_with commands.old.items head text.now) }
+{
+    match head {
+        Head::Device(device) => devices.push(device)?,
+        Head::Put(name, _) => {
+            let text = Text::new(Vec::from_slice(alloc, text)?);
+            commands.push(Command::Put(name, text))?;
+        }
+        Head::Command(command) => commands.push(command)?,
+    }
+    Ok(())
+}
+
+// What was read at the front of a text.
+enum Step<'a> {
+    // A line and so many behind it, with this behind them.
+    Read(u32, &'a [u8]),
+    // The line begins no job.
+    BadLine,
+    // The text of a put is cut short.
+    CutShort,
+}
+
+// Reads an item, or an empty line.
+#[tactic(auto, unfolding(crate::specs::Reading::next_item))]
+fn next_item<'a>(
+    alloc: Global,
+    bytes: &'a [u8],
+    devices: &mut Vec<DeviceDecl>,
+    commands: &mut Vec<Command>,
+) -> Result<Step<'a>, AllocError>
+    ensures { IfOk result (λ step. IsStep step devices.new.items commands.new.items (next_item bytes.now devices.old.items commands.old.items)) }
+{
+    let (line, behind) = next_line(bytes);
+    if line.is_empty() {
+        return Ok(Step::Read(0, behind));
+    }
+    let Some(head) = head_of(alloc, line)? else {
+        return Ok(Step::BadLine);
+    };
+    if !is_admitted(devices.as_slice(), commands.as_slice(), &head) {
+        return Ok(Step::BadLine);
+    }
+    let count = text_size(&head);
+    let Some((text, behind)) = text_cut(behind, count) else {
+        return Ok(Step::CutShort);
+    };
+    add(alloc, devices, commands, head, text)?;
+    Ok(Step::Read(count, behind))
+}
+
+// Whether the program carries the command out.
+fn is_built(command: &Command) -> bool
+    ensures { result ≡ is_built command.now }
+{
+    match command {
+        Command::Put(_, _) | Command::Drop(_) | Command::Check | Command::Sig(_) => true,
+        Command::Derive(_, _) | Command::Run(_, _, _) | Command::Tasks(_, _, _) => false,
+    }
+}
+
+// Whether the program does not carry the last of the commands out.
+fn ends_unbuilt(commands: &[Command]) -> bool
+    ensures { result ≡ ends_unbuilt commands.now }
+{
+    match commands.last() {
+        Some(command) => !is_built(command),
+        None => false,
+    }
+}
+
+// The line of the first command that the program does not carry out, where that of the last one is this.
+fn first_unbuilt(earlier: Option<u32>, commands: &[Command], line: u32) -> Option<u32>
+    ensures { result ≡ first_unbuilt earlier commands.now line }
+{
+    if earlier.is_none() && ends_unbuilt(commands) {
+        Some(line)
+    } else {
+        earlier
+    }
+}
+
+/// The job whose text the bytes are, and the line of its first command that the program does not carry out.
+///
+/// Fails with `BadJob` exactly where they are the text of none, and for want of memory.
+pub fn read_marked(alloc: Global, bytes: &[u8]) -> Result<JobReading, JobError>
+    requires { length bytes.now < 4294967295 }
+    ensures { ReadsMarked bytes.now result }
+{
+    let (first, behind) = next_line(bytes);
+    if first != b"capc 1".as_slice() {
+        return Err(JobError::BadJob { line: 1 });
+    }
+    let mut devices = Vec::new(alloc);
+    let mut commands = Vec::new(alloc);
+    let mut rest = behind;
+    let mut number: u32 = 1;
+    let mut unbuilt: Option<u32> = None;
+    while !rest.is_empty() {
+        match next_item(alloc, rest, &mut devices, &mut commands) {
+            Ok(Step::Read(count, behind)) => {
+                unbuilt = first_unbuilt(unbuilt, commands.as_slice(), number + 1);
+                number += count + 1;
+                rest = behind;
+            }
+            Ok(Step::BadLine) => return Err(JobError::BadJob { line: number + 1 }),
+            Ok(Step::CutShort) => {
+                return Err(JobError::BadJob {
+                    line: line_count(bytes) + 1,
+                });
+            }
+            Err(AllocError) => return Err(JobError::NoMemory),
+        }
+    }
+    let job = Job {
+        devices: DeviceList::new(devices),
+        commands: CommandList::new(commands),
+    };
+    Ok(JobReading { job, unbuilt })
+}
+
+/// The job whose text the bytes are.
+///
+/// Fails with `BadJob` exactly where they are the text of none, and for want of memory.
+pub fn read_job(alloc: Global, bytes: &[u8]) -> Result<Job, JobError>
+    requires { length bytes.now < 4294967295 }
+    ensures { ReadsJob bytes.now result }
+{
+    match read_marked(alloc, bytes) {
+        Ok(reading) => Ok(reading.job),
+        Err(error) => Err(error),
+    }
+}

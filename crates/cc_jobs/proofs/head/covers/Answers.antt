@@ -1,7 +1,0 @@
-use Rattle.std.proofs.Common.{sym, ◌∙◌}
-use Rattle.cc_jobs.proofs.Numbers.{covers_lacks}
-use Rattle.cc_jobs.proofs.head.covers.Goals as goal
-
-pub returns-then-not-contains : goal.returns-then-not-contains
-returns-then-not-contains c =
-    covers_lacks c.loop-task.task-counter c.args.tasks c.args.schedule.now c.loop-task-test.true (sym c.contains.ensures.value ∙ c.if-not-contains.true)

@@ -1,6 +1,0 @@
-use Rattle.std.proofs.Common.{◌≡◌, true}
-use Rattle.cc_jobs.specs.Jobs.{covers}
-use Rattle.cc_jobs.proofs.head.covers.Given as goal
-
-abbrev pub invariant-loop-task : goal.invariant-loop-task
-invariant-loop-task l = covers l.task-counter l.schedule ≡ true
