@@ -6,7 +6,4 @@ pub mod finding;
 pub mod imports;
 pub mod judgement;
 pub mod judging;
-pub mod laws;
 mod reading;
-mod scope;
-pub mod verdict;
