@@ -25,8 +25,10 @@ pub struct Dependencies {
     pub schedule: Vec<usize>,
 }
 
-// The imports of each text, if it is a module.
-fn read_all(
+/// The imports of each text, if it is a module.
+///
+/// Fails only for want of memory.
+pub fn read_imports(
     alloc: Global,
     texts: &[(Name, SharedText)],
 ) -> Result<Vec<Option<Vec<Import>>>, AllocError>
@@ -81,8 +83,10 @@ fn insert_reading(
     }
 }
 
-// The import graph.
-fn import_graph(
+/// The import graph of the texts, whose imports were read.
+///
+/// Fails only for want of memory.
+pub fn import_graph(
     alloc: Global,
     texts: &[(Name, SharedText)],
     readings: &[Option<Vec<Import>>],
@@ -185,7 +189,7 @@ pub fn find_dependencies(
     requires { ArePresent texts.now }
     ensures { IfOk result (AreDependencies texts.now) }
 {
-    let imports = read_all(alloc, texts)?;
+    let imports = read_imports(alloc, texts)?;
     let graph = import_graph(alloc, texts, imports.as_slice())?;
     let schedule = schedule(alloc, texts, imports.as_slice(), &graph)?;
     Ok(Dependencies {

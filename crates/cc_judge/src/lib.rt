@@ -3,7 +3,7 @@
 #![tactic(auto)]
 
 mod carrying;
-mod dependencies;
+pub mod dependencies;
 pub mod findings;
 pub mod grounds;
 pub mod judging;

@@ -4,7 +4,7 @@ use Rattle.std.specs.Option.{option_map}
 use Rattle.cc_meta_modules.specs.Readings.{imports_of}
 use Rattle.cc_parse.specs.Trees.{imports_syntax}
 use Rattle.cc_judge.proofs.Lists.{mapped_more}
-use Rattle.cc_judge.proofs.dependencies.read_all.Goals as goal
+use Rattle.cc_judge.proofs.dependencies.read_imports.Goals as goal
 
 pub loop-entry-preserved : goal.loop-entry-preserved
 loop-entry-preserved c =
