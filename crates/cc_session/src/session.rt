@@ -10,15 +10,18 @@ ghost use Rattle.cc_meta_modules.specs.ModuleLaws.{NamesOfDevicesDiffer};
 ghost use Rattle.cc_meta_modules.specs.ModuleVerdicts as judged;
 ghost use Rattle.cc_meta_modules.specs.PresentTexts.{text_of, AreVerdicts};
 ghost use Rattle.cc_module.specs.Judgements.{checked_definition_of};
+ghost use Rattle.cc_session.specs.EntryAnswers.{AnswersEntry};
 ghost use Rattle.cc_session.specs.Sessions.{last_of, IsUpToDate, HasTexts, others_present};
 ghost use Rattle.cc_session.specs.Signatures.{signature_of, definition_in};
 
+use crate::entry::{EntryError, start_entry};
 use crate::refusals::{NoSuchModule, PutRefused, Refused};
 use crate::texts::{put_text, remove_text};
 use cc_base::code::Code;
 use cc_base::device::DeviceDecl;
 use cc_base::name::Name;
 use cc_base::steps::Steps;
+use cc_entry::entry::Entry;
 use cc_judge::findings::definition_named;
 use cc_judge::grounds::SharedText;
 use cc_judge::judging::judge_all;
@@ -154,6 +157,7 @@ impl Session {
     pub fn verdicts(&self) -> &[(Name, ModuleVerdict)]
         requires { IsTrue self.now.checked }
         ensures verdicts { result.now ≡ self.now.verdicts }
+        ensures one_each { length self.now.grounds ≡ length self.now.verdicts }
         ensures current { IsUpToDate self.now }
     {
         self.last.verdicts.as_slice()
@@ -190,6 +194,28 @@ impl Session {
                 None => Err(Refused { code: Code::E33 }),
             },
             Err(refused) => Err(refused),
+        }
+    }
+
+    /// The entry of the definition of the module: what its program is linked from, and the devices that it may operate.
+    ///
+    /// Refused as `definition` is, and else with `E35` exactly where the definition is no function that takes a unit.
+    /// Fails besides only for want of memory, and only where it is not refused.
+    pub fn entry(&self, module: &Name, def: &Name) -> Result<Entry, EntryError>
+        requires { IsTrue self.now.checked }
+        ensures { AnswersEntry self.now.devices self.now.present «module».now def.now result }
+    {
+        match self.definition(module, def) {
+            Ok(found) => start_entry(
+                self.alloc,
+                self.devices.as_slice(),
+                self.present.as_slice(),
+                self.last.verdicts.as_slice(),
+                module,
+                def,
+                found,
+            ),
+            Err(refused) => Err(EntryError::Refused(refused)),
         }
     }
 }

@@ -1,0 +1,4 @@
+pub mod Entries
+pub mod ExampleEntries
+pub mod Modules
+pub mod PresentEntries
