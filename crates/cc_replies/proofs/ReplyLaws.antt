@@ -23,15 +23,15 @@ replies_exist exist devices texts (ShowSignature name) differ sorted =
     let (verdicts, are) = exist devices texts differ sorted in
     (signature_reply texts verdicts name, (verdicts, are, refl))
 
-some_of : {X : Type 0} (o : Option X) → is_some o ≡ true → (x : X) × (o ≡ Some x)
+pub some_of : {X : Type 0} (o : Option X) → is_some o ≡ true → (x : X) × (o ≡ Some x)
 some_of (Some x) h = (x, refl)
 some_of None h = cc
 
-found_first : {X : Type 0} (b : Bool) (x : X) (o : Option X) → b ≡ true → is_some (cond b (Some x) o) ≡ true
+pub found_first : {X : Type 0} (b : Bool) (x : X) (o : Option X) → b ≡ true → is_some (cond b (Some x) o) ≡ true
 found_first true x o h = refl
 found_first false x o h = cc
 
-found_later : {X : Type 0} (b : Bool) (x : X) (o : Option X) → is_some o ≡ true → is_some (cond b (Some x) o) ≡ true
+pub found_later : {X : Type 0} (b : Bool) (x : X) (o : Option X) → is_some o ≡ true → is_some (cond b (Some x) o) ≡ true
 found_later true x o h = refl
 found_later false x o h = h
 

@@ -5,7 +5,9 @@ use Rattle.cc_meta_modules.specs.ModuleLaws.{NamesOfDevicesDiffer}
 use Rattle.cc_meta_modules.specs.PresentTexts.{Texts, ArePresent}
 use Rattle.cc_replies.specs.ReplyTexts.{Reply}
 use Rattle.cc_replies.specs.Replies.{Request, Replies, after}
+use Rattle.cc_judge.specs.Judgements.{Judgement}
 use Rattle.cc_replies.specs.Outputs.{IsOutput, after_all}
+use Rattle.cc_replies.specs.StaleModules.{AreStale}
 
 -- a command leaves texts in order of name, and one for each name
 abbrev pub TextsStayPresent : Type 0
@@ -45,3 +47,16 @@ OutputsAreJoined =
     (first_refused second_refused : Bool) → IsOutput devices texts front first first_refused
     → IsOutput devices (after_all texts front) back second second_refused
     → IsOutput devices texts (front ++ back) (first ++ second) (first_refused || second_refused)
+
+-- commands find some number of modules stale
+abbrev pub StaleModulesAreCounted : Type 0
+StaleModulesAreCounted =
+    (devices : List DeviceDecl) (texts : Texts) (last : List Judgement) (requests : List Request)
+    → NamesOfDevicesDiffer devices → ArePresent texts → (sum : ℕ) × AreStale devices texts last requests sum
+
+-- and no other number
+abbrev pub StaleModulesAreCountedOnce : Type 0
+StaleModulesAreCountedOnce =
+    (devices : List DeviceDecl) (texts : Texts) (last : List Judgement) (requests : List Request) (first second : ℕ)
+    → ArePresent texts → AreStale devices texts last requests first → AreStale devices texts last requests second
+    → first ≡ second

@@ -4,3 +4,4 @@ pub mod Outputs
 pub mod Replies
 pub mod ReplyTexts
 pub mod SessionVerdicts
+pub mod StaleModules

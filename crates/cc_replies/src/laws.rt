@@ -14,3 +14,9 @@ pub fn commands_have_one_output()
     ensures unique { law.OutputsAreUnique }
     ensures joined { law.OutputsAreJoined }
 {}
+
+/// The commands of a job find some number of modules stale, and no other.
+pub fn stale_modules_are_counted()
+    ensures exist { law.StaleModulesAreCounted }
+    ensures unique { law.StaleModulesAreCountedOnce }
+{}

@@ -14,15 +14,16 @@ use cc_module::judgement::CheckedDef;
 use cc_print::{Names, type_text};
 use std::alloc::{AllocError, Global};
 
-// The names of the devices, in order.
-fn names_of(alloc: Global, devices: &[DeviceDecl]) -> Result<Vec<Name>, AllocError>
-    ensures { IfOk result (λ names. names.items ≡ device_names devices.now) }
+/// The names of the devices, in order, which is that of their positions. Fails only for want of memory.
+pub fn names_of(alloc: Global, devices: &[DeviceDecl]) -> Result<Names, AllocError>
+    ensures names { IfOk result (λ names. names.names.items ≡ device_names devices.now) }
+    ensures locals { IfOk result (λ names. names.locals ≡ 0) }
 {
     let mut names = Vec::with_capacity(alloc, devices.len())?;
     for device in devices {
         names.push(device.name.clone()?)?;
     }
-    Ok(names)
+    Ok(Names { names, locals: 0 })
 }
 
 // Adds the line of a definition.
@@ -42,24 +43,21 @@ fn put_signature(
 }
 
 /// The reply to a command that shows the signature of a module, which is accepted with these definitions: a line for
-/// each, in their order. Types name the devices, whose order is that of the positions.
+/// each, in their order. Types have the names of the devices.
 ///
 /// Fails only for want of memory, as which the number of a binder past 2^32 - 1 counts.
 pub fn sig_reply(
     alloc: Global,
     name: &Name,
     defs: &[CheckedDef],
-    devices: &[DeviceDecl],
+    names: &Names,
 ) -> Result<String, AllocError>
-    ensures { IfOk result (λ text. string_bytes text ≡ reply_text (device_names devices.now) (Signatures name.now (map checked_definition_of defs.now))) }
+    requires { names.now.locals ≡ 0 }
+    ensures { IfOk result (λ text. string_bytes text ≡ reply_text names.now.names.items (Signatures name.now (map checked_definition_of defs.now))) }
 {
-    let names = Names {
-        names: names_of(alloc, devices)?,
-        locals: 0,
-    };
     let mut out = format!(in alloc; "sig {name}\n")?;
     for def in defs {
-        put_signature(alloc, &mut out, def, &names)?;
+        put_signature(alloc, &mut out, def, names)?;
     }
     Ok(out)
 }

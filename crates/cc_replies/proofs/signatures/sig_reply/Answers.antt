@@ -1,5 +1,4 @@
 use Rattle.std.proofs.Common.{◌++◌, codes, ap, ◌∙◌}
-use Rattle.cc_mnf.specs.CoreModules.{device_names}
 use Rattle.cc_module.specs.Judgements.{checked_definition_of}
 use Rattle.cc_replies.specs.ReplyTexts.{head, signature_line}
 use Rattle.cc_replies.proofs.Mapped.{flat_mapped}
@@ -9,5 +8,5 @@ pub returns : goal.returns
 returns c =
     c.loop-def.invariant
     ∙ ap (λ lines. head (codes "sig") c.args.name.now ++ lines)
-    (flat_mapped (signature_line (device_names c.args.devices.now)) checked_definition_of c.args.defs.now
+    (flat_mapped (signature_line c.args.names.now.names.items) checked_definition_of c.args.defs.now
     c.loop-def.def-index c.loop-def-test.false)
