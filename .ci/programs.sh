@@ -3,6 +3,7 @@
 # It prints a line for each failure and a closing line where there is one, and nothing where all is as it must be.
 # Usage: .ci/programs.sh [PROGRAM ..]; with no program, those that `rt ci` leaves.
 set -u
+shopt -s lastpipe
 top=$(cd "$(dirname "$0")/.." && pwd)
 built=$top/crates/capc/out/capc
 if [ $# -eq 0 ]; then
@@ -40,8 +41,46 @@ run() {
     echo $? > "$work/status"
 }
 
+# job STATUS NAME OUTPUT: the job on standard input has this output, after what is written for its puts, which say no more
+# than that each was done
+job() {
+    run
+    grep -v '^put [^ ]*$' "$work/out" > "$work/left"
+    mv "$work/left" "$work/out"
+    expect "$2" "$1" "$3" ''
+}
+
+# bad LINE NAME: the job on standard input is none, by this line
+bad() {
+    run
+    expect "$2" 2 '' "capc: bad job at line $1\n"
+}
+
+# not_built LINE NAME: the job on standard input has a command on this line that the program does not carry out
+not_built() {
+    run
+    expect "$2" 8 '' "capc: not built at line $1\n"
+}
+
+# module LINE ..: a put of a module m with these lines, beside a console and a counter
+module() {
+    printf 'capc 1\ndevice out console\ndevice hits counter\nput m %d\n' $#
+    printf '%s\n' "$@"
+}
+
+# signatures LINE ..: the same, and then its signatures
+signatures() {
+    module "$@"
+    echo 'sig m'
+}
+
+# verdict LINE ..: the same, and then its verdict
+verdict() {
+    module "$@"
+    echo check
+}
+
 jobs=$top/examples
-no_job='capc: bad job at line 0\n'
 for program; do
     if [ ! -x "$program" ]; then
         failed=$((failed + 1))
@@ -49,43 +88,109 @@ for program; do
         continue
     fi
 
-    run < "$jobs/accepted.job"
-    expect 'an accepted job' 0 'put greeter\ncheck\n  greeter ok\n' ''
-    run < "$jobs/refused.job"
-    expect 'a refused job' 1 'put greeter\ncheck\n  greeter E03 2:3\n' ''
+    # The examples, each of which says what is written for it.
+    for example in "$jobs"/*.job; do
+        wanted=0
+        grep -qE '^  [^ ]+ E[0-9]+ |refused' "${example%.job}.out" && wanted=1
+        run < "$example"
+        expect "the example $(basename "$example")" "$wanted" "$(sed 's/\\/\\\\/g' "${example%.job}.out")\n" ''
+    done
+
+    # Jobs.
+    printf 'capc 1\n' | run
+    expect 'a job without commands' 0 '' ''
+    printf 'capc 1' | run
+    expect 'a job of one line without its line feed' 0 '' ''
     printf 'capc 1\ndevice out console\nput m 0\ncheck' | run
     expect 'a job whose last line has no line feed' 0 'put m\ncheck\n  m ok\n' ''
+    printf 'capc 1\n\n\ndevice out console\n\nput m 1\n\n\ncheck\n\n' | run
+    expect 'empty lines' 0 'put m\ncheck\n  m ok\n' ''
+    printf 'capc 1\nput m 1\ndef id = fun (x: Unit) => x\ndrop m\ndrop m\ncheck\nsig m\n' | run
+    expect 'a module that is removed twice' 1 'put m\ndrop m\ndrop m refused E32\ncheck\nsig m refused E32\n' ''
+    {
+        printf 'capc 1\nput m 1\ndef id = fun (x: Unit) => x\nput m 1\ndef id = fun (x: Unit) => x\ncheck\ncheck\nsig m\n'
+    } | run
+    expect 'one text twice' 0 'put m\nput m\ncheck\n  m ok\ncheck\n  m ok\nsig m\n  id: (_0: Unit) -> Unit^{_0}\n' ''
 
+    # Verdicts and signatures.
+    verdict 'def k: (x: Unit) -> Unit = fun (x: Unit) => out' | job 1 'another shape' 'check\n  m E14 1:28\n'
+    verdict 'def k: (x: Unit) -> Console = fun (x: Unit) => out' | job 1 'a pure type of a console' 'check\n  m E15 1:31\n'
+    verdict 'def k = fun (x: Unit) x' | job 1 'an arrow left out' 'check\n  m E03 1:23\n'
+    verdict 'def f = fun (u: Unit) =>' '  val b = (val c: ((x: Int) -> Unit)^{cap} = fun (x: Int) => out.print(x); box c);' \
+        '  (unbox b)(5)' | job 1 'a content set that became cap' 'check\n  m E16 3:4\n'
+    signatures 'def g = fun (c: Console^{cap}) =>' '  val p = fun (x: Int) => c.print(x);' \
+        '  val q = fun (h: ((y: Int) -> Unit)^{p}) => p(1);' '  q' |
+        job 0 'a set that is widened' 'sig m\n  g: (_0: Console^{cap}) -> ((_1: (_1: Int) -> Unit) -> Unit)^{_0}\n'
+    verdict 'def f = fun (u: Unit) =>' '  boundary [Box[(v: Unit) -> Unit]] z => box (fun (v: Unit) => val w = z; v)' |
+        job 1 'an exit in a box' 'check\n  m E15 2:42\n'
+    signatures 'def id = fun [X <: Any] => fun (x: X) => x' \
+        'def f: ((x: Int) -> Int)^{out} = fun (x: Int) => val w = out.print(x); x' \
+        'def main = fun (u: Unit) => val g = id[Box[((x: Int) -> Int)^{out}]]; (unbox {out} (g(box f)))(3)' |
+        job 0 'type functions' 'sig m\n  id: [_T0 <: Any] -> (_1: _T0) -> _T0^{_1}\n  f: ((_0: Int) -> Int)^{out}\n  main: ((_0: Unit) -> Int)^{out}\n'
+    verdict 'def p: [X <: Int] -> (x: X) -> X = fun [X <: Any] => fun (x: X) => x' |
+        job 1 'unequal bounds' 'check\n  m E14 1:36\n'
+    signatures 'def main = fun (c: Console^{cap}) =>' '  val a = fun (h: ((x: Int) -> Unit)^?) => h(1);' \
+        '  val b = fun (k: ((x: Int) -> Unit)^?) => a(k);' '  val d = fun (x: Int) => c.print(x);' \
+        '  val w = b(d);' '  a' |
+        job 0 'omitted sets that depend on each other' 'sig m\n  main: (_0: Console^{cap}) -> (_1: ((_1: Int) -> Unit)^{cap}) -> Unit\n'
+    signatures 'def main = fun (c: Console^{cap}) =>' '  val a = fun (h: ((x: Int) -> Unit)^?) => h(1);' \
+        '  val b = fun (k: ((x: Int) -> Unit)^?) => a(k);' '  val d = fun (x: Int) => c.print(x);' '  a' |
+        job 0 'omitted sets that are empty' 'sig m\n  main: (_0: Console^{cap}) -> (_1: (_1: Int) -> Unit) -> Unit\n'
+    printf 'capc 1\nput %s\nimport %s\ndef %s = fun (x: Unit) => x\n' \
+        'a 2' b.g f > "$work/cycle"
+    printf 'put %s\nimport %s\ndef %s = fun (x: Unit) => x\n' 'b 2' a.f g 'c 2' a.f h >> "$work/cycle"
+    echo check >> "$work/cycle"
+    job 1 'modules in a cycle' 'check\n  a E08 1:8\n  b E08 1:8\n  c E07 1:8\n' < "$work/cycle"
+
+    # Limits.
+    {
+        printf 'capc 1\nput m 1\n%65535s\nput m 1\n%65536s\ncheck\n' '' ''
+    } | run
+    expect 'the longest text, and a longer one' 1 'put m\nput m refused E30\ncheck\n  m ok\n' ''
+    {
+        echo 'capc 1'
+        for number in $(seq 0 256); do printf 'put m%d 0\n' "$number"; done
+        echo 'put m0 0'
+    } | run
+    { for number in $(seq 0 255); do printf 'put m%d\n' "$number"; done; printf 'put m256 refused E31\nput m0\n'; } > "$work/many"
+    expect 'as many modules as there may be, and one more' 1 "$(cat "$work/many")\n" ''
+    { echo 'capc 1'; for number in $(seq 16); do echo "device d$number counter"; done; } | run
+    expect 'as many devices as there may be' 0 '' ''
+    { echo 'capc 1'; for number in $(seq 17); do echo "device d$number counter"; done; } | bad 18 'one device more'
+    head -c 4194304 /dev/zero | bad 1 'as many bytes as a job may have'
+    { echo 'capc 1'; head -c 4194297 /dev/zero | tr '\0' '\n'; } | run
+    expect 'a job of as many bytes as it may have' 0 '' ''
+    head -c 4194305 /dev/zero | run
+    expect 'a byte more than a job may have' 7 '' 'capc: job too long\n'
+
+    # What is no job.
+    bad 1 'an empty input' < /dev/null
+    printf 'capc 2\n' | bad 1 'another first line'
+    printf 'capc 1\nput m 5\n1\n2\n3\n' | bad 6 'a text that is cut short'
+    printf 'capc 1\ndevice a console\ndevice b counter\ndevice a console\n' | bad 4 'a name of two devices'
+    printf 'capc 1\nput m 1\nx\nchec\n' | bad 4 'a word that is none'
+    printf 'capc 1\nput m 1\nx' | bad 4 'a text whose last line has no line feed'
+    printf 'capc 1\ncheck\ndevice out console\n' | bad 3 'a device behind a command'
+    printf 'capc 1\nrun m.f 1000001\n' | bad 2 'more fuel than there may be'
+    sed 's/$/\r/' "$jobs/accepted.job" | bad 1 'carriage returns at the ends of lines'
+    { printf '\xef\xbb\xbf'; cat "$jobs/accepted.job"; } | bad 1 'a byte order mark'
+    sed 's/put greeter 4/put greeter 3/' "$jobs/accepted.job" | bad 7 'a number of lines that is too small'
+    sed 's/put greeter 4/put greeter 6/' "$jobs/accepted.job" | bad 9 'a number of lines that is too large'
+    sed 's/device out/device  out/' "$jobs/accepted.job" | bad 2 'two spaces'
+    sed 's/console$/console /' "$jobs/accepted.job" | bad 2 'a space at the end of a line'
+
+    # Commands that the program does not carry out.
+    { cat "$jobs/accepted.job"; printf '\nderive greeter.choose\nrun greeter.choose 9\n'; } | not_built 10 'a derivation'
+    printf 'capc 1\ntasks 100 0,1 m.one m.two\n' | not_built 2 'tasks'
+    printf 'capc 1\nrun m.f 9\nrun m.f\n' | bad 3 'no job with such a command'
+
+    # Words.
     run --frob < "$jobs/accepted.job"
     expect 'a word' 6 '' 'capc: bad words\n'
     run '' < "$jobs/accepted.job"
     expect 'an empty word' 6 '' 'capc: bad words\n'
     run $'\xff' < "$jobs/accepted.job"
     expect 'a word that is no text' 6 '' 'capc: bad words\n'
-
-    run < /dev/null
-    expect 'an empty input' 2 '' "$no_job"
-    printf 'capc 2\ndevice out console\nput m 0\ncheck\n' | run
-    expect 'another first line' 2 '' "$no_job"
-    sed 's/$/\r/' "$jobs/accepted.job" | run
-    expect 'carriage returns at the ends of lines' 2 '' "$no_job"
-    { printf '\xef\xbb\xbf'; cat "$jobs/accepted.job"; } | run
-    expect 'a byte order mark' 2 '' "$no_job"
-    sed 's/put greeter 4/put greeter 3/' "$jobs/accepted.job" | run
-    expect 'a number of lines that is too small' 2 '' "$no_job"
-    sed 's/put greeter 4/put greeter 5/' "$jobs/accepted.job" | run
-    expect 'a number of lines that is too large' 2 '' "$no_job"
-    { cat "$jobs/accepted.job"; echo; } | run
-    expect 'a blank line' 2 '' "$no_job"
-    sed 's/device out/device  out/' "$jobs/accepted.job" | run
-    expect 'two spaces' 2 '' "$no_job"
-    sed 's/console$/console /' "$jobs/accepted.job" | run
-    expect 'a space at the end of a line' 2 '' "$no_job"
-
-    head -c 4194304 /dev/zero | run
-    expect 'as many bytes as a job may have' 2 '' "$no_job"
-    head -c 4194305 /dev/zero | run
-    expect 'a byte more than a job may have' 7 '' 'capc: job too long\n'
 
     # A directory opens and cannot be read, and the full device takes nothing.
     run < /

@@ -1,16 +1,21 @@
 -- The answers of the top call exclude each other.
-use Rattle.std.proofs.Common.{◌≡◌, ◌↔◌, ℕ, ◌<◌, ◌≤◌, true, false, cond, List, ◌++◌, length, Option, Some, None, refl, sym, ap, ◌∙◌, subst, inl, inr, ⊎_elim, arith}
-use Rattle.std.specs.Io.KnownBytes.{Consumes, IsAtEnd}
+use Rattle.std.proofs.Common.{◌≡◌, ◌↔◌, ℕ, ◌+◌, ◌<◌, ◌≤◌, Bool, true, false, List, [], ◌++◌, length, Option, Some, None, refl, sym, ap, ◌∙◌, subst, inl, inr, ⊎_elim, arith}
+use Rattle.std.specs.Io.KnownBytes.{Consumes, IsAtEnd, Keeps}
 use Rattle.std.proofs.lemmas.List.{append-nil, length-append}
 use Rattle.cc_io.specs.Wholes.{AppendsFront}
 use Rattle.cc_job.specs.declared.job.Job.{Job}
-use Rattle.cc_job.specs.Job.{IsJob}
+use Rattle.cc_job.specs.Jobs.{IsJob, IsBadAt}
+use Rattle.cc_job.specs.Unbuilt.{IsBuilt, IsUnbuiltAt}
 use Rattle.cc_job.proofs.JobLaws.{one_job}
+use Rattle.cc_job.proofs.UnbuiltLaws.{built_jobs_have_no_unbuilt_line, jobs_have_one_unbuilt_line}
+use Rattle.cc_meta_modules.proofs.PresentLaws.{present_verdicts_exist}
+use Rattle.cc_replies.proofs.OutputLaws.{outputs_exist}
 use Rattle.capc.specs.declared.status.Status.{Status}
 use Rattle.capc.specs.declared.status.Status.TheVariants as statuses
-use Rattle.capc.specs.Output.{output_of}
-use Rattle.capc.specs.Outcome.{job_limit, Ends, ReadsWhole, ReadsJob, IsCarriedOut, has_refusal}
-use Rattle.capc.specs.Exactness.{status_of, IsFaultless, AJobIsAnswered, WhatIsNoJobIsRefused, WhatIsTooLongIsRefused, AFaultIsTold, OnlyTheOutputIsWritten}
+use Rattle.capc.specs.Requests.{requests_of}
+use Rattle.capc.specs.Outcome.{job_limit, Ends, TakesMany, ReadsWhole, ReadsJob, JudgesStale, IsCarriedOut, IsCutOff, ReadsNoJob, ReadsUnbuilt}
+use Rattle.capc.specs.Exactness.{IsFaultless, WritesFront, AJobIsAnswered, WhatIsNotBuiltIsRefused, WhatIsNoJobIsRefused, WhatIsTooLongIsRefused, AFaultIsTold, OnlyTheOutputIsWritten, OnlyStaleModulesAreJudged}
+use Rattle.capc.proofs.Answering.{none_present}
 use Rattle.capc.proofs.OutputFronts.{AppendsFront-none, AppendsFront-whole}
 
 -- what is read to the end of a source is all that it had
@@ -46,66 +51,128 @@ no_read before after bytes other f none r =
 short_read : (before after : Ends) (bytes read : List ℕ) → IsFaultless before after bytes → ReadsWhole before after read → length bytes ≤ job_limit
 short_read before after bytes read f w = subst (λ bs. length bs ≤ job_limit) (read_bytes before after bytes read f w) w.short
 
-status_accepted : (job : Job) → has_refusal job ≡ false → statuses.Clean ≡ status_of job
-status_accepted job h = ap (λ b. cond b statuses.Refusals statuses.Clean) (sym h)
+-- nothing is a front of the output of a job
+no_front : (before after : Ends) (bytes : List ℕ) (job : Job) → IsJob bytes job → Keeps before.written after.written → WritesFront before after job
+no_front before after bytes job is kept =
+    let (text, refused, output) = outputs_exist present_verdicts_exist job.devices [] (requests_of job) is.names none_present in
+    record { text = text; refused = refused; output = output; written = AppendsFront-none before.written after.written text kept }
 
-status_refused : (job : Job) → has_refusal job ≡ true → statuses.Refusals ≡ status_of job
-status_refused job h = ap (λ b. cond b statuses.Refusals statuses.Clean) (sym h)
+cut_front : (before after : Ends) (job : Job) → IsCutOff before after job → WritesFront before after job
+cut_front before after job cut =
+    record { text = cut.text; refused = cut.refused; output = cut.output; written = cut.written }
 
-pub job_is_answered : AJobIsAnswered
-job_is_answered before after statuses.Clean bytes job f short is o =
-    let same = read_job before after bytes job o.0 f is o.1.read in
-    inl (subst (λ j. IsCarriedOut before after j) same o.1, status_accepted job (subst (λ j. has_refusal j ≡ false) same o.2))
-job_is_answered before after statuses.Refusals bytes job f short is o =
-    let same = read_job before after bytes job o.0 f is o.1.read in
-    inl (subst (λ j. IsCarriedOut before after j) same o.1, status_refused job (subst (λ j. has_refusal j ≡ true) same o.2))
-job_is_answered before after (statuses.BadJob number) bytes job f short is o =
-    absurd (o.1.no_job job (subst (λ bs. IsJob bs job) (sym (read_bytes before after bytes o.1.bytes f o.1.whole)) is))
-job_is_answered before after statuses.ReadFault bytes job f short is o = let rose = o.fault in let kept = f.no_read_fault in absurd (omega arith)
-job_is_answered before after statuses.WriteFault bytes job f short is o = let rose = o.1.fault in let kept = f.no_write_fault in absurd (omega arith)
-job_is_answered before after statuses.NoMemory bytes job f short is o =
-    inr (
-      refl,
-      ⊎_elim
-          (λ early. AppendsFront-none before.written after.written (output_of job) early.silent.kept)
-          (λ late. subst (λ j. AppendsFront before.written after.written (output_of j)) (read_job before after bytes job late.0 f is late.1.cut.read) late.1.cut.written) o,
-    )
-job_is_answered before after statuses.BadWords bytes job f short is o = absurd o
-job_is_answered before after statuses.TooLong bytes job f short is o =
-    let taken = o.0.taken in
-    let most = taken_bytes before.left after.left bytes taken.0 f.told taken.1 in
-    let many = taken.2 in
-    absurd (omega arith)
-
-pub no_job_is_refused : WhatIsNoJobIsRefused
-no_job_is_refused before after statuses.Clean bytes f short none o = absurd (no_read before after bytes o.0 f none o.1.read)
-no_job_is_refused before after statuses.Refusals bytes f short none o = absurd (no_read before after bytes o.0 f none o.1.read)
-no_job_is_refused before after (statuses.BadJob number) bytes f short none o = inl (ap statuses.BadJob o.0, o.1.silent)
-no_job_is_refused before after statuses.ReadFault bytes f short none o = let rose = o.fault in let kept = f.no_read_fault in absurd (omega arith)
-no_job_is_refused before after statuses.WriteFault bytes f short none o = let rose = o.1.fault in let kept = f.no_write_fault in absurd (omega arith)
-no_job_is_refused before after statuses.NoMemory bytes f short none o =
-    ⊎_elim (λ early. inr (refl, early.silent)) (λ late. absurd (no_read before after bytes late.0 f none late.1.cut.read)) o
-no_job_is_refused before after statuses.BadWords bytes f short none o = absurd o
-no_job_is_refused before after statuses.TooLong bytes f short none o =
-    let taken = o.0.taken in
-    let most = taken_bytes before.left after.left bytes taken.0 f.told taken.1 in
-    let many = taken.2 in
-    absurd (omega arith)
-
-pub too_long_is_refused : WhatIsTooLongIsRefused
-too_long_is_refused before after statuses.Clean bytes f long o = let short = short_read before after bytes o.1.read.bytes f o.1.read.whole in absurd (omega arith)
-too_long_is_refused before after statuses.Refusals bytes f long o = let short = short_read before after bytes o.1.read.bytes f o.1.read.whole in absurd (omega arith)
-too_long_is_refused before after (statuses.BadJob number) bytes f long o = let short = short_read before after bytes o.1.bytes f o.1.whole in absurd (omega arith)
-too_long_is_refused before after statuses.ReadFault bytes f long o = let rose = o.fault in let kept = f.no_read_fault in absurd (omega arith)
-too_long_is_refused before after statuses.WriteFault bytes f long o = let rose = o.1.fault in let kept = f.no_write_fault in absurd (omega arith)
-too_long_is_refused before after statuses.NoMemory bytes f long o =
-    ⊎_elim (λ early. inr (refl, early.silent)) (λ late. let short = short_read before after bytes late.1.cut.read.bytes f late.1.cut.read.whole in absurd (omega arith)) o
-too_long_is_refused before after statuses.BadWords bytes f long o = absurd o
-too_long_is_refused before after statuses.TooLong bytes f long o = inl (refl, o.1)
+whole_front : (before after : Ends) (job : Job) (refused : Bool) → IsCarriedOut before after job refused → WritesFront before after job
+whole_front before after job refused out = record {
+  text = out.text;
+  refused = refused;
+  output = out.output;
+  written = AppendsFront-whole before.written after.written out.text out.written;
+}
 
 -- a count that stayed did not rise
 not_risen : (a b : ℕ) {P : Type 0} → b ≡ a → a < b → P
 not_risen a b same rose = absurd (omega arith)
+
+-- more than the limit was not taken of bytes within it
+not_too_many : (before after : Ends) (bytes : List ℕ) {P : Type 0} → IsFaultless before after bytes → length bytes ≤ job_limit
+    → TakesMany (λ n. n ≡ job_limit + 1) before after → P
+not_too_many before after bytes f short many =
+    let taken = many.taken in
+    let most = taken_bytes before.left after.left bytes taken.0 f.told taken.1 in
+    let count = taken.2 in
+    absurd (omega arith)
+
+-- bytes that are a job have no bad line
+not_bad : (before after : Ends) (bytes : List ℕ) (job : Job) (number : ℕ) {P : Type 0} → IsFaultless before after bytes → IsJob bytes job
+    → ReadsNoJob before after number → P
+not_bad before after bytes job number f is o =
+    absurd (o.no_job.none job (subst (λ bs. IsJob bs job) (sym (read_bytes before after bytes o.bytes f o.whole)) is))
+
+-- the line of a command that is not carried out, in the bytes that the source told
+told_unbuilt : (before after : Ends) (bytes : List ℕ) (job : Job) (number : ℕ) → IsFaultless before after bytes → IsJob bytes job
+    → (o : ReadsUnbuilt before after number) → IsUnbuiltAt bytes job number
+told_unbuilt before after bytes job number f is o =
+    subst (λ j. IsUnbuiltAt bytes j number) (read_job before after bytes job o.job f is o.read)
+    (subst (λ bs. IsUnbuiltAt bs o.job number) (read_bytes before after bytes o.read.bytes f o.read.whole) o.unbuilt)
+
+pub job_is_answered : AJobIsAnswered
+job_is_answered before after statuses.Clean bytes job f short is built o =
+    let same = read_job before after bytes job o.0 f is o.1.read in
+    inl (false, subst (λ j. IsCarriedOut before after j false) same o.1, refl)
+job_is_answered before after statuses.Refusals bytes job f short is built o =
+    let same = read_job before after bytes job o.0 f is o.1.read in
+    inl (true, subst (λ j. IsCarriedOut before after j true) same o.1, refl)
+job_is_answered before after (statuses.BadJob number) bytes job f short is built o = not_bad before after bytes job number f is o
+job_is_answered before after (statuses.NotBuilt number) bytes job f short is built o =
+    absurd (built_jobs_have_no_unbuilt_line bytes job number built (told_unbuilt before after bytes job number f is o))
+job_is_answered before after statuses.ReadFault bytes job f short is built o =
+    not_risen before.read_faults after.read_faults f.no_read_fault o.fault
+job_is_answered before after statuses.WriteFault bytes job f short is built o =
+    not_risen before.write_faults after.write_faults f.no_write_fault o.1.fault
+job_is_answered before after statuses.NoMemory bytes job f short is built o =
+    inr (
+      refl,
+      ⊎_elim
+          (λ early. no_front before after bytes job is early.silent.kept)
+          (λ late. subst (WritesFront before after) (read_job before after bytes job late.0 f is late.1.cut.read) (cut_front before after late.0 late.1.cut)) o,
+    )
+job_is_answered before after statuses.BadWords bytes job f short is built o = absurd o
+job_is_answered before after statuses.TooLong bytes job f short is built o = not_too_many before after bytes f short o.0
+
+-- a job with a command that is not carried out was not carried out
+not_built : (before after : Ends) (bytes : List ℕ) (job other : Job) (number : ℕ) {P : Type 0} → IsFaultless before after bytes → IsJob bytes job
+    → IsUnbuiltAt bytes job number → ReadsJob before after other → IsBuilt other → P
+not_built before after bytes job other number f is at read built =
+    absurd (built_jobs_have_no_unbuilt_line bytes job number (subst IsBuilt (read_job before after bytes job other f is read) built) at)
+
+pub not_built_is_refused : WhatIsNotBuiltIsRefused
+not_built_is_refused before after statuses.Clean bytes job number f short is at o =
+    not_built before after bytes job o.0 number f is at o.1.read o.1.built
+not_built_is_refused before after statuses.Refusals bytes job number f short is at o =
+    not_built before after bytes job o.0 number f is at o.1.read o.1.built
+not_built_is_refused before after (statuses.BadJob line) bytes job number f short is at o = not_bad before after bytes job line f is o
+not_built_is_refused before after (statuses.NotBuilt line) bytes job number f short is at o =
+    inl (ap statuses.NotBuilt (jobs_have_one_unbuilt_line bytes job line number (told_unbuilt before after bytes job line f is o) at), o.silent)
+not_built_is_refused before after statuses.ReadFault bytes job number f short is at o =
+    not_risen before.read_faults after.read_faults f.no_read_fault o.fault
+not_built_is_refused before after statuses.WriteFault bytes job number f short is at o =
+    not_risen before.write_faults after.write_faults f.no_write_fault o.1.fault
+not_built_is_refused before after statuses.NoMemory bytes job number f short is at o =
+    ⊎_elim (λ early. inr (refl, early.silent)) (λ late. not_built before after bytes job late.0 number f is at late.1.cut.read late.1.cut.built) o
+not_built_is_refused before after statuses.BadWords bytes job number f short is at o = absurd o
+not_built_is_refused before after statuses.TooLong bytes job number f short is at o = not_too_many before after bytes f short o.0
+
+pub no_job_is_refused : WhatIsNoJobIsRefused
+no_job_is_refused before after statuses.Clean bytes f short none o = absurd (no_read before after bytes o.0 f none o.1.read)
+no_job_is_refused before after statuses.Refusals bytes f short none o = absurd (no_read before after bytes o.0 f none o.1.read)
+no_job_is_refused before after (statuses.BadJob number) bytes f short none o =
+    inl (number, subst (λ bs. IsBadAt bs number) (read_bytes before after bytes o.bytes f o.whole) o.no_job, refl, o.silent)
+no_job_is_refused before after (statuses.NotBuilt number) bytes f short none o = absurd (no_read before after bytes o.job f none o.read)
+no_job_is_refused before after statuses.ReadFault bytes f short none o =
+    not_risen before.read_faults after.read_faults f.no_read_fault o.fault
+no_job_is_refused before after statuses.WriteFault bytes f short none o =
+    not_risen before.write_faults after.write_faults f.no_write_fault o.1.fault
+no_job_is_refused before after statuses.NoMemory bytes f short none o =
+    ⊎_elim (λ early. inr (refl, early.silent)) (λ late. absurd (no_read before after bytes late.0 f none late.1.cut.read)) o
+no_job_is_refused before after statuses.BadWords bytes f short none o = absurd o
+no_job_is_refused before after statuses.TooLong bytes f short none o = not_too_many before after bytes f short o.0
+
+-- what was read whole is no longer than the limit
+not_long : (before after : Ends) (bytes read : List ℕ) {P : Type 0} → IsFaultless before after bytes → job_limit < length bytes
+    → ReadsWhole before after read → P
+not_long before after bytes read f long whole = let short = short_read before after bytes read f whole in absurd (omega arith)
+
+pub too_long_is_refused : WhatIsTooLongIsRefused
+too_long_is_refused before after statuses.Clean bytes f long o = not_long before after bytes o.1.read.bytes f long o.1.read.whole
+too_long_is_refused before after statuses.Refusals bytes f long o = not_long before after bytes o.1.read.bytes f long o.1.read.whole
+too_long_is_refused before after (statuses.BadJob number) bytes f long o = not_long before after bytes o.bytes f long o.whole
+too_long_is_refused before after (statuses.NotBuilt number) bytes f long o = not_long before after bytes o.read.bytes f long o.read.whole
+too_long_is_refused before after statuses.ReadFault bytes f long o = not_risen before.read_faults after.read_faults f.no_read_fault o.fault
+too_long_is_refused before after statuses.WriteFault bytes f long o = not_risen before.write_faults after.write_faults f.no_write_fault o.1.fault
+too_long_is_refused before after statuses.NoMemory bytes f long o =
+    ⊎_elim (λ early. inr (refl, early.silent)) (λ late. not_long before after bytes late.1.cut.read.bytes f long late.1.cut.read.whole) o
+too_long_is_refused before after statuses.BadWords bytes f long o = absurd o
+too_long_is_refused before after statuses.TooLong bytes f long o = inl (refl, o.1)
 
 -- neither count rose, and the status is neither fault
 module _ (before after : Ends) (status : Status) where
@@ -117,7 +184,8 @@ module _ (before after : Ends) (status : Status) where
 pub fault_is_told : AFaultIsTold
 fault_is_told before after statuses.Clean o = no_fault before after _ o.1.read.whole.no_fault o.1.no_fault (λ e. cc) (λ e. cc)
 fault_is_told before after statuses.Refusals o = no_fault before after _ o.1.read.whole.no_fault o.1.no_fault (λ e. cc) (λ e. cc)
-fault_is_told before after (statuses.BadJob number) o = no_fault before after _ o.1.whole.no_fault o.1.silent.no_fault (λ e. cc) (λ e. cc)
+fault_is_told before after (statuses.BadJob number) o = no_fault before after _ o.whole.no_fault o.silent.no_fault (λ e. cc) (λ e. cc)
+fault_is_told before after (statuses.NotBuilt number) o = no_fault before after _ o.read.whole.no_fault o.silent.no_fault (λ e. cc) (λ e. cc)
 fault_is_told before after statuses.ReadFault o =
     ((λ rose. refl, λ e. o.fault), (not_risen before.write_faults after.write_faults o.silent.no_fault, λ e. absurd (clash e)))
   where
@@ -136,11 +204,25 @@ fault_is_told before after statuses.BadWords o = absurd o
 fault_is_told before after statuses.TooLong o = no_fault before after _ o.0.no_fault o.1.no_fault (λ e. cc) (λ e. cc)
 
 pub only_output : OnlyTheOutputIsWritten
-only_output before after statuses.Clean o = inr (o.0, o.1.read, AppendsFront-whole before.written after.written (output_of o.0) o.1.written)
-only_output before after statuses.Refusals o = inr (o.0, o.1.read, AppendsFront-whole before.written after.written (output_of o.0) o.1.written)
-only_output before after (statuses.BadJob number) o = inl o.1.silent.kept
+only_output before after statuses.Clean o = inr (o.0, o.1.read, whole_front before after o.0 false o.1)
+only_output before after statuses.Refusals o = inr (o.0, o.1.read, whole_front before after o.0 true o.1)
+only_output before after (statuses.BadJob number) o = inl o.silent.kept
+only_output before after (statuses.NotBuilt number) o = inl o.silent.kept
 only_output before after statuses.ReadFault o = inl o.silent.kept
-only_output before after statuses.WriteFault o = inr (o.0, o.1.cut.read, o.1.cut.written)
-only_output before after statuses.NoMemory o = ⊎_elim (λ early. inl early.silent.kept) (λ late. inr (late.0, late.1.cut.read, late.1.cut.written)) o
+only_output before after statuses.WriteFault o = inr (o.0, o.1.cut.read, cut_front before after o.0 o.1.cut)
+only_output before after statuses.NoMemory o =
+    ⊎_elim (λ early. inl early.silent.kept) (λ late. inr (late.0, late.1.cut.read, cut_front before after late.0 late.1.cut)) o
 only_output before after statuses.BadWords o = absurd o
 only_output before after statuses.TooLong o = inl o.1.kept
+
+pub only_stale : OnlyStaleModulesAreJudged
+only_stale before after statuses.Clean o = inr (o.0, o.1.read, o.1.judges)
+only_stale before after statuses.Refusals o = inr (o.0, o.1.read, o.1.judges)
+only_stale before after (statuses.BadJob number) o = inl o.silent.none_judged
+only_stale before after (statuses.NotBuilt number) o = inl o.silent.none_judged
+only_stale before after statuses.ReadFault o = inl o.silent.none_judged
+only_stale before after statuses.WriteFault o = inr (o.0, o.1.cut.read, o.1.cut.judges)
+only_stale before after statuses.NoMemory o =
+    ⊎_elim (λ early. inl early.silent.none_judged) (λ late. inr (late.0, late.1.cut.read, late.1.cut.judges)) o
+only_stale before after statuses.BadWords o = absurd o
+only_stale before after statuses.TooLong o = inl o.1.none_judged

@@ -1,2 +1,6 @@
 mod OutputFronts
+mod SessionReplies
+mod CommandFacts
+mod Answering
+mod Outcomes
 mod Exact

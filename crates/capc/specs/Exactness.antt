@@ -1,17 +1,20 @@
 -- Each answer comes exactly where its cause is: what the outcome of a call says of a source that tells its bytes.
-use Rattle.std.specs.Prelude.{◌≡◌, ◌↔◌, ℕ, ◌<◌, ◌≤◌, ◌⊎◌, List, length, Some, if◌then◌else◌}
+use Rattle.std.specs.Prelude.{◌≡◌, ◌↔◌, ℕ, ◌+◌, ◌<◌, ◌≤◌, ◌⊎◌, Bool, true, false, List, [], length, Some}
 use Rattle.std.specs.Io.KnownBytes.{Keeps}
 use Rattle.cc_io.specs.Wholes.{AppendsFront}
 use Rattle.cc_job.specs.declared.job.Job.{Job}
-use Rattle.cc_job.specs.Job.{IsJob}
+use Rattle.cc_job.specs.Jobs.{IsJob, IsBadAt}
+use Rattle.cc_job.specs.Unbuilt.{IsBuilt, IsUnbuiltAt}
+use Rattle.cc_replies.specs.Outputs.{IsOutput}
 use Rattle.capc.specs.declared.status.Status.{Status}
 use Rattle.capc.specs.declared.status.Status.TheVariants as statuses
-use Rattle.capc.specs.Output.{output_of}
-use Rattle.capc.specs.Outcome.{job_limit, Ends, IsSilent, ReadsJob, IsCarriedOut, has_refusal, Outcome}
+use Rattle.capc.specs.Requests.{requests_of}
+use Rattle.capc.specs.Outcome.{job_limit, Ends, IsSilent, ReadsJob, JudgesStale, IsCarriedOut, Outcome}
 
--- how a call ends that carried the job out
-abbrev pub status_of : Job → Status
-status_of job = if has_refusal job then statuses.Refusals else statuses.Clean
+-- how a call ends that carried the job out, where a reply is a refusal or none is
+abbrev pub status_of : Bool → Status
+status_of true = statuses.Refusals
+status_of false = statuses.Clean
 
 -- the source tells these bytes, and no read and no write failed
 pub record IsFaultless (before after : Ends) (bytes : List ℕ) : Type 0 where
@@ -23,23 +26,42 @@ pub record IsFaultless (before after : Ends) (bytes : List ℕ) : Type 0 where
 abbrev pub IsSilentForMemory : Ends → Ends → Status → Type 0
 IsSilentForMemory before after status = (status ≡ statuses.NoMemory) × IsSilent before after
 
+-- a front of the job's output was written
+pub record WritesFront (before after : Ends) (job : Job) : Type 0 where
+  pub text : List ℕ
+  pub refused : Bool
+  pub output : IsOutput job.devices [] (requests_of job) text refused
+  pub written : AppendsFront before.written after.written text
+
 -- memory lacked, and a front of the job's output was written
 abbrev pub IsCutOffForMemory : Ends → Ends → Job → Status → Type 0
-IsCutOffForMemory before after job status =
-    (status ≡ statuses.NoMemory) × AppendsFront before.written after.written (output_of job)
+IsCutOffForMemory before after job status = (status ≡ statuses.NoMemory) × WritesFront before after job
 
--- A job within the limit is carried out, its output written whole, unless memory lacks: then a front of it is written.
+-- A job within the limit whose commands the program carries out is carried out, its output written whole, unless
+-- memory lacks: then a front of it is written.
 abbrev pub AJobIsAnswered : Type 0
 AJobIsAnswered = (before after : Ends) (status : Status) (bytes : List ℕ) (job : Job)
-    → IsFaultless before after bytes → length bytes ≤ job_limit → IsJob bytes job → Outcome before after status
-    → (IsCarriedOut before after job × (status ≡ status_of job)) ⊎ IsCutOffForMemory before after job status
+    → IsFaultless before after bytes → length bytes ≤ job_limit → IsJob bytes job → IsBuilt job
+    → Outcome before after status
+    → ((refused : Bool) × IsCarriedOut before after job refused × (status ≡ status_of refused))
+    ⊎ IsCutOffForMemory before after job status
 
--- bytes within the limit that are no job are refused as such, unless memory lacks, and nothing is written
+-- A job within the limit with a command that the program does not carry out is refused as such, by the line of the
+-- first one, unless memory lacks, and nothing is written.
+abbrev pub WhatIsNotBuiltIsRefused : Type 0
+WhatIsNotBuiltIsRefused = (before after : Ends) (status : Status) (bytes : List ℕ) (job : Job) (number : ℕ)
+    → IsFaultless before after bytes → length bytes ≤ job_limit → IsJob bytes job → IsUnbuiltAt bytes job number
+    → Outcome before after status
+    → ((status ≡ statuses.NotBuilt number) × IsSilent before after) ⊎ IsSilentForMemory before after status
+
+-- Bytes within the limit that are no job are refused as such, by their bad line, unless memory lacks, and nothing is
+-- written.
 abbrev pub WhatIsNoJobIsRefused : Type 0
 WhatIsNoJobIsRefused = (before after : Ends) (status : Status) (bytes : List ℕ)
     → IsFaultless before after bytes → length bytes ≤ job_limit → ((job : Job) → IsJob bytes job → ⊥)
     → Outcome before after status
-    → ((status ≡ statuses.BadJob 0) × IsSilent before after) ⊎ IsSilentForMemory before after status
+    → ((number : ℕ) × IsBadAt bytes number × (status ≡ statuses.BadJob number) × IsSilent before after)
+    ⊎ IsSilentForMemory before after status
 
 -- more bytes than the limit are refused as too long, unless memory lacks, and nothing is written
 abbrev pub WhatIsTooLongIsRefused : Type 0
@@ -56,5 +78,10 @@ AFaultIsTold = (before after : Ends) (status : Status) → Outcome before after 
 -- Whatever the streams tell: nothing is written but a front of the output of the job that was read.
 abbrev pub OnlyTheOutputIsWritten : Type 0
 OnlyTheOutputIsWritten = (before after : Ends) (status : Status) → Outcome before after status
-    → Keeps before.written after.written
-    ⊎ ((job : Job) × ReadsJob before after job × AppendsFront before.written after.written (output_of job))
+    → Keeps before.written after.written ⊎ ((job : Job) × ReadsJob before after job × WritesFront before after job)
+
+-- Whatever the streams tell: no module is judged, or at most as many as the commands of the job that was read find
+-- stale.
+abbrev pub OnlyStaleModulesAreJudged : Type 0
+OnlyStaleModulesAreJudged = (before after : Ends) (status : Status) → Outcome before after status
+    → (after.judged ≡ before.judged) ⊎ ((job : Job) × ReadsJob before after job × JudgesStale before after job)

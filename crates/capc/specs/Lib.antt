@@ -1,5 +1,6 @@
 pub mod Status
 pub mod Words
-pub mod Output
+pub mod Requests
+pub mod Carried
 pub mod Outcome
 pub mod Exactness

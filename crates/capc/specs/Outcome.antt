@@ -1,38 +1,48 @@
--- What a call of the program may do: what is read and written, for each status.
-use Rattle.std.specs.Prelude.{◌≡◌, ℕ, ◌+◌, ◌<◌, ◌≤◌, Bool, true, false, ◌⊎◌, List, length, Option}
+-- What a call of the program may do: what is read and written, and how many modules are judged, for each status.
+use Rattle.std.specs.Prelude.{◌≡◌, ℕ, ◌+◌, ◌<◌, ◌≤◌, Bool, true, false, ◌⊎◌, List, [], length, Option}
 use Rattle.std.specs.Io.KnownBytes.{Consumes, IsAtEnd, Keeps, Appends}
 use Rattle.cc_io.specs.Wholes.{TakesCount, AppendsFront}
 use Rattle.cc_job.specs.declared.job.Job.{Job}
-use Rattle.cc_job.specs.Job.{IsJob}
-use Rattle.cc_module.specs.Verdict.{verdict_of, is_refused}
+use Rattle.cc_job.specs.Jobs.{IsJob, IsBadAt}
+use Rattle.cc_job.specs.Unbuilt.{IsBuilt, IsUnbuiltAt}
+use Rattle.cc_replies.specs.Outputs.{IsOutput}
+use Rattle.cc_replies.specs.StaleModules.{AreStale}
 use Rattle.capc.specs.declared.status.Status.{Status}
 use Rattle.capc.specs.declared.status.Status.TheVariants as statuses
-use Rattle.capc.specs.Output.{output_of}
+use Rattle.capc.specs.Requests.{requests_of}
 
 -- the greatest number of bytes of a job
 abbrev pub job_limit : ℕ
 job_limit = 4194304
 
--- the bytes that a source has left and those that a sink holds, where they tell them, and how often each failed
+-- the bytes that a source has left and those that a sink holds, where they tell them, how often each failed, and how
+-- many modules were judged
 pub record Ends : Type 0 where
   pub left : Option (List ℕ)
   pub read_faults : ℕ
   pub written : Option (List ℕ)
   pub write_faults : ℕ
+  pub judged : ℕ
 
-abbrev pub ends : Option (List ℕ) → ℕ → Option (List ℕ) → ℕ → Ends
-ends left read_faults written write_faults =
-    record { left = left; read_faults = read_faults; written = written; write_faults = write_faults }
+abbrev pub ends : Option (List ℕ) → ℕ → Option (List ℕ) → ℕ → ℕ → Ends
+ends left read_faults written write_faults judged = record {
+  left = left;
+  read_faults = read_faults;
+  written = written;
+  write_faults = write_faults;
+  judged = judged;
+}
 
 -- so many bytes were taken from the source, and no read failed
 pub record TakesMany (P : ℕ → Type 0) (before after : Ends) : Type 0 where
   pub taken : TakesCount P before.left after.left
   pub no_fault : after.read_faults ≡ before.read_faults
 
--- nothing was written, and no write failed
+-- nothing was written, no write failed, and no module was judged
 pub record IsSilent (before after : Ends) : Type 0 where
   pub kept : Keeps before.written after.written
   pub no_fault : after.write_faults ≡ before.write_faults
+  pub none_judged : after.judged ≡ before.judged
 
 -- the bytes are all that the source had, within the limit, and no read failed
 pub record ReadsWhole (before after : Ends) (bytes : List ℕ) : Type 0 where
@@ -47,27 +57,45 @@ pub record ReadsJob (before after : Ends) (job : Job) : Type 0 where
   pub whole : ReadsWhole before after bytes
   pub is_job : IsJob bytes job
 
--- the job was read, and its whole output was written
-pub record IsCarriedOut (before after : Ends) (job : Job) : Type 0 where
-  pub read : ReadsJob before after job
-  pub written : Appends before.written after.written (output_of job)
-  pub no_fault : after.write_faults ≡ before.write_faults
+-- modules were judged, at most as many as the commands of the job find stale, all their checks together
+pub record JudgesStale (before after : Ends) (job : Job) : Type 0 where
+  pub sum : ℕ
+  pub stale : AreStale job.devices [] [] (requests_of job) sum
+  pub few : after.judged ≤ before.judged + sum
 
--- the job was read, and a front of its output was written
+-- the job was read, whose commands the program carries out, and its whole output was written
+pub record IsCarriedOut (before after : Ends) (job : Job) (refused : Bool) : Type 0 where
+  pub read : ReadsJob before after job
+  pub built : IsBuilt job
+  pub text : List ℕ
+  pub output : IsOutput job.devices [] (requests_of job) text refused
+  pub written : Appends before.written after.written text
+  pub no_fault : after.write_faults ≡ before.write_faults
+  pub judges : JudgesStale before after job
+
+-- the same, but a front of its output was written
 pub record IsCutOff (before after : Ends) (job : Job) : Type 0 where
   pub read : ReadsJob before after job
-  pub written : AppendsFront before.written after.written (output_of job)
+  pub built : IsBuilt job
+  pub text : List ℕ
+  pub refused : Bool
+  pub output : IsOutput job.devices [] (requests_of job) text refused
+  pub written : AppendsFront before.written after.written text
+  pub judges : JudgesStale before after job
 
--- the source had bytes that are no job, and nothing was written
-pub record ReadsNoJob (before after : Ends) : Type 0 where
+-- the source had bytes that are no job, by this line of them, and nothing was written
+pub record ReadsNoJob (before after : Ends) (number : ℕ) : Type 0 where
   pub bytes : List ℕ
   pub whole : ReadsWhole before after bytes
-  pub no_job : (job : Job) → IsJob bytes job → ⊥
+  pub no_job : IsBadAt bytes number
   pub silent : IsSilent before after
 
--- the module of the job is refused
-abbrev pub has_refusal : Job → Bool
-has_refusal job = is_refused (verdict_of job.device_name job.text)
+-- the job was read, whose first command that the program does not carry out is on this line, and nothing was written
+pub record ReadsUnbuilt (before after : Ends) (number : ℕ) : Type 0 where
+  pub job : Job
+  pub read : ReadsJob before after job
+  pub unbuilt : IsUnbuiltAt read.bytes job number
+  pub silent : IsSilent before after
 
 -- a read failed: no more than the limit had been taken, and nothing was written
 pub record FailsToRead (before after : Ends) : Type 0 where
@@ -90,11 +118,12 @@ pub record LacksMemoryLate (before after : Ends) (job : Job) : Type 0 where
   pub cut : IsCutOff before after job
   pub no_fault : after.write_faults ≡ before.write_faults
 
--- What was read and written, for each status.
+-- What was read and written, and how many modules were judged, for each status.
 abbrev pub Outcome : Ends → Ends → Status → Type 0
-Outcome before after statuses.Clean = (job : Job) × IsCarriedOut before after job × (has_refusal job ≡ false)
-Outcome before after statuses.Refusals = (job : Job) × IsCarriedOut before after job × (has_refusal job ≡ true)
-Outcome before after (statuses.BadJob number) = (number ≡ 0) × ReadsNoJob before after
+Outcome before after statuses.Clean = (job : Job) × IsCarriedOut before after job false
+Outcome before after statuses.Refusals = (job : Job) × IsCarriedOut before after job true
+Outcome before after (statuses.BadJob number) = ReadsNoJob before after number
+Outcome before after (statuses.NotBuilt number) = ReadsUnbuilt before after number
 Outcome before after statuses.ReadFault = FailsToRead before after
 Outcome before after statuses.WriteFault = (job : Job) × FailsToWrite before after job
 Outcome before after statuses.NoMemory =

@@ -1,13 +1,19 @@
-//! What the contract of the top call says: of a source that tells its bytes, where no read and no write fails, and of faults
-//! and what is written, for all streams.
-ghost use Rattle.capc.specs.Exactness.{AJobIsAnswered, WhatIsNoJobIsRefused, WhatIsTooLongIsRefused, AFaultIsTold, OnlyTheOutputIsWritten};
+//! What the contract of the top call says: of a source that tells its bytes, where no read and no write fails, and of
+//! faults, what is written and how many modules are judged, for all streams.
+ghost use Rattle.capc.specs.Exactness.{AJobIsAnswered, WhatIsNotBuiltIsRefused, WhatIsNoJobIsRefused, WhatIsTooLongIsRefused, AFaultIsTold, OnlyTheOutputIsWritten, OnlyStaleModulesAreJudged};
 
 /// A job is carried out and its output written whole, unless memory lacks: then a front of it is written.
 pub fn a_job_is_answered()
     ensures { AJobIsAnswered }
 {}
 
-/// What is no job is refused as such, unless memory lacks, and nothing is written.
+/// A job with a command that the program does not carry out is refused as such, unless memory lacks, and nothing is
+/// written.
+pub fn what_is_not_built_is_refused()
+    ensures { WhatIsNotBuiltIsRefused }
+{}
+
+/// What is no job is refused as such, by its bad line, unless memory lacks, and nothing is written.
 pub fn what_is_no_job_is_refused()
     ensures { WhatIsNoJobIsRefused }
 {}
@@ -25,4 +31,9 @@ pub fn a_fault_is_told()
 /// Nothing is written but a front of the output of the job that was read.
 pub fn only_the_output_is_written()
     ensures { OnlyTheOutputIsWritten }
+{}
+
+/// No module is judged but those that the commands of the job that was read find stale.
+pub fn only_stale_modules_are_judged()
+    ensures { OnlyStaleModulesAreJudged }
 {}

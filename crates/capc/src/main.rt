@@ -3,9 +3,9 @@
 //! The program reads a job from standard input, carries it out, and writes one reply for each command.
 #![tactic(auto)]
 
-mod answers;
+mod commands;
 pub mod laws;
-mod reply;
+mod replies;
 mod run;
 mod status;
 #[cfg(test)]

@@ -1,12 +1,12 @@
 ghost use Rattle.std.specs.Prelude.{◌≡◌, ◌≢◌, ◌↔◌, ◌-◌, ◌^◌, ◌<◌, []};
 ghost use Rattle.capc.specs.Outcome.{Outcome, ends};
 
-use crate::answers::carry_out;
+use crate::commands::carry_out;
 use crate::status::Status;
 use cc_base::steps::Steps;
 use cc_io::{ReadAll, Sink, Source, WriteAll, read_all};
-use cc_job::job::{JobError, read_job};
-use cc_module::verdict::ModuleVerdict;
+use cc_job::job::JobError;
+use cc_job::read::read_marked;
 use std::alloc::Global;
 use std::sync::ledger::Ledger;
 
@@ -16,7 +16,7 @@ pub const JOB_LIMIT: usize = 4_194_304;
 /// Reads the job, carries it out, and writes the replies.
 ///
 /// The words are those after the program's name: so far there is no form of them but none at all. Nothing is written
-/// before the job is read. The counter counts modules that are judged again, and no call does so far.
+/// before the job is read. The counter counts the modules that are judged.
 pub fn capc<S: Source, K: Sink, L: Ledger>(
     alloc: Global,
     words: &[String],
@@ -29,14 +29,13 @@ pub fn capc<S: Source, K: Sink, L: Ledger>(
 
     // Words in no form touch nothing.
     ensures words { (result ≡ Status.BadWords) ↔ (words.now ≢ []) }
-    ensures untouched { words.now ≢ [] → (source.new ≡ source.old) × (sink.new ≡ sink.old) }
+    ensures untouched { words.now ≢ [] → (source.new ≡ source.old) × (sink.new ≡ sink.old) × (steps.new ≡ steps.old) }
 
-    // What was read and written, for each status.
+    // What was read and written, and how many modules were judged, for each status.
     ensures outcome { words.now ≡ [] → Outcome
-        (ends (S.left source.old) (S.faults source.old) (K.written sink.old) (K.faults sink.old))
-        (ends (S.left source.new) (S.faults source.new) (K.written sink.new) (K.faults sink.new))
+        (ends (S.left source.old) (S.faults source.old) (K.written sink.old) (K.faults sink.old) steps.old)
+        (ends (S.left source.new) (S.faults source.new) (K.written sink.new) (K.faults sink.new) steps.new)
         result }
-    ensures steps { steps.new ≡ steps.old }
 {
     if !words.is_empty() {
         return Status::BadWords;
@@ -47,15 +46,18 @@ pub fn capc<S: Source, K: Sink, L: Ledger>(
         Err(ReadAll::TooLong) => return Status::TooLong,
         Err(ReadAll::NoMemory) => return Status::NoMemory,
     };
-    let job = match read_job(alloc, &bytes) {
-        Ok(job) => job,
+    let reading = match read_marked(alloc, &bytes) {
+        Ok(reading) => reading,
         Err(JobError::BadJob { line }) => return Status::BadJob(line),
         Err(JobError::NoMemory) => return Status::NoMemory,
     };
-    match carry_out(alloc, &job, sink) {
-        Ok(ModuleVerdict::Accepted) => Status::Clean,
-        Ok(ModuleVerdict::Refused(_)) => Status::Refusals,
-        Err(WriteAll::WriteFault) => Status::WriteFault,
-        Err(WriteAll::NoMemory) => Status::NoMemory,
+    match reading.unbuilt {
+        Some(line) => Status::NotBuilt(line),
+        None => match carry_out(alloc, reading.job, sink, steps) {
+            Ok(false) => Status::Clean,
+            Ok(true) => Status::Refusals,
+            Err(WriteAll::WriteFault) => Status::WriteFault,
+            Err(WriteAll::NoMemory) => Status::NoMemory,
+        },
     }
 }

@@ -12,7 +12,7 @@ pub enum Status {
     Clean,
     /// The job was carried out, and a reply is a refusal.
     Refusals,
-    /// The bytes are no job. The number of the line is 0 where it is not told.
+    /// The bytes are no job, by the line of this number.
     BadJob(u32),
     /// A read failed.
     ReadFault,
@@ -24,6 +24,8 @@ pub enum Status {
     BadWords,
     /// The job is longer than the limit.
     TooLong,
+    /// The job has a command that the program does not carry out, the first one on the line of this number.
+    NotBuilt(u32),
 }
 
 impl Status {
@@ -40,6 +42,7 @@ impl Status {
             Status::NoMemory => 5,
             Status::BadWords => 6,
             Status::TooLong => 7,
+            Status::NotBuilt(_) => 8,
         }
     }
 
@@ -73,6 +76,7 @@ impl fmt::Display for Status {
             Status::NoMemory => f.write_str("capc: out of memory"),
             Status::BadWords => f.write_str("capc: bad words"),
             Status::TooLong => f.write_str("capc: job too long"),
+            Status::NotBuilt(line) => write!(f, "capc: not built at line {line}"),
         }
     }
 }

@@ -1,0 +1,145 @@
+-- What each command does to a session, and what is written for it.
+use Rattle.std.proofs.Common.{◌≡◌, ℕ, ◌+◌, ◌≤◌, Bool, List, Option, Result, Ok, Err, refl, sym, ◌∙◌, subst, if◌then◌else◌, arith}
+use Rattle.std.specs.Prelude.{IfOk}
+use Rattle.std.specs.BTreeMap.{insert_entry}
+use Rattle.std.specs.Map.{remove_entry}
+use Rattle.std.specs.Str.{bytes_eq}
+use Rattle.cc_base.specs.declared.device.DeviceDecl.{DeviceDecl}
+use Rattle.cc_graph.specs.Graph.{compare_names}
+use Rattle.cc_io.specs.declared.whole.WriteAll.{WriteAll}
+use Rattle.cc_io.specs.declared.whole.WriteAll.TheVariants as errors
+use Rattle.cc_io.specs.Wholes.{WritesWhole}
+use Rattle.cc_judge.specs.Judgements.{Judgement, judgements, stale_count, AreCurrent}
+use Rattle.cc_meta_modules.proofs.PresentLaws.{present_verdicts_exist}
+use Rattle.cc_meta_modules.specs.ModuleLaws.{NamesOfDevicesDiffer}
+use Rattle.cc_meta_modules.specs.ModuleVerdicts.{ModuleVerdict}
+use Rattle.cc_meta_modules.specs.PresentTexts.{Texts, ArePresent, AreVerdicts}
+use Rattle.cc_mnf.specs.CoreModules.{device_names}
+use Rattle.cc_replies.proofs.ReplyLaws.{replies_exist}
+use Rattle.cc_replies.specs.Replies.{Request, Replies, PutText, DropModule, CheckModules, ShowSignature, put_reply, after}
+use Rattle.cc_replies.specs.ReplyTexts.{Reply, reply_text, is_refusal}
+use Rattle.cc_replies.specs.StaleModules.{Checks}
+use Rattle.cc_session.specs.Sessions.{SessionState, last_of, IsUpToDate}
+use Rattle.capc.specs.Carried.{IsReplied, Changes, Judges}
+use Rattle.capc.proofs.OutputFronts.{WritesWhole-none}
+use Rattle.capc.proofs.SessionReplies.{put_after}
+
+-- what holds in any case holds of an answer
+pub if_ok : {P : Type 0} (result : Result Bool WriteAll) → P → IfOk result (λ _. P)
+if_ok (Ok it) p = p
+if_ok (Err error) p = tt
+
+-- this reply was written
+pub replied : (devices : List DeviceDecl) (texts : Texts) (request : Request) (reply : Reply) → Replies devices texts request reply
+    → (old new : Option (List ℕ)) (result : Result Bool WriteAll) → WritesWhole old new result (reply_text (device_names devices) reply)
+    → IfOk result (λ refused. refused ≡ is_refusal reply) → IsReplied devices texts request old new result
+replied devices texts request reply is old new result written refused =
+    record { reply = reply; replies = is; written = written; refused = refused }
+
+-- memory lacked before anything was written
+pub replied_nothing : (devices : List DeviceDecl) (texts : Texts) (request : Request) → NamesOfDevicesDiffer devices → ArePresent texts
+    → (sink : Option (List ℕ)) → IsReplied devices texts request sink sink (Err errors.NoMemory)
+replied_nothing devices texts request differ sorted sink =
+    let (reply, is) = replies_exist present_verdicts_exist devices texts request differ sorted in
+    record { reply = reply; replies = is; written = WritesWhole-none Bool sink (reply_text (device_names devices) reply); refused = tt }
+
+module _ (old new : SessionState) (devices : new.devices ≡ old.devices) where
+  -- a put that is answered so
+  pub put_changes : (name text : List ℕ) (reply : Reply) → put_reply old.present name text ≡ reply
+      → new.present ≡ (if is_refusal reply then old.present else insert_entry compare_names old.present name text)
+      → (result : Result Bool WriteAll) → Changes old new (PutText name text) result
+  put_changes name text reply is present result =
+      record { devices = devices; present = if_ok result (present ∙ sym (put_after old.present name text reply is)) }
+
+  pub drop_changes : (name : List ℕ) → new.present ≡ remove_entry (bytes_eq name) old.present → (result : Result Bool WriteAll)
+      → Changes old new (DropModule name) result
+  drop_changes name present result = record { devices = devices; present = if_ok result present }
+
+  pub check_changes : new.present ≡ old.present → (result : Result Bool WriteAll) → Changes old new CheckModules result
+  check_changes present result = record { devices = devices; present = if_ok result present }
+
+  pub signature_changes : (name : List ℕ) → new.present ≡ old.present → (result : Result Bool WriteAll) → Changes old new (ShowSignature name) result
+  signature_changes name present result = record { devices = devices; present = if_ok result present }
+
+  -- what was replied on the texts after a check is replied on those before it
+  pub replied_before : (request : Request) (before behind : Option (List ℕ)) (result : Result Bool WriteAll) → new.present ≡ old.present
+      → IsReplied new.devices new.present request before behind result → IsReplied old.devices old.present request before behind result
+  replied_before request before behind result present is =
+      subst (λ ts. IsReplied old.devices ts request before behind result) present
+      (subst (λ ds. IsReplied ds new.present request before behind result) devices is)
+
+-- a put and a drop judge nothing
+pub put_judges : (old new : SessionState) (name text : List ℕ) (steps : ℕ) (result : Result Bool WriteAll) → last_of new ≡ last_of old
+    → Judges old new (PutText name text) steps steps result
+put_judges old new name text steps result last =
+    record { count = 0; next = last_of old; stale = (refl, refl); few = omega arith; last = if_ok result last }
+
+pub drop_judges : (old new : SessionState) (name : List ℕ) (steps : ℕ) (result : Result Bool WriteAll) → last_of new ≡ last_of old
+    → Judges old new (DropModule name) steps steps result
+drop_judges old new name steps result last =
+    record { count = 0; next = last_of old; stale = (refl, refl); few = omega arith; last = if_ok result last }
+
+-- how many steps a check of a session takes at most
+abbrev pub CountsStale : SessionState → ℕ → ℕ → Type 0
+CountsStale old before behind =
+    (verdicts : List ℕ → ModuleVerdict) → AreVerdicts old.devices old.present verdicts
+    → behind ≤ before + stale_count (last_of old) old.present verdicts
+
+-- what a check found
+record Checked (old new : SessionState) (before behind : ℕ) (result : Result Bool WriteAll) : Type 0 where
+  count : ℕ
+  next : List Judgement
+  checks : Checks old.devices old.present (last_of old) count next
+  few : behind ≤ before + count
+  last : IfOk result (λ _. last_of new ≡ next)
+
+checked : (old new : SessionState) (before behind : ℕ) (result : Result Bool WriteAll) → new.devices ≡ old.devices → new.present ≡ old.present
+    → IsUpToDate new → CountsStale old before behind → Checked old new before behind result
+checked old new before behind result devices present current counts =
+    let at = subst (λ ts. AreCurrent old.devices ts (last_of new)) present (subst (λ ds. AreCurrent ds new.present (last_of new)) devices current) in
+    record {
+      count = stale_count (last_of old) old.present at.0;
+      next = judgements old.present at.0;
+      checks = (at.0, at.1, refl, refl);
+      few = counts at.0 at.1;
+      last = if_ok result at.2;
+    }
+
+checked_in_part : (old new : SessionState) (before behind : ℕ) (error : WriteAll) → NamesOfDevicesDiffer old.devices → ArePresent old.present
+    → CountsStale old before behind → Checked old new before behind (Err error)
+checked_in_part old new before behind error differ sorted counts =
+    let (verdicts, are) = present_verdicts_exist old.devices old.present differ sorted in
+    record {
+      count = stale_count (last_of old) old.present verdicts;
+      next = judgements old.present verdicts;
+      checks = (verdicts, are, refl, refl);
+      few = counts verdicts are;
+      last = tt;
+    }
+
+module _ (old new : SessionState) (before behind : ℕ) where
+  check_of : (result : Result Bool WriteAll) → Checked old new before behind result → Judges old new CheckModules before behind result
+  check_of result it = record { count = it.count; next = it.next; stale = it.checks; few = it.few; last = it.last }
+
+  signature_of : (name : List ℕ) (result : Result Bool WriteAll) → Checked old new before behind result
+      → Judges old new (ShowSignature name) before behind result
+  signature_of name result it = record { count = it.count; next = it.next; stale = it.checks; few = it.few; last = it.last }
+
+  -- a check that answered, and one that found no memory
+  pub check_judges : (result : Result Bool WriteAll) → new.devices ≡ old.devices → new.present ≡ old.present → IsUpToDate new
+      → CountsStale old before behind → Judges old new CheckModules before behind result
+  check_judges result devices present current counts = check_of result (checked old new before behind result devices present current counts)
+
+  pub check_judges_in_part : (error : WriteAll) → NamesOfDevicesDiffer old.devices → ArePresent old.present → CountsStale old before behind
+      → Judges old new CheckModules before behind (Err error)
+  check_judges_in_part error differ sorted counts = check_of (Err error) (checked_in_part old new before behind error differ sorted counts)
+
+  pub signature_judges : (name : List ℕ) (result : Result Bool WriteAll) → new.devices ≡ old.devices → new.present ≡ old.present → IsUpToDate new
+      → CountsStale old before behind → Judges old new (ShowSignature name) before behind result
+  signature_judges name result devices present current counts =
+      signature_of name result (checked old new before behind result devices present current counts)
+
+  pub signature_judges_in_part : (name : List ℕ) (error : WriteAll) → NamesOfDevicesDiffer old.devices → ArePresent old.present
+      → CountsStale old before behind → Judges old new (ShowSignature name) before behind (Err error)
+  signature_judges_in_part name error differ sorted counts =
+      signature_of name (Err error) (checked_in_part old new before behind error differ sorted counts)

@@ -1,0 +1,29 @@
+//! Writing replies.
+
+ghost use Rattle.std.specs.Prelude.{◌≡◌, ◌-◌, ◌^◌, ◌<◌, ℕ, List, IfOk};
+ghost use Rattle.std.specs.String.{string_bytes};
+ghost use Rattle.cc_io.specs.Wholes.{WritesWhole, WriteAllCause};
+
+use cc_io::{Sink, WriteAll, write_all};
+use std::alloc::AllocError;
+
+/// Writes the reply, if there is memory for it, and tells whether it is a refusal, as it is told.
+pub fn write_reply<K: Sink>(
+    sink: &mut K,
+    reply: Result<String, AllocError>,
+    refused: bool,
+) -> Result<bool, WriteAll>
+    requires { K.faults sink.old < 2 ^ 64 - 1 }
+    ensures written { (text : List ℕ) → IfOk reply (λ it. string_bytes it ≡ text)
+        → WritesWhole (K.written sink.old) (K.written sink.new) result text }
+    ensures refused { IfOk result (λ answer. answer ≡ refused) }
+    ensures cause { WriteAllCause (K.faults sink.old) (K.faults sink.new) result }
+{
+    match reply {
+        Ok(text) => {
+            write_all(sink, text.as_bytes())?;
+            Ok(refused)
+        }
+        Err(AllocError) => Err(WriteAll::NoMemory),
+    }
+}
