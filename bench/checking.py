@@ -1,0 +1,216 @@
+"""Measures the verdicts of the texts that are dearest to judge, each at its full size and at half of it.
+
+For each it prints the processor time in milliseconds, the greatest memory in megabytes, and what each is to that of the
+half. The start of the process is counted too, and memory below that of this program itself is shown as that. It fails
+where a verdict is another one, where a text has more than 65,536 bytes, and where the full size takes a second or 200
+megabytes.
+Usage: checking.py PROGRAM RUNS [WORD ..] for the texts whose names have one of the words
+"""
+import os
+import subprocess
+import sys
+
+LIMIT = 65536
+
+
+def tree_of(leaf, count):
+    """So many times the expression, in a tree of `val`s that is not high."""
+    text, power = '', leaf
+    while count:
+        if count % 2:
+            text = 'val a=%s;%s' % (power, text) if text else power
+        count //= 2
+        power = 'val a=%s;%s' % (power, power)
+    return text
+
+
+def functions(takes, count, gives):
+    """The type of functions that take so many parameters of a type before they give another."""
+    return '(a:%s)->' % takes * count + gives
+
+
+def polymorphic(outer, inner, last):
+    """The type of functions from a shape `X` that take so many functions, each with so many parameters."""
+    return '[X<:Any]->' + functions(functions('X', inner, 'X'), outer, last)
+
+
+def names(count):
+    """So many names of three characters at most, the shortest first."""
+    first = 'abcdeghijklmnoqrstvwxyzABCDEFGHIJKLMNOPQRSTUVWXYZ'
+    more = first + '0123456789'
+    short = [a for a in first] + [a + b for a in first for b in more]
+    long = [a + b + c for a in first for b in more for c in more]
+    taken = [name for name in short + long if name not in ('if', 'def', 'fun', 'val', 'box', 'rec', 'out', 'log', 'cap')]
+    return taken[:count]
+
+
+def definitions(count):
+    """So many definitions."""
+    return ''.join('def %s=unit\n' % name for name in names(count))
+
+
+def vals(count):
+    """So many definitions of 98 `val`s inside one another."""
+    return ''.join('def a%d=fun(b:Unit)=>%sb\n' % (at, 'val b=b;' * 98) for at in range(count))
+
+
+def with_sets(leaf):
+    """A type of size 1,985 with the set at 640 places."""
+    return functions(functions('Unit^' + leaf, 20, 'Unit'), 32, 'Unit')
+
+
+def to_the_left(first, second):
+    """A type of size 1,841, of 80 functions, each of which takes the one before it: the sets take turns."""
+    text = 'Unit'
+    for _ in range(40):
+        text = functions(text, 1, functions('Unit^' + first, 7, 'Unit'))
+        text = functions(text, 1, functions('Unit^' + second, 7, 'Unit'))
+    return text
+
+
+def compared(count, below, above, given='{p}', lower='{p}', before='', upper='{cap}'):
+    """So many comparisons of the two types. The sets are those of the value, of `q` and of `p`."""
+    return before + 'def f=fun(p:Unit^%s)=>fun(q:Unit^%s)=>fun(g:(%s)^%s)=>fun(h:(k:(%s)^{p})->Unit)=>%s\n' % (
+        upper, lower, below, given, above, tree_of('h(g)', count))
+
+
+def comparisons(count):
+    return compared(count, with_sets('{q}'), with_sets('{p}'))
+
+
+def comparisons_beside_a_hole(count):
+    return compared(count, with_sets('{q}'), with_sets('{p}'), given='?')
+
+
+def comparisons_of_holes(count):
+    return compared(count, with_sets('{q}'), with_sets('{p}'), lower='?')
+
+
+def comparisons_to_the_left(count):
+    return compared(count, to_the_left('{q}', '{p}'), to_the_left('{p}', '{q}'))
+
+
+def comparisons_through_definitions(count):
+    """The same, where the lower set is declared with those of 90 definitions."""
+    lower = '{%s}' % ','.join(names(90))
+    return compared(count, with_sets('{q}'), with_sets('{p}'), lower=lower, before=definitions(90))
+
+
+def chains_of_holes(count):
+    """Functions with omitted sets, each of which calls the one before it: so many chains of 62, the last one called with
+    a device."""
+    chain = 'val a=%sa;' % ('val a=fun(y:Console^?)=>a(y);' * 62)
+    return 'def m=fun(u:Unit)=>val a=fun(y:Console^?)=>unit;%sa(out)\n' % (chain * count)
+
+
+def closures(count):
+    """So many definitions with 30 closures, of which each calls the two before it."""
+    first = 'val a=fun(x:Int)=>c.print(x);val b=fun(x:Int)=>a(x);'
+    pair = 'val a=fun(x:Int)=>val w=a(x);b(x);val b=fun(x:Int)=>val w=a(x);b(x);'
+    text = 'def f%d=fun(c:Console^{cap})=>' + first + pair * 14 + 'val f:((x:Int)->Unit)^{c}=b;f\n'
+    return ''.join(text % at for at in range(count))
+
+
+def applications(count):
+    """So many applications to a shape of size 10, each of a type of size 4,091."""
+    application = 'p[%s]' % functions('Int', 4, 'Box[Int]')
+    return 'def f=fun(p:%s)=>val a=%s;unit\n' % (polymorphic(53, 6, 'X'), tree_of(application, count))
+
+
+def applications_to_names(count):
+    """So many applications to a name, each of a type of size 4,051."""
+    return 'def f=fun[Y<:Any]=>fun(p:%s)=>val a=%s;unit\n' % (polymorphic(45, 44, 'X'), tree_of('p[Y]', count))
+
+
+def large_function(count=30):
+    """A definition whose type has a size of 3,966, or less."""
+    return 'def p=fun[X<:Any]=>fun(z:%s)=>z\n' % functions(functions('X', 32, 'X'), count, 'X')
+
+
+def large_signatures(count):
+    """So many definitions, of which all have such a type."""
+    return large_function() + ''.join('def a%d=fun(u:Unit)=>p[Int]\n' % at for at in range(1, count))
+
+
+def vals_of_large_types(count):
+    """So many definitions, of which all but the first give a value of such a type through 98 `val`s."""
+    text = 'def a%d=fun(u:Unit)=>val b=p[Int];%sb\n'
+    return large_function() + ''.join(text % (at, 'val b=b;' * 97) for at in range(1, count))
+
+
+def functions_of_large_types(count):
+    """So many definitions of 96 functions around a value of such a type."""
+    text = 'def a%d=fun[X<:Any]=>' + 'fun(a:X)=>' * 96 + 'p[Int]\n'
+    return large_function(28) + ''.join(text % at for at in range(1, count))
+
+
+def calls_of_large_types(count):
+    """So many calls of a function that gives a value of such a type."""
+    return large_function() + 'def f=fun(u:Unit)=>p[Int]\ndef g=fun(u:Unit)=>val a=%s;unit\n' % tree_of('f(u)', count)
+
+
+def many_positions(count):
+    """So many definitions of such a type, each with a parameter whose set has 49 definitions."""
+    shared = names(49)
+    text = 'def a%%d=fun(u:Unit^{%s})=>p[Int]\n' % ','.join(shared)
+    return definitions(49) + large_function() + ''.join(text % at for at in range(1, count))
+
+
+TEXTS = [
+    ('definitions', definitions, 5000, 5000),
+    ('98 vals inside one another', vals, 80, 80),
+    ('comparisons of types of size 1,985', comparisons, 4200, 1),
+    ('the same beside an omitted set', comparisons_beside_a_hole, 4200, 1),
+    ('the same where one set is omitted', comparisons_of_holes, 4200, 1),
+    ('comparisons of types nested to the left', comparisons_to_the_left, 4200, 1),
+    ('comparisons through 90 definitions', comparisons_through_definitions, 4000, 91),
+    ('chains of 62 omitted sets', chains_of_holes, 32, 1),
+    ('definitions of 30 closures', closures, 60, 60),
+    ('type applications to a shape', applications, 1160, 1),
+    ('type applications to a name', applications_to_names, 4600, 1),
+    ('large signatures', large_signatures, 1980, 1980),
+    ('98 vals of large types', vals_of_large_types, 72, 72),
+    ('96 functions of large types', functions_of_large_types, 60, 60),
+    ('calls of large types', calls_of_large_types, 5200, 3),
+    ('large types of many positions', many_positions, 450, 499),
+]
+
+
+def used(program, text, want):
+    """The processor time in seconds and the greatest memory in megabytes of one run on the text."""
+    test = subprocess.Popen([program, 'input::standard_input_is_judged'],
+                            stdin=subprocess.PIPE, stdout=subprocess.PIPE, stderr=subprocess.STDOUT)
+    test.stdin.write(text.encode())
+    test.stdin.close()
+    output = test.stdout.read()
+    _, status, usage = os.wait4(test.pid, 0)
+    if status or b'verdict %s\n' % want.encode() not in output:
+        sys.exit('bench/checking.py: not %s: %r' % (want, output[:200]))
+    return usage.ru_utime + usage.ru_stime, usage.ru_maxrss / 1024
+
+
+def measured(words, make, count, accepted):
+    """The shortest time and the greatest memory of the runs on the text of so many."""
+    text = make(count)
+    if len(text) > LIMIT:
+        sys.exit('bench/checking.py: %s: a text of %d bytes' % (words, len(text)))
+    runs = [used(program, text, 'ok %d' % accepted) for _ in range(int(times))]
+    return min(time for time, _ in runs), max(memory for _, memory in runs), len(text)
+
+
+program, times, wanted = sys.argv[1], sys.argv[2], sys.argv[3:]
+dear = []
+print('%-42s %6s %6s %9s %5s %8s %5s' % ('text', 'count', 'bytes', 'ms', 'ratio', 'MB', 'ratio'))
+for words, make, count, accepted in TEXTS:
+    if wanted and not any(word in words for word in wanted):
+        continue
+    half = count // 2
+    rest = accepted - count if accepted >= count else 0
+    time, memory, size = measured(words, make, count, accepted)
+    half_time, half_memory, _ = measured(words, make, half, half + rest if accepted >= count else accepted)
+    print('%-42s %6d %6d %9.1f %5.2f %8.1f %5.2f' % (
+        words, count, size, time * 1000, time / half_time, memory, memory / half_memory), flush=True)
+    if time >= 1 or memory >= 200:
+        dear.append(words)
+if dear:
+    sys.exit('bench/checking.py: too dear: ' + '; '.join(dear))
