@@ -1,0 +1,5 @@
+//! Tests of the entries of sessions, over texts.
+#![tactic(auto)]
+
+#[cfg(test)]
+mod entries;
