@@ -1,0 +1,193 @@
+// Programs from texts: the definitions of an accepted module, of which the last one is applied to unit.
+ghost use Rattle.std.specs.Prelude.{◌≡◌, ◌<◌, false, [], IfSome};
+ghost use Rattle.std.specs.Str.{bytes_eq};
+ghost use Rattle.cc_capture.specs.declared.var.Var.TheVariants.{Free};
+ghost use Rattle.cc_core.specs.Terms.{Application};
+ghost use Rattle.cc_core.specs.Views.{shape_of, term_of, type_of};
+ghost use Rattle.cc_device.specs.Declarations.{declared_base, declared_bases};
+ghost use Rattle.cc_meta_modules.specs.ModuleLaws.{NamesOfDevicesDiffer};
+ghost use Rattle.cc_module.specs.Judgements.{module_verdict_of, IsSoundIfAccepted};
+ghost use Rattle.cc_program.specs.Programs.{shapes_of};
+ghost use Rattle.cc_tests_runs.specs.Linked.{AreCellsOf, AreTypedOver, IsCellOf, is_unit, takes_unit};
+
+use cc_base::device::{DeviceDecl, Kind, Numbers};
+use cc_base::literal::Base;
+use cc_base::name::Name;
+use cc_base::place::Place;
+use cc_base::steps::Steps;
+use cc_core::{Form, Node, Shape, Ty, Var};
+use cc_module::imports::imports_of;
+use cc_module::judgement::{CheckedDef, ModuleVerdict};
+use cc_module::judging::check_module;
+use cc_program::{Program, TypedValue};
+use std::alloc::{AllocError, Global};
+use std::marker::Brand;
+use std::rc::Rc;
+use std::sync::ledger::{Blank, Ledger};
+
+// A console, a counter, and a file that begins with the number 3.
+fn three(alloc: Global, out: Name, hits: Name, log: Name) -> Option<Vec<DeviceDecl>>
+    requires first { bytes_eq out hits ≡ false }
+    requires second { bytes_eq out log ≡ false }
+    requires third { bytes_eq hits log ≡ false }
+    ensures { IfSome result (λ decls. NamesOfDevicesDiffer decls.items) }
+{
+    let numbers = Numbers::new(vec![in alloc; 3i64].ok()?);
+    let console = DeviceDecl {
+        name: out,
+        kind: Kind::Console,
+    };
+    let counter = DeviceDecl {
+        name: hits,
+        kind: Kind::Counter,
+    };
+    let file = DeviceDecl {
+        name: log,
+        kind: Kind::File(numbers),
+    };
+    Vec::from_array(alloc, [console, counter, file]).ok()
+}
+
+/// A console `out`, a counter `hits`, and a file `data` that begins with the number 3.
+pub(crate) fn declared(alloc: Global) -> Option<Vec<DeviceDecl>>
+    ensures { IfSome result (λ decls. NamesOfDevicesDiffer decls.items) }
+{
+    let out = Name::read(alloc, "out").ok()?;
+    let hits = Name::read(alloc, "hits").ok()?;
+    let log = Name::read(alloc, "data").ok()?;
+    if out == hits {
+        return None;
+    }
+    if out == log {
+        return None;
+    }
+    if hits == log {
+        return None;
+    }
+    three(alloc, out, hits, log)
+}
+
+// The verdict of a text without imports, with a counter of its own.
+fn judged<L: Ledger>(
+    alloc: Global,
+    text: &[u8],
+    decls: &[DeviceDecl],
+    blank: Blank,
+) -> Option<ModuleVerdict>
+    requires name { blank.name ≡ L.name }
+    requires parts { blank.parts ≡ L.parts }
+    requires some { 0 < L.parts }
+    requires names { NamesOfDevicesDiffer decls.now }
+    ensures { IfSome result (λ verdict. IsSoundIfAccepted decls.now [] (module_verdict_of verdict)) }
+{
+    let imports = imports_of(alloc, text).ok()??;
+    if !imports.is_empty() {
+        return None;
+    }
+    let mut steps = Steps::<L>::new(blank);
+    check_module(alloc, text, decls, &[], &mut steps).ok()
+}
+
+fn is_unit(shape: &Shape) -> bool
+    ensures { result ≡ is_unit (shape_of shape.now) }
+{
+    match shape {
+        Shape::Base(Base::Unit) => true,
+        _ => false,
+    }
+}
+
+fn takes_unit(ty: &Ty) -> bool
+    ensures { result ≡ takes_unit (type_of ty.now).shape }
+{
+    match &*ty.shape {
+        Shape::Fun(parameter, _) => is_unit(&parameter.shape),
+        _ => false,
+    }
+}
+
+fn value_of(def: &CheckedDef) -> Option<TypedValue>
+    ensures { IfSome result (λ value. IsCellOf def.now value) }
+{
+    let value = def.checked.filled.clone().ok()?;
+    let ty = def.checked.sig.clone().ok()?;
+    Some(TypedValue { value, ty })
+}
+
+// The values of the definitions, with the types of their signatures.
+fn values(alloc: Global, defs: &[CheckedDef]) -> Option<Vec<TypedValue>>
+    ensures { IfSome result (λ values. AreCellsOf defs.now values.items) }
+{
+    let mut values = Vec::new(alloc);
+    for def in defs {
+        values.push(value_of(def)?).ok()?;
+    }
+    Some(values)
+}
+
+fn base_of(kind: &Kind) -> Base
+    ensures { result ≡ declared_base kind.now }
+{
+    match kind {
+        Kind::Console => Base::Console,
+        Kind::File(_) => Base::File,
+        Kind::Counter => Base::Counter,
+    }
+}
+
+fn shapes(alloc: Global, decls: &[DeviceDecl]) -> Option<Vec<Base>>
+    ensures { IfSome result (λ shapes. shapes.items ≡ declared_bases decls.now) }
+{
+    let mut shapes = Vec::new(alloc);
+    for decl in decls {
+        shapes.push(base_of(&decl.kind)).ok()?;
+    }
+    Some(shapes)
+}
+
+// The function applied to the argument.
+fn application(alloc: Global, function: u32, argument: u32) -> Option<Rc<Node>>
+    ensures { IfSome result (λ node. term_of node.value ≡ Application (Free function) (Free argument)) }
+{
+    let at = Place { line: 1, col: 1 };
+    let form = Form::App(Var::Free(function), Var::Free(argument));
+    Rc::new(
+        alloc,
+        Node {
+            form,
+            at,
+            first: at,
+            second: at,
+        },
+    )
+    .ok()
+}
+
+// The program of the definitions, of which the last is applied to unit.
+fn linked(alloc: Global, decls: &[DeviceDecl], defs: &[CheckedDef]) -> Option<Program>
+    requires { AreTypedOver decls.now defs.now }
+    ensures { IfSome result (λ program. shapes_of program ≡ declared_bases decls.now) }
+{
+    let last = defs.len().checked_sub(1)?;
+    if !takes_unit(&defs[last].checked.sig) {
+        return None;
+    }
+    let function = u32::try_from(decls.len().saturating_add(last)).ok()?;
+    let unit = u32::try_from(decls.len().saturating_add(defs.len())).ok()?;
+    let shapes = shapes(alloc, decls)?;
+    let values = values(alloc, defs)?;
+    let term = application(alloc, function, unit)?;
+    Some(Program::new(shapes, values, term))
+}
+
+/// The program of a text, if it has one.
+pub(crate) fn program_of(alloc: Global, decls: &[DeviceDecl], text: &str) -> Option<Program>
+    requires { NamesOfDevicesDiffer decls.now }
+    ensures { IfSome result (λ program. shapes_of program ≡ declared_bases decls.now) }
+{
+    let verdict = judged::<Brand>(alloc, text.as_bytes(), decls, Blank::new(1))?;
+    match verdict.defs() {
+        Ok(defs) => linked(alloc, decls, defs),
+        Err(_) => None,
+    }
+}
