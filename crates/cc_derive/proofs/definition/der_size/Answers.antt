@@ -1,0 +1,8 @@
+use Rattle.std.proofs.Common.{false}
+use Rattle.cc_core.specs.Views.{context_of}
+use Rattle.cc_derive.proofs.AcceptedTrees.{accepted_tree}
+use Rattle.cc_derive.proofs.definition.der_size.Goals as goal
+
+pub returns : goal.returns
+returns c =
+    (accepted_tree false c.in_ok-tree.tree (context_of c.args.ctx.now) c.args.checked.now c.requires c.in_ok-tree.ensures).counted

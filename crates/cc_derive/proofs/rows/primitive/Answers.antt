@@ -1,0 +1,23 @@
+use Rattle.std.proofs.Common.{ap, ◌∙◌, subst}
+use Rattle.std.proofs.lemmas.Result.{IfOk-weaker}
+use Rattle.cc_core.specs.Views.{context_of}
+use Rattle.cc_core.specs.Shapes.{CapturingType}
+use Rattle.cc_sets.specs.CanonicalDerivations as plain
+use Rattle.cc_derive.specs.Typings.{IsTyping}
+use Rattle.cc_base.specs.declared.literal.Base.TheVariants as bases
+use Rattle.cc_core.specs.Derivations.{t-prim, OfType, Node, two}
+use Rattle.cc_core.specs.Shapes.{BaseShape}
+use Rattle.cc_sets.specs.Inference.{base_type}
+use Rattle.cc_derive.proofs.rows.primitive.Goals as goal
+
+pub returns : goal.returns
+returns c =
+    let g = context_of c.args.ctx.now in
+    let typed = c.in_ok-ty.ensures ∙ ap base_type c.base_given.ensures in
+    IfOk-weaker c.over_two.result _ _
+    (λ x h. λ m le.
+    let d = plain.operand_derived (plain.shape_derived m) g c.args.left (BaseShape bases.Int) in
+    let e = plain.operand_derived (plain.shape_derived m) g c.args.right (BaseShape bases.Int) in
+    subst (λ (t : CapturingType). IsTyping c.args.build x (Node t-prim (two d e) (OfType t))) typed
+    (h d e (c.in_ok-first.ensures m le) (c.in_ok-second.ensures m le)))
+    c.over_two.ensures
