@@ -1,0 +1,5 @@
+//! Whether the node of a derivation is an instance of its rule, by what its premises claim.
+#![tactic(auto)]
+
+pub mod comparisons;
+pub mod typings;

@@ -1,0 +1,4 @@
+pub mod Rows
+pub mod Broken
+pub mod ValidityLaws
+pub mod ValidityExamples
