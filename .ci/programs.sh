@@ -141,6 +141,14 @@ for program; do
     printf 'put %s\nimport %s\ndef %s = fun (x: Unit) => x\n' 'b 2' a.f g 'c 2' a.f h >> "$work/cycle"
     echo check >> "$work/cycle"
     job 1 'modules in a cycle' 'check\n  a E08 1:8\n  b E08 1:8\n  c E07 1:8\n' < "$work/cycle"
+    {
+        grep -v '^check$' "$work/cycle"
+        printf 'put d 1\ndef k = fun (x: Unit) => y\nput s 1\nimport s.s\ncheck\n'
+    } > "$work/more"
+    job 1 'a cycle, another refusal, and a module that imports from itself' \
+        'check\n  a E08 1:8\n  b E08 1:8\n  c E07 1:8\n  d E10 1:26\n  s E08 1:8\n' < "$work/more"
+    printf 'capc 1\nput m 1\nimport x.f\nput n 1\nimport e.g\nput e 1\ndef f = fun (x: Unit) => x\ncheck\n' |
+        job 1 'imports that are not there' 'check\n  e ok\n  m E05 1:8\n  n E06 1:8\n'
 
     # Limits.
     {
