@@ -147,6 +147,10 @@ for program; do
     } > "$work/more"
     job 1 'a cycle, another refusal, and a module that imports from itself' \
         'check\n  a E08 1:8\n  b E08 1:8\n  c E07 1:8\n  d E10 1:26\n  s E08 1:8\n' < "$work/more"
+    printf '%s\n' 'capc 1' 'put a 2' 'import b.g' 'def f = fun (x: Int) => g(x)' 'put b 1' 'def g = fun (x: Int) => x' \
+        check 'put b 1' 'def g = fun (x: Bool) => x' check 'drop b' check |
+        job 1 'an import that is edited and removed' \
+            'check\n  a ok\n  b ok\ncheck\n  a E14 2:27\n  b ok\ndrop b\ncheck\n  a E05 1:8\n'
     printf 'capc 1\nput m 1\nimport x.f\nput n 1\nimport e.g\nput e 1\ndef f = fun (x: Unit) => x\ncheck\n' |
         job 1 'imports that are not there' 'check\n  e ok\n  m E05 1:8\n  n E06 1:8\n'
 
