@@ -9,29 +9,14 @@
 set -u
 program=${1:-$(dirname "$0")/../crates/capc/out/capc}
 [ -x "$program" ] || { echo "bench/jobs.sh: there is no program $program: build it first" >&2; exit 1; }
-exec python3 - "$program" "${2:-5}" <<'PY'
+PYTHONPATH=$(dirname "$0") PYTHONDONTWRITEBYTECODE=1 exec python3 - "$program" "${2:-5}" <<'PY'
 import os
 import sys
 import tempfile
 
+from rows import link, put, row
+
 program, runs = sys.argv[1], int(sys.argv[2])
-
-
-def put(name, lines):
-    return 'put %s %d\n' % (name, len(lines)) + ''.join(line + '\n' for line in lines)
-
-
-def link(number, argument='x + 1'):
-    """A module whose definition calls the one of the module before it."""
-    if number == 0:
-        return put('m000', ['def f0 = fun (x: Int) => x'])
-    before = number - 1
-    return put('m%03d' % number, ['import m%03d.f%d' % (before, before),
-                                  'def f%d = fun (x: Int) => f%d(%s)' % (number, before, argument)])
-
-
-def row(count):
-    return ''.join(link(number) for number in range(count))
 
 
 def measured(job, last):

@@ -9,27 +9,16 @@ set -u
 program=${1:-$(dirname "$0")/../crates/capc/out/capc}
 [ -x "$program" ] || { echo "bench/judgements.sh: there is no program $program: build it first" >&2; exit 1; }
 command -v valgrind > /dev/null || { echo "bench/judgements.sh: there is no valgrind" >&2; exit 1; }
-exec python3 - "$program" <<'PY'
+PYTHONPATH=$(dirname "$0") PYTHONDONTWRITEBYTECODE=1 exec python3 - "$program" <<'PY'
 import os
 import re
 import subprocess
 import sys
 import tempfile
 
+from rows import link, row
+
 JUDGES = 'cc_module::judging::check_all'
-
-
-def put(name, lines):
-    return 'put %s %d\n' % (name, len(lines)) + ''.join(line + '\n' for line in lines)
-
-
-def link(number, argument='x + 1'):
-    """A module whose definition calls the one of the module before it."""
-    if number == 0:
-        return put('m000', ['def f0 = fun (x: Int) => x'])
-    before = number - 1
-    return put('m%03d' % number, ['import m%03d.f%d' % (before, before),
-                                  'def f%d = fun (x: Int) => f%d(%s)' % (number, before, argument)])
 
 
 def judged(job):
@@ -56,7 +45,7 @@ def judged(job):
 failed = False
 print('%-10s %12s %20s' % ('modules', 'first check', 'behind an edit'))
 for modules in (50, 100, 200):
-    job = 'capc 1\n' + ''.join(link(number) for number in range(modules)) + 'check\n'
+    job = 'capc 1\n' + row(modules) + 'check\n'
     first = judged(job)
     more = judged(job + link(modules // 2, 'x + 2') + 'check\n') - first
     print('%-10d %12d %20d' % (modules, first, more))
