@@ -5,35 +5,17 @@ use cc_base::code::Code;
 /// Why a module is not put.
 #[derive(Clone, Copy, Debug, PartialEq, Eq)]
 pub enum PutRefused {
-    /// Its text has more than 65,536 bytes.
+    /// Its text has more than 65,536 bytes: `E30`.
     TooLong,
-    /// 256 modules of other names are present.
+    /// 256 modules of other names are present: `E31`.
     TooMany,
     /// There is no memory for it.
     NoMemory,
 }
 
-impl PutRefused {
-    /// The code, unless memory is wanting.
-    pub fn code(self) -> Option<Code> {
-        match self {
-            PutRefused::TooLong => Some(Code::E30),
-            PutRefused::TooMany => Some(Code::E31),
-            PutRefused::NoMemory => None,
-        }
-    }
-}
-
-/// The module is not present.
+/// The module is not present: `E32`.
 #[derive(Clone, Copy, Debug, PartialEq, Eq)]
 pub struct NoSuchModule;
-
-impl NoSuchModule {
-    /// The code.
-    pub fn code(self) -> Code {
-        Code::E32
-    }
-}
 
 /// Why there is no signature, definition or entry.
 #[derive(Clone, Copy, Debug, PartialEq, Eq)]
