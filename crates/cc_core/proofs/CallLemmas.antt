@@ -12,7 +12,9 @@ use Rattle.cc_capture.specs.declared.var.Elem.TheVariants.{Var as Variable, Cap,
 use Rattle.cc_capture.specs.Sets.{Set, empty, insert, union, from_list, flat_image}
 use Rattle.cc_capture.proofs.Unions.{union-insert, empty-union, union-empty}
 use Rattle.cc_capture.proofs.Images.{flat_image-empty}
-use Rattle.cc_capture.proofs.Walks.{flat_image-push}
+use Rattle.cc_capture.proofs.Walks.{from_list-push, flat_image-push}
+use Rattle.cc_capture.proofs.Equality.{same_variable-decides}
+use Rattle.cc_capture.specs.Variables.{same_variable}
 use Rattle.cc_capture.proofs.SetLists.{from_list-is}
 use Rattle.cc_core.specs.declared.acting.Action.{Action as DeclaredAction}
 use Rattle.cc_core.specs.declared.acting.Action.TheVariants as actions
@@ -82,6 +84,25 @@ walk-more f xs x old new was is = is ∙ ap (union (f x)) was ∙ sym (flat_imag
 -- at the end it went over the set
 pub walk-end : (f : Elem → Set) (s : Set) (xs : List Elem) (all : Set) → map (λ x. x) xs ≡ s.list → all ≡ flat_image f (from_list xs) → all ≡ flat_image f s
 walk-end f s xs all e is = is ∙ ap (flat_image f) (from_list-is xs s (sym (map-id xs) ∙ e))
+
+-- a walk over elements that stay as they are
+pub stays-begin : (f : Elem → Set) → from_list [] ≡ flat_image f (from_list [])
+stays-begin f = from_list-none ∙ walk-begin f
+
+pub stays-more : (f : Elem → Set) (xs : List Elem) (x : Elem) → from_list xs ≡ flat_image f (from_list xs) → f x ≡ single x → from_list (xs ++ x ∷ []) ≡ flat_image f (from_list (xs ++ x ∷ []))
+stays-more f xs x was one =
+    walk-more f xs x (from_list xs) (from_list (xs ++ x ∷ [])) was
+    (from_list-push xs x ∙ insert-union x (from_list xs) ∙ ap (λ s. union s (from_list xs)) (sym one))
+
+pub stays-end : (f : Elem → Set) (s : Set) (xs : List Elem) → map (λ x. x) xs ≡ s.list → from_list xs ≡ flat_image f (from_list xs) → flat_image f s ≡ s
+stays-end f s xs e is =
+    let same : from_list xs ≡ s = from_list-is xs s (sym (map-id xs) ∙ e) in
+    ap (flat_image f) (sym same) ∙ sym is ∙ same
+
+-- a variable that a test finds to stay
+pub variable-stays : (acted variable becomes : Var) (same : Bool) → same ≡ same_variable acted variable → acted ≡ becomes → same ≡ true → becomes ≡ variable
+variable-stays acted variable becomes same test is holds =
+    sym is ∙ (same_variable-decides acted variable).0 (sym test ∙ holds)
 
 lookup-chosen : {A B : Type 0} (f : A → B) (test : Bool) (x : A) (o : Option A) (p : Option B) → p ≡ option_map f o → cond test (Some (f x)) p ≡ option_map f (cond test (Some x) o)
 lookup-chosen f true x o p e = refl

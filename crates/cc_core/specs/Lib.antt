@@ -1,6 +1,7 @@
 pub mod Actions
 pub mod Binders
 pub mod Captured
+pub mod Changes
 pub mod Comparison
 pub mod Contexts
 pub mod Depths

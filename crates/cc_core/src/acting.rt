@@ -2,11 +2,14 @@
 //! instances. Each call fails only for want of memory, as which an index or binders above one place beyond 2^32 - 1
 //! count.
 
-ghost use Rattle.std.specs.Prelude.{◌≡◌, ◌+◌, IfOk, OnOk, option_map};
+ghost use Rattle.std.specs.Prelude.{◌≡◌, ℕ, ◌+◌, IfOk, OnOk, IsTrue, option_map};
+ghost use Rattle.std.specs.Option.{unwrap_or};
 ghost use Rattle.cc_capture.specs.declared.var.Elem.TheVariants.{Hole};
 ghost use Rattle.cc_capture.specs.Sets.{union};
 ghost use Rattle.cc_core.specs.Traversal as plain;
-ghost use Rattle.cc_core.specs.Substitution.{put_variable, renamed_variable, closed_variable};
+ghost use Rattle.cc_core.specs.Changes.{became_shape, became_type};
+ghost use Rattle.cc_core.specs.Shapes.{TypeVariable, FunctionShape, TypeFunctionShape, BoxShape, ExitShape, capturing};
+ghost use Rattle.cc_core.specs.Substitution.{single, put_variable, renamed_variable, closed_variable};
 ghost use Rattle.cc_core.specs.Reading.{read_variable, written_variable};
 ghost use Rattle.cc_core.specs.Actions.{action_of, renamed_by};
 ghost use Rattle.cc_core.specs.Views.{shape_of, type_of, note_of, form_of, term_of};
@@ -15,7 +18,7 @@ ghost use Rattle.cc_core.specs.Places.{Spots, places_around, places_of};
 use crate::copies::copy_literal;
 use crate::terms::{Form, Node, Note};
 use crate::types::{Shape, Ty};
-use cc_capture::{CapSet, Elem, Var};
+use cc_capture::{CapSet, Elem, Var, same_var};
 use std::alloc::{AllocError, Global};
 use std::rc::Rc;
 
@@ -177,6 +180,108 @@ pub fn act_set(
     Ok(acted)
 }
 
+// Whether the action leaves the variable as it is.
+fn variable_stays(action: &Action, depth: u32, variable: Var) -> bool
+    ensures { IsTrue result → (action_of action.now).variable depth variable ≡ variable }
+{
+    match act_variable(action, depth, variable) {
+        Ok(acted) => same_var(acted, variable),
+        Err(_) => false,
+    }
+}
+
+// Whether the action leaves holes as they are.
+fn holes_stay(action: &Action) -> bool
+    ensures { IsTrue result → (depth : ℕ) → (hole : ℕ) → (action_of action.now).element depth (Hole hole) ≡ single (Hole hole) }
+{
+    match action {
+        Action::Fill(_) => false,
+        _ => true,
+    }
+}
+
+// Whether the action leaves the element as it is.
+fn stays(action: &Action, depth: u32, elem: Elem) -> bool
+    ensures { IsTrue result → (action_of action.now).element depth elem ≡ single elem }
+{
+    match elem {
+        Elem::Var(variable) => variable_stays(action, depth, variable),
+        Elem::Cap => true,
+        Elem::Hole(_) => holes_stay(action),
+    }
+}
+
+// Whether the action leaves all elements as they are.
+fn all_stay(action: &Action, depth: u32, set: &CapSet) -> bool
+    ensures { IsTrue result → plain.act_set (action_of action.now) depth set.now ≡ set.now }
+{
+    for elem in set.iter() {
+        if !stays(action, depth, elem) {
+            return false;
+        }
+    }
+    true
+}
+
+/// What the set becomes as `act_set` says, if it is another one. Nothing is built where it is not.
+pub fn acted_set(
+    alloc: Global,
+    action: &Action,
+    depth: u32,
+    set: &CapSet,
+) -> Result<Option<CapSet>, AllocError>
+    ensures { IfOk result (λ s. unwrap_or s set.now ≡ plain.act_set (action_of action.now) depth set.now) }
+{
+    if all_stay(action, depth, set) {
+        return Ok(None);
+    }
+    Ok(Some(act_set(alloc, action, depth, set)?))
+}
+
+// The set that it became, or else the set itself.
+fn set_or_same(became: Option<CapSet>, set: &CapSet) -> Result<CapSet, AllocError>
+    ensures { IfOk result (λ s. s ≡ unwrap_or became set.now) }
+{
+    match became {
+        Some(became) => Ok(became),
+        None => set.clone(),
+    }
+}
+
+// What became of a shape.
+#[derive(Drop)]
+enum ActedShape {
+    Kept,
+    Changed(Rc<Shape>),
+}
+
+// What became of a type.
+#[derive(Drop)]
+enum ActedType {
+    Kept,
+    Changed(Rc<Ty>),
+}
+
+// The shape that it became, or else the shape itself, shared.
+fn shape_or_same(became: ActedShape, shape: &Rc<Shape>) -> Result<Rc<Shape>, AllocError>
+    ensures { IfOk result (λ s. shape_of s.value ≡ became_shape (shape_of shape.now.value) became) }
+{
+    match became {
+        ActedShape::Kept => shape.clone(),
+        ActedShape::Changed(shape) => Ok(shape),
+    }
+}
+
+// The type that it became, or else the type itself, shared.
+fn type_or_same(became: ActedType, ty: &Rc<Ty>) -> Result<Rc<Ty>, AllocError>
+    ensures { IfOk result (λ t. type_of t.value ≡ became_type (type_of ty.now.value) became) }
+{
+    match became {
+        ActedType::Kept => ty.clone(),
+        ActedType::Changed(ty) => Ok(ty),
+    }
+}
+
 // The depth under one binder more.
 fn under(depth: u32) -> Result<u32, AllocError>
     ensures { IfOk result (λ d. d ≡ depth + 1) }
@@ -184,28 +289,198 @@ fn under(depth: u32) -> Result<u32, AllocError>
     depth.checked_add(1).ok_or(AllocError)
 }
 
-// The shape that a type variable becomes.
-fn act_type_variable(
+// What a type variable becomes.
+fn acted_type_variable(
     alloc: Global,
     action: &Action,
     depth: u32,
     variable: Var,
-) -> Result<Rc<Shape>, AllocError>
-    ensures { IfOk result (λ s. shape_of s.value ≡ (action_of action.now).shape depth variable) }
+) -> Result<ActedShape, AllocError>
+    ensures { IfOk result (λ a. became_shape (TypeVariable variable) a ≡ (action_of action.now).shape depth variable) }
 {
     if let Action::PutShape(by) = action {
         if let Var::Bound(index) = variable {
             if index == depth {
-                return (**by).clone();
+                return Ok(ActedShape::Changed((**by).clone()?));
             }
         }
     }
-    let variable = act_variable(action, depth, variable)?;
-    Ok(Rc::new(alloc, Shape::TVar(variable))?)
+    let acted = act_variable(action, depth, variable)?;
+    variable_of(alloc, variable, acted)
 }
 
-/// The shape in which the action was taken everywhere, where it stands under so many binders.
+// What a shape becomes that is a type variable, of what the variable became.
+fn variable_of(alloc: Global, variable: Var, acted: Var) -> Result<ActedShape, AllocError>
+    ensures { IfOk result (λ a. became_shape (TypeVariable variable) a ≡ TypeVariable acted) }
+{
+    if same_var(acted, variable) {
+        return Ok(ActedShape::Kept);
+    }
+    Ok(ActedShape::Changed(Rc::new(alloc, Shape::TVar(acted))?))
+}
+
+// What a type becomes, of what its parts became.
+fn type_of_parts(
+    alloc: Global,
+    ty: &Ty,
+    shape: ActedShape,
+    set: Option<CapSet>,
+) -> Result<ActedType, AllocError>
+    ensures { IfOk result (λ a. became_type (type_of ty.now) a
+        ≡ capturing (became_shape (shape_of ty.now.shape.value) shape) (unwrap_or set ty.now.set)) }
+{
+    match shape {
+        ActedShape::Kept => type_with_set(alloc, ty, set),
+        ActedShape::Changed(shape) => {
+            let set = set_or_same(set, &ty.set)?;
+            Ok(ActedType::Changed(Rc::new(alloc, Ty { shape, set })?))
+        }
+    }
+}
+
+// What a type becomes whose shape is kept.
+fn type_with_set(alloc: Global, ty: &Ty, set: Option<CapSet>) -> Result<ActedType, AllocError>
+    ensures { IfOk result (λ a. became_type (type_of ty.now) a
+        ≡ capturing (shape_of ty.now.shape.value) (unwrap_or set ty.now.set)) }
+{
+    match set {
+        Some(set) => {
+            let shape = ty.shape.clone()?;
+            Ok(ActedType::Changed(Rc::new(alloc, Ty { shape, set })?))
+        }
+        None => Ok(ActedType::Kept),
+    }
+}
+
+// What a function shape becomes, of what its types became.
+fn function_of(
+    alloc: Global,
+    takes: &Rc<Ty>,
+    gives: &Rc<Ty>,
+    taken: ActedType,
+    given: ActedType,
+) -> Result<ActedShape, AllocError>
+    ensures { let t = type_of takes.now.value in let g = type_of gives.now.value in
+        let t' = became_type t taken in let g' = became_type g given in
+        IfOk result (λ a. became_shape (FunctionShape t.shape t.set g.shape g.set) a ≡ FunctionShape t'.shape t'.set g'.shape g'.set) }
+{
+    match taken {
+        ActedType::Kept => match given {
+            ActedType::Kept => Ok(ActedShape::Kept),
+            ActedType::Changed(given) => {
+                let shape = Shape::Fun(takes.clone()?, given);
+                Ok(ActedShape::Changed(Rc::new(alloc, shape)?))
+            }
+        },
+        ActedType::Changed(taken) => {
+            let given = type_or_same(given, gives)?;
+            Ok(ActedShape::Changed(Rc::new(alloc, Shape::Fun(taken, given))?))
+        }
+    }
+}
+
+// What a shape of type functions becomes, of what its bound and its result became.
+fn type_function_of(
+    alloc: Global,
+    bound: &Rc<Shape>,
+    gives: &Rc<Ty>,
+    limit: ActedShape,
+    given: ActedType,
+) -> Result<ActedShape, AllocError>
+    ensures { let b = shape_of bound.now.value in let g = type_of gives.now.value in
+        let b' = became_shape b limit in let g' = became_type g given in
+        IfOk result (λ a. became_shape (TypeFunctionShape b g.shape g.set) a ≡ TypeFunctionShape b' g'.shape g'.set) }
+{
+    match limit {
+        ActedShape::Kept => match given {
+            ActedType::Kept => Ok(ActedShape::Kept),
+            ActedType::Changed(given) => {
+                let shape = Shape::TFun(bound.clone()?, given);
+                Ok(ActedShape::Changed(Rc::new(alloc, shape)?))
+            }
+        },
+        ActedShape::Changed(limit) => {
+            let given = type_or_same(given, gives)?;
+            Ok(ActedShape::Changed(Rc::new(alloc, Shape::TFun(limit, given))?))
+        }
+    }
+}
+
+// What a shape of boxes becomes, of what its content became.
+fn box_of(alloc: Global, content: &Rc<Ty>, inside: ActedType) -> Result<ActedShape, AllocError>
+    ensures { let t = type_of content.now.value in let t' = became_type t inside in
+        IfOk result (λ a. became_shape (BoxShape t.shape t.set) a ≡ BoxShape t'.shape t'.set) }
+{
+    match inside {
+        ActedType::Kept => Ok(ActedShape::Kept),
+        ActedType::Changed(inside) => {
+            let shape = Shape::Boxed(inside);
+            Ok(ActedShape::Changed(Rc::new(alloc, shape)?))
+        }
+    }
+}
+
+// What a shape of exits becomes, of what the shape of their values became.
+fn exit_of(alloc: Global, gives: &Rc<Shape>, given: ActedShape) -> Result<ActedShape, AllocError>
+    ensures { let g = shape_of gives.now.value in
+        IfOk result (λ a. became_shape (ExitShape g) a ≡ ExitShape (became_shape g given)) }
+{
+    match given {
+        ActedShape::Kept => Ok(ActedShape::Kept),
+        ActedShape::Changed(given) => {
+            let shape = Shape::Exit(given);
+            Ok(ActedShape::Changed(Rc::new(alloc, shape)?))
+        }
+    }
+}
+
+// What the shape becomes.
 #[cycle(act_shapes)]
+fn acted_shape(
+    alloc: Global,
+    action: &Action,
+    depth: u32,
+    shape: &Shape,
+) -> Result<ActedShape, AllocError>
+    ensures { IfOk result (λ a. became_shape (shape_of shape.now) a ≡ plain.act (action_of action.now) depth (shape_of shape.now)) }
+{
+    match shape {
+        Shape::Base(_) => Ok(ActedShape::Kept),
+        Shape::Any => Ok(ActedShape::Kept),
+        Shape::TVar(variable) => acted_type_variable(alloc, action, depth, *variable),
+        Shape::Fun(takes, gives) => {
+            let taken = acted_type(alloc, action, depth, takes)?;
+            let given = acted_type(alloc, action, under(depth)?, gives)?;
+            function_of(alloc, takes, gives, taken, given)
+        }
+        Shape::TFun(bound, gives) => {
+            let limit = acted_shape(alloc, action, depth, bound)?;
+            let result = acted_type(alloc, action, under(depth)?, gives)?;
+            type_function_of(alloc, bound, gives, limit, result)
+        }
+        Shape::Boxed(content) => {
+            let inside = acted_type(alloc, action, depth, content)?;
+            box_of(alloc, content, inside)
+        }
+        Shape::Exit(gives) => {
+            let given = acted_shape(alloc, action, depth, gives)?;
+            exit_of(alloc, gives, given)
+        }
+    }
+}
+
+// What the type becomes.
+#[cycle(act_shapes)]
+fn acted_type(alloc: Global, action: &Action, depth: u32, ty: &Ty) -> Result<ActedType, AllocError>
+    ensures { IfOk result (λ a. became_type (type_of ty.now) a ≡ plain.act_type (action_of action.now) depth (type_of ty.now)) }
+{
+    let shape = acted_shape(alloc, action, depth, &ty.shape)?;
+    let set = acted_set(alloc, action, depth, &ty.set)?;
+    type_of_parts(alloc, ty, shape, set)
+}
+
+/// The shape in which the action was taken everywhere, where it stands under so many binders. The parts in which
+/// nothing changes are shared.
 pub fn act_shape(
     alloc: Global,
     action: &Action,
@@ -214,32 +489,10 @@ pub fn act_shape(
 ) -> Result<Rc<Shape>, AllocError>
     ensures { IfOk result (λ s. shape_of s.value ≡ plain.act (action_of action.now) depth (shape_of shape.now.value)) }
 {
-    match &**shape {
-        Shape::Base(_) => shape.clone(),
-        Shape::Any => shape.clone(),
-        Shape::TVar(variable) => act_type_variable(alloc, action, depth, *variable),
-        Shape::Fun(takes, gives) => {
-            let takes = act_shared_type(alloc, action, depth, takes)?;
-            let gives = act_shared_type(alloc, action, under(depth)?, gives)?;
-            Ok(Rc::new(alloc, Shape::Fun(takes, gives))?)
-        }
-        Shape::TFun(bound, result) => {
-            let bound = act_shape(alloc, action, depth, bound)?;
-            let result = act_shared_type(alloc, action, under(depth)?, result)?;
-            Ok(Rc::new(alloc, Shape::TFun(bound, result))?)
-        }
-        Shape::Boxed(content) => {
-            let content = act_shared_type(alloc, action, depth, content)?;
-            Ok(Rc::new(alloc, Shape::Boxed(content))?)
-        }
-        Shape::Exit(gives) => {
-            let gives = act_shape(alloc, action, depth, gives)?;
-            Ok(Rc::new(alloc, Shape::Exit(gives))?)
-        }
-    }
+    let acted = acted_shape(alloc, action, depth, shape)?;
+    shape_or_same(acted, shape)
 }
 
-#[cycle(act_shapes)]
 fn act_shared_type(
     alloc: Global,
     action: &Action,
@@ -248,12 +501,12 @@ fn act_shared_type(
 ) -> Result<Rc<Ty>, AllocError>
     ensures { IfOk result (λ t. type_of t.value ≡ plain.act_type (action_of action.now) depth (type_of ty.now.value)) }
 {
-    let shape = act_shape(alloc, action, depth, &ty.shape)?;
-    let set = act_set(alloc, action, depth, &ty.set)?;
-    Ok(Rc::new(alloc, Ty { shape, set })?)
+    let acted = acted_type(alloc, action, depth, ty)?;
+    type_or_same(acted, ty)
 }
 
-/// The type in which the action was taken everywhere, where it stands under so many binders.
+/// The type in which the action was taken everywhere, where it stands under so many binders. The parts in which
+/// nothing changes are shared.
 pub fn act_type(alloc: Global, action: &Action, depth: u32, ty: &Ty) -> Result<Ty, AllocError>
     ensures { IfOk result (λ t. type_of t ≡ plain.act_type (action_of action.now) depth (type_of ty.now)) }
 {

@@ -3,6 +3,7 @@
 //! binders above one place beyond 2^32 - 1 count.
 
 ghost use Rattle.std.specs.Prelude.{◌≡◌, IfOk};
+ghost use Rattle.std.specs.Option.{unwrap_or};
 ghost use Rattle.cc_core.specs.Reading as plain;
 ghost use Rattle.cc_core.specs.Views.{shape_of, type_of, term_of};
 ghost use Rattle.cc_core.specs.Places.{places_of};
@@ -20,6 +21,17 @@ pub fn read_set(alloc: Global, set: &CapSet, entries: u32) -> Result<CapSet, All
     ensures { IfOk result (λ s. s ≡ plain.read_set entries set.now) }
 {
     acting::act_set(alloc, &Action::Read(entries), 0, set)
+}
+
+/// The same, if it is another set. Nothing is built where it is not.
+pub fn read_if_other(
+    alloc: Global,
+    set: &CapSet,
+    entries: u32,
+) -> Result<Option<CapSet>, AllocError>
+    ensures { IfOk result (λ s. unwrap_or s set.now ≡ plain.read_set entries set.now) }
+{
+    acting::acted_set(alloc, &Action::Read(entries), 0, set)
 }
 
 /// The shape as it stands in a context of so many entries, as `read_set` says of sets.
