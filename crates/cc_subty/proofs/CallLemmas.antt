@@ -25,37 +25,40 @@ use Rattle.cc_subty.specs.declared.demands.Demand.{Demand as DeclaredDemand}
 use Rattle.cc_subty.specs.Demands.{asked_of}
 use Rattle.cc_subty.specs.Comparing.{most_steps, asked_after, Compares, AsksWhat, IsNoMatch}
 use Rattle.cc_subty.specs.Walking.{Walk, Unended, Apart, Alongside, HandsOn, walked, type_walked}
-use Rattle.cc_subty.proofs.WalkAgreement.{Agrees, agrees_as, some_inside, types_agree, walk_agrees}
+use Rattle.cc_subty.proofs.WalkAgreement.{Puts, listing_puts, listed_after, Agrees, agrees_as, some_inside}
+use Rattle.cc_subty.proofs.WalkAgreement.{types_agree, walk_agrees}
 
 -- at the root nothing is read otherwise than it stands
-pub shapes_walked : (at : Place) (steps : ℕ) (context : Context) (left right : Shape) → IsWellFormedContext context
-    → IsWellFormedShape context left → IsWellFormedShape context right
-    → Agrees at (same_shape left right) (comparison steps context left right) [] (walked at steps context left right [])
-shapes_walked at steps context left right formed l r =
+pub shapes_walked : (puts : Puts) (steps : ℕ) (context : Context) (left right : Shape) (asked : List Placed)
+    → IsWellFormedContext context → IsWellFormedShape context left → IsWellFormedShape context right
+    → Agrees puts (same_shape left right) (comparison steps context left right) asked
+    (walked puts.asking steps context left right asked)
+shapes_walked puts steps context left right asked formed l r =
     let n = length context in
     let p = read-still n 0 left (well_formed-bound_within ShapeSort context left l) in
     let q = read-still n 0 right (well_formed-bound_within ShapeSort context right r) in
-    agrees_as at (same_shape (read_shape n left) (read_shape n right)) (same_shape left right)
-    (comparison steps context (read_shape n left) (read_shape n right)) (comparison steps context left right) []
-    (walked at steps context left right [])
+    agrees_as puts (same_shape (read_shape n left) (read_shape n right)) (same_shape left right)
+    (comparison steps context (read_shape n left) (read_shape n right)) (comparison steps context left right) asked
+    (walked puts.asking steps context left right asked)
     (λ i. same_shape (p i) (q i)) (λ i. comparison steps context (p i) (q i))
-    (walk_agrees at steps context left right [] (IsKindedContext-from context formed)
+    (walk_agrees puts steps context left right asked (IsKindedContext-from context formed)
     (IsKinded-from (kinds_of context) [] (read_shape n left) (subst (IsWellFormedShape context) (sym p) l))
     (IsKinded-from (kinds_of context) [] (read_shape n right) (subst (IsWellFormedShape context) (sym q) r)))
 
-pub types_walked_so : (at : Place) (steps : ℕ) (context : Context) (left right : CapturingType)
+pub types_walked_so : (puts : Puts) (steps : ℕ) (context : Context) (left right : CapturingType)
+    (asked : List Placed)
     → IsWellFormedContext context → IsWellFormedType context left → IsWellFormedType context right
-    → Agrees at (same_type left right) (type_comparison steps context left right) []
-    (type_walked at steps context left right [])
-types_walked_so at steps context left right formed l r =
+    → Agrees puts (same_type left right) (type_comparison steps context left right) asked
+    (type_walked puts.asking steps context left right asked)
+types_walked_so puts steps context left right asked formed l r =
     let n = length context in
     let p = read_type-still n 0 left (well_formed-bound_within TypeSort context left l) in
     let q = read_type-still n 0 right (well_formed-bound_within TypeSort context right r) in
-    agrees_as at (same_type (read_type n left) (read_type n right)) (same_type left right)
+    agrees_as puts (same_type (read_type n left) (read_type n right)) (same_type left right)
     (type_comparison steps context (read_type n left) (read_type n right))
-    (type_comparison steps context left right) [] (type_walked at steps context left right [])
+    (type_comparison steps context left right) asked (type_walked puts.asking steps context left right asked)
     (λ i. same_type (p i) (q i)) (λ i. type_comparison steps context (p i) (q i))
-    (types_agree at (comparison steps) (walked at steps) (walk_agrees at steps) context left right []
+    (types_agree puts (comparison steps) (walked puts.asking steps) (walk_agrees puts steps) context left right asked
     (IsKindedContext-from context formed)
     (IsKindedType-from (kinds_of context) [] (read_type n left) (subst (IsWellFormedType context) (sym p) l)).0
     (IsKindedType-from (kinds_of context) [] (read_type n right) (subst (IsWellFormedType context) (sym q) r)).0)
@@ -69,9 +72,9 @@ after_found at (Matches ds) before asked e = ap (λ x. Some (before ++ x)) (some
 
 pub handed_compares : (at : Place) (same : Bool) (c : Comparison) (w : Walk) (before after : List DeclaredDemand)
     (result : Result (Unit {0}) SubtypeError)
-    → Agrees at same c [] w → HandsOn w before after result → Compares at c before after result
+    → Agrees (listing_puts at) same c [] w → HandsOn w before after result → Compares at c before after result
 handed_compares at same c (Alongside one asked) before after (Ok done) h k = after_found at c
-    (asked_of before) asked h.1 ∙ ap Some (sym k)
+    (asked_of before) asked (sym (listed_after at [] c) ∙ h.1) ∙ ap Some (sym k)
 handed_compares at same c Apart before after (Ok done) h k = absurd k
 handed_compares at same c Unended before after (Ok done) h k = absurd k
 handed_compares at same c Apart before after (Err ShapeMismatch) h k = (h.1, k)

@@ -1,3 +1,3 @@
 mod BoundsFollowed
-mod CallLemmas
-mod WalkAgreement
+pub mod CallLemmas
+pub mod WalkAgreement

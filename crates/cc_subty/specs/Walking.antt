@@ -1,6 +1,6 @@
 -- A walk over two shapes at once, which tells whether they are one and what their comparison demands. The shapes are
 -- gone into without being opened, so what stands in them is read in the context, as terms are. This goes the way of the
--- code and serves proofs alone: it agrees with the comparison of the opened shapes.
+-- code and serves proofs alone: it agrees with the comparison of the opened shapes, in whatever way it asks.
 use Rattle.std.specs.Prelude.{◌≡◌, ℕ, zero, suc, Bool, true, false, ◌&&◌, take, List, [], ◌∷◌, ◌++◌, length}
 use Rattle.std.specs.Prelude.{Option, Some, None, Result, Ok, Err, if◌then◌else◌}
 use Rattle.cc_base.specs.declared.place.Place.{Place}
@@ -12,7 +12,7 @@ use Rattle.cc_core.specs.Shapes.{ExitShape, CapturingType, capturing}
 use Rattle.cc_core.specs.Contexts.{TypeEntry, Context, entry_of}
 use Rattle.cc_core.specs.Reading.{read_variable, read_set, read_shape, read_type}
 use Rattle.cc_core.specs.Comparison.{same_shape}
-use Rattle.cc_sets.specs.Comparison.{demanded, bound_of, is_any}
+use Rattle.cc_sets.specs.Comparison.{Demand, demanded, bound_of, is_any}
 use Rattle.cc_sets.specs.Outcomes.{Placed}
 use Rattle.cc_sets.specs.Inference.{demand_at}
 use Rattle.cc_subty.specs.declared.comparing.SubtypeError.{SubtypeError}
@@ -50,20 +50,33 @@ walk_then Unended next = Unended
 walk_then Apart next = Apart
 walk_then (Alongside same asked) next = and_same same (next asked)
 
--- two that are one ask for no more than was asked before, which is so much
-abbrev pub settled : ℕ → Walk → Walk
-settled count Unended = Unended
-settled count Apart = Apart
-settled count (Alongside true asked) = Alongside true (take count asked)
-settled count (Alongside false asked) = Alongside false asked
+-- How a walk asks: what is asked with one demand more, and what stays of all that is asked where two turn out to be
+-- one, by what was asked before them.
+pub record Asking : Type 0 where
+  pub asks : Demand → List Placed → List Placed
+  pub settles : List Placed → List Placed → List Placed
+
+-- each demand is asked at the place behind the others, and two that are one ask for no more than was asked before
+abbrev pub listing : Place → Asking
+listing at = record {
+  asks = λ demand asked. asked ++ (demand_at at demand ∷ []);
+  settles = λ before asked. take (length before) asked;
+}
+
+-- what is asked where two that turn out to be one ask for no more than this
+abbrev pub settled : (List Placed → List Placed) → Walk → Walk
+settled settle Unended = Unended
+settled settle Apart = Apart
+settled settle (Alongside true asked) = Alongside true (settle asked)
+settled settle (Alongside false asked) = Alongside false asked
 
 -- the sets are asked for, and then the shapes are gone over
-abbrev pub types_walked : Walking → Place → Context → CapturingType → CapturingType → List Placed → Walk
-types_walked walk at context left right asked =
+abbrev pub types_walked : Walking → Asking → Context → CapturingType → CapturingType → List Placed → Walk
+types_walked walk asking context left right asked =
     let one = read_set (length context) left.set in
     let other = read_set (length context) right.set in
     and_same (same_set one other)
-    (walk context left.shape right.shape (asked ++ (demand_at at (demanded context one other) ∷ [])))
+    (walk context left.shape right.shape (asking.asks (demanded context one other) asked))
 
 -- a shape that matches no other but Any, which the right one is not
 abbrev pub itself_walked : Context → Shape → Shape → List Placed → Walk
@@ -90,60 +103,60 @@ variable_walked walk context variable right asked =
 
 -- what functions take from the right one to the left one, then what they give, under the parameter of the right one
 abbrev pub functions_walked :
-    Walking → Place → Context → CapturingType → CapturingType → CapturingType → CapturingType → List Placed → Walk
-functions_walked walk at context takes gives takes' gives' asked =
-    walk_then (types_walked walk at context takes' takes asked)
-    (types_walked walk at (entry_of (read_type (length context) takes') ∷ context) gives gives')
+    Walking → Asking → Context → CapturingType → CapturingType → CapturingType → CapturingType → List Placed → Walk
+functions_walked walk asking context takes gives takes' gives' asked =
+    walk_then (types_walked walk asking context takes' takes asked)
+    (types_walked walk asking (entry_of (read_type (length context) takes') ∷ context) gives gives')
 
 -- the same where the right one is a function
-abbrev pub function_walked : Walking → Place → Context → CapturingType → CapturingType → Shape → List Placed → Walk
-function_walked walk at context takes gives (FunctionShape takes' c' gives' e') asked =
-    functions_walked walk at context takes gives (capturing takes' c') (capturing gives' e') asked
-function_walked walk at context takes gives _ asked = Apart
+abbrev pub function_walked : Walking → Asking → Context → CapturingType → CapturingType → Shape → List Placed → Walk
+function_walked walk asking context takes gives (FunctionShape takes' c' gives' e') asked =
+    functions_walked walk asking context takes gives (capturing takes' c') (capturing gives' e') asked
+function_walked walk asking context takes gives _ asked = Apart
 
 -- type functions
-abbrev pub type_function_walked : Walking → Place → Context → Shape → CapturingType → Shape → List Placed → Walk
-type_function_walked walk at context bound gives (TypeFunctionShape bound' gives' e') asked =
+abbrev pub type_function_walked : Walking → Asking → Context → Shape → CapturingType → Shape → List Placed → Walk
+type_function_walked walk asking context bound gives (TypeFunctionShape bound' gives' e') asked =
     if same_shape (read_shape (length context) bound) (read_shape (length context) bound')
-    then types_walked walk at (TypeEntry (read_shape (length context) bound) ∷ context) gives
+    then types_walked walk asking (TypeEntry (read_shape (length context) bound) ∷ context) gives
     (capturing gives' e') asked
     else Apart
-type_function_walked walk at context bound gives _ asked = Apart
+type_function_walked walk asking context bound gives _ asked = Apart
 
 -- boxes
-abbrev pub box_walked : Walking → Place → Context → CapturingType → Shape → List Placed → Walk
-box_walked walk at context content (BoxShape content' c') asked =
-    types_walked walk at context content (capturing content' c') asked
-box_walked walk at context content _ asked = Apart
+abbrev pub box_walked : Walking → Asking → Context → CapturingType → Shape → List Placed → Walk
+box_walked walk asking context content (BoxShape content' c') asked =
+    types_walked walk asking context content (capturing content' c') asked
+box_walked walk asking context content _ asked = Apart
 
 -- two shapes, of which the right one is not Any, by the form of the left one
-unfoldable pub form_walked : Walking → Place → Context → Shape → Shape → List Placed → Walk
-form_walked walk at context (BaseShape base) right asked = itself_walked context (BaseShape base) right asked
-form_walked walk at context AnyShape right asked = itself_walked context AnyShape right asked
-form_walked walk at context (TypeVariable variable) right asked =
+unfoldable pub form_walked : Walking → Asking → Context → Shape → Shape → List Placed → Walk
+form_walked walk asking context (BaseShape base) right asked = itself_walked context (BaseShape base) right asked
+form_walked walk asking context AnyShape right asked = itself_walked context AnyShape right asked
+form_walked walk asking context (TypeVariable variable) right asked =
     variable_walked walk context (read_variable (length context) zero variable) right asked
-form_walked walk at context (FunctionShape takes c gives e) right asked =
-    function_walked walk at context (capturing takes c) (capturing gives e) right asked
-form_walked walk at context (TypeFunctionShape bound gives e) right asked =
-    type_function_walked walk at context bound (capturing gives e) right asked
-form_walked walk at context (BoxShape content c) right asked =
-    box_walked walk at context (capturing content c) right asked
-form_walked walk at context (ExitShape gives) right asked = itself_walked context (ExitShape gives) right asked
+form_walked walk asking context (FunctionShape takes c gives e) right asked =
+    function_walked walk asking context (capturing takes c) (capturing gives e) right asked
+form_walked walk asking context (TypeFunctionShape bound gives e) right asked =
+    type_function_walked walk asking context bound (capturing gives e) right asked
+form_walked walk asking context (BoxShape content c) right asked =
+    box_walked walk asking context (capturing content c) right asked
+form_walked walk asking context (ExitShape gives) right asked = itself_walked context (ExitShape gives) right asked
 
 -- one step of the walk
-abbrev pub step_walked : Walking → Place → Walking
-step_walked walk at context left right asked =
+abbrev pub step_walked : Walking → Asking → Walking
+step_walked walk asking context left right asked =
     if is_any right then Alongside (is_any left) asked
-    else settled (length asked) (form_walked walk at context left right asked)
+    else settled (asking.settles asked) (form_walked walk asking context left right asked)
 
 -- the walk in so many steps
-unfoldable pub walked : Place → ℕ → Walking
-walked at zero context left right asked = Unended
-walked at (suc steps) context left right asked = step_walked (walked at steps) at context left right asked
+unfoldable pub walked : Asking → ℕ → Walking
+walked asking zero context left right asked = Unended
+walked asking (suc steps) context left right asked = step_walked (walked asking steps) asking context left right asked
 
 -- the walk over types in so many steps
-abbrev pub type_walked : Place → ℕ → Context → CapturingType → CapturingType → List Placed → Walk
-type_walked at steps context left right asked = types_walked (walked at steps) at context left right asked
+abbrev pub type_walked : Asking → ℕ → Context → CapturingType → CapturingType → List Placed → Walk
+type_walked asking steps context left right asked = types_walked (walked asking steps) asking context left right asked
 
 -- What is answered for a walk that began with nothing asked: where the two match, what it asked is asked behind what
 -- was asked before; where they do not, nothing is.

@@ -4,7 +4,7 @@
 pub mod comparing;
 pub mod demands;
 pub mod exposing;
-mod walking;
+pub mod walking;
 
 pub use comparing::{SubtypeError, sub_shape, subtype};
 pub use demands::{Demand, Demands};

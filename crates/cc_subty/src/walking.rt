@@ -75,8 +75,9 @@ fn ask(
     })
 }
 
-// The context under a parameter of the type, which is read in the context. Its shape is shared.
-fn under_parameter(alloc: Global, ctx: &Ctx, ty: &Ty) -> Result<Ctx, AllocError>
+/// The context under a parameter of the type, which is read in the context. Its shape is shared. It fails only for want
+/// of memory, as which a context of more than 2^32 - 1 entries counts.
+pub fn under_parameter(alloc: Global, ctx: &Ctx, ty: &Ty) -> Result<Ctx, AllocError>
     ensures { IfOk result (λ c. context_of c ≡ entry_of (reading.read_type (length (context_of ctx.now)) (type_of ty.now)) ∷ context_of ctx.now) }
 {
     let shape = ty.shape.clone()?;
@@ -92,16 +93,16 @@ fn under_parameter(alloc: Global, ctx: &Ctx, ty: &Ty) -> Result<Ctx, AllocError>
     )
 }
 
-// The context under a type variable with the bound, which is read in the context.
-fn under_bound(alloc: Global, ctx: &Ctx, bound: &Rc<Shape>) -> Result<Ctx, AllocError>
+/// The context under a type variable with the bound, which is read in the context. It fails as `under_parameter` does.
+pub fn under_bound(alloc: Global, ctx: &Ctx, bound: &Rc<Shape>) -> Result<Ctx, AllocError>
     ensures { IfOk result (λ c. context_of c ≡ TypeEntry (reading.read_shape (length (context_of ctx.now)) (shape_of bound.now.value)) ∷ context_of ctx.now) }
 {
     let bound = read_shape(alloc, bound, entries(ctx))?;
     ctx.push(alloc, Bind::TVar(bound))
 }
 
-// Whether the shape is Any.
-fn is_any(shape: &Shape) -> bool
+/// Whether the shape is Any.
+pub fn is_any(shape: &Shape) -> bool
     ensures { result ≡ is_any (shape_of shape.now) }
 {
     match shape {
@@ -148,9 +149,10 @@ fn same_read_type(
     Ok(shapes && sets)
 }
 
-// Whether the shapes are one, read under so many binders.
+/// Whether the shapes are one, where both are read among so many entries and stand under so many binders. It fails only
+/// for want of memory, as which more than 2^32 - 1 binders above one place count.
 #[cycle(same_read)]
-fn same_read(
+pub fn same_read(
     alloc: Global,
     left: &Shape,
     right: &Shape,
@@ -199,8 +201,8 @@ fn same_read(
     }
 }
 
-// They are one only if these parts are one too.
-fn and_same(same: bool, walked: Walked) -> Walked
+/// What is found of two, of which some parts are one or not, from what is found of the others.
+pub fn and_same(same: bool, walked: Walked) -> Walked
     ensures { (asked : List Placed) → walk_of result asked ≡ walk.and_same same (walk_of walked asked) }
 {
     match walked {
@@ -211,7 +213,7 @@ fn and_same(same: bool, walked: Walked) -> Walked
 
 // Two that are one ask for no more than was asked before, which is so much.
 fn settled(walked: Walked, count: usize, asked: &mut Demands) -> Walked
-    ensures { walk_of result (asked_of asked.new) ≡ walk.settled count (walk_of walked (asked_of asked.old)) }
+    ensures { walk_of result (asked_of asked.new) ≡ walk.settled (take count) (walk_of walked (asked_of asked.old)) }
 {
     match walked {
         Walked::Mismatched => Walked::Mismatched,
@@ -224,8 +226,14 @@ fn settled(walked: Walked, count: usize, asked: &mut Demands) -> Walked
     }
 }
 
-// A shape that matches no other but Any, which the right one is not.
-fn walk_itself(alloc: Global, ctx: &Ctx, left: &Shape, right: &Shape) -> Result<Walked, AllocError>
+/// What is found of two shapes, of which the left one matches no other but Any, which the right one is not. It fails as
+/// `same_read` does.
+pub fn walk_itself(
+    alloc: Global,
+    ctx: &Ctx,
+    left: &Shape,
+    right: &Shape,
+) -> Result<Walked, AllocError>
     ensures { IfOk result (λ w. (asked : List Placed) → walk_of w asked ≡ walk.itself_walked (context_of ctx.now) (shape_of left.now) (shape_of right.now) asked) }
 {
     if same_read(alloc, left, right, entries(ctx), 0)? {
@@ -235,8 +243,8 @@ fn walk_itself(alloc: Global, ctx: &Ctx, left: &Shape, right: &Shape) -> Result<
     }
 }
 
-// Whether the shape is the type variable.
-fn is_variable(entries: u32, variable: Var, shape: &Shape) -> bool
+/// Whether the shape, read among so many entries, is the type variable.
+pub fn is_variable(entries: u32, variable: Var, shape: &Shape) -> bool
     ensures { result ≡ walk.is_variable entries variable (shape_of shape.now) }
 {
     match shape {
@@ -255,7 +263,7 @@ fn walk_variable(
     asked: &mut Demands,
     steps: u32,
 ) -> Result<Walked, AllocError>
-    ensures { IfOk result (λ w. walk_of w (asked_of asked.new) ≡ walk.variable_walked (walk.walked at steps) (context_of ctx.now) variable (shape_of right.now) (asked_of asked.old)) }
+    ensures { IfOk result (λ w. walk_of w (asked_of asked.new) ≡ walk.variable_walked (walk.walked (walk.listing at) steps) (context_of ctx.now) variable (shape_of right.now) (asked_of asked.old)) }
 {
     if is_variable(entries(ctx), variable, right) {
         return Ok(Walked::Matched(true));
@@ -280,7 +288,7 @@ fn walk_function(
     asked: &mut Demands,
     steps: u32,
 ) -> Result<Walked, AllocError>
-    ensures { IfOk result (λ w. walk_of w (asked_of asked.new) ≡ walk.function_walked (walk.walked at steps) at (context_of ctx.now) (type_of takes.now) (type_of gives.now) (shape_of right.now) (asked_of asked.old)) }
+    ensures { IfOk result (λ w. walk_of w (asked_of asked.new) ≡ walk.function_walked (walk.walked (walk.listing at) steps) (walk.listing at) (context_of ctx.now) (type_of takes.now) (type_of gives.now) (shape_of right.now) (asked_of asked.old)) }
 {
     match right {
         Shape::Fun(others, other_gives) => walk_functions(
@@ -311,7 +319,7 @@ fn walk_functions(
     asked: &mut Demands,
     steps: u32,
 ) -> Result<Walked, AllocError>
-    ensures { IfOk result (λ w. walk_of w (asked_of asked.new) ≡ walk.functions_walked (walk.walked at steps) at (context_of ctx.now) (type_of takes.now) (type_of gives.now) (type_of others.now) (type_of other_gives.now) (asked_of asked.old)) }
+    ensures { IfOk result (λ w. walk_of w (asked_of asked.new) ≡ walk.functions_walked (walk.walked (walk.listing at) steps) (walk.listing at) (context_of ctx.now) (type_of takes.now) (type_of gives.now) (type_of others.now) (type_of other_gives.now) (asked_of asked.old)) }
 {
     match walk_types(alloc, ctx, others, takes, at, asked, steps)? {
         Walked::Mismatched => Ok(Walked::Mismatched),
@@ -334,7 +342,7 @@ fn walk_type_function(
     asked: &mut Demands,
     steps: u32,
 ) -> Result<Walked, AllocError>
-    ensures { IfOk result (λ w. walk_of w (asked_of asked.new) ≡ walk.type_function_walked (walk.walked at steps) at (context_of ctx.now) (shape_of bound.now.value) (type_of gives.now) (shape_of right.now) (asked_of asked.old)) }
+    ensures { IfOk result (λ w. walk_of w (asked_of asked.new) ≡ walk.type_function_walked (walk.walked (walk.listing at) steps) (walk.listing at) (context_of ctx.now) (shape_of bound.now.value) (type_of gives.now) (shape_of right.now) (asked_of asked.old)) }
 {
     match right {
         Shape::TFun(other, others) => {
@@ -359,7 +367,7 @@ fn walk_box(
     asked: &mut Demands,
     steps: u32,
 ) -> Result<Walked, AllocError>
-    ensures { IfOk result (λ w. walk_of w (asked_of asked.new) ≡ walk.box_walked (walk.walked at steps) at (context_of ctx.now) (type_of content.now) (shape_of right.now) (asked_of asked.old)) }
+    ensures { IfOk result (λ w. walk_of w (asked_of asked.new) ≡ walk.box_walked (walk.walked (walk.listing at) steps) (walk.listing at) (context_of ctx.now) (type_of content.now) (shape_of right.now) (asked_of asked.old)) }
 {
     match right {
         Shape::Boxed(other) => walk_types(alloc, ctx, content, other, at, asked, steps),
@@ -378,7 +386,7 @@ fn walk_form(
     asked: &mut Demands,
     steps: u32,
 ) -> Result<Walked, AllocError>
-    ensures { IfOk result (λ w. walk_of w (asked_of asked.new) ≡ walk.form_walked (walk.walked at steps) at (context_of ctx.now) (shape_of left.now) (shape_of right.now) (asked_of asked.old)) }
+    ensures { IfOk result (λ w. walk_of w (asked_of asked.new) ≡ walk.form_walked (walk.walked (walk.listing at) steps) (walk.listing at) (context_of ctx.now) (shape_of left.now) (shape_of right.now) (asked_of asked.old)) }
 {
     match left {
         Shape::Base(_) => walk_itself(alloc, ctx, left, right),
@@ -413,7 +421,7 @@ pub fn walk(
     asked: &mut Demands,
     steps: u32,
 ) -> Result<Walked, AllocError>
-    ensures { IfOk result (λ w. walk_of w (asked_of asked.new) ≡ walk.walked at steps (context_of ctx.now) (shape_of left.now) (shape_of right.now) (asked_of asked.old)) }
+    ensures { IfOk result (λ w. walk_of w (asked_of asked.new) ≡ walk.walked (walk.listing at) steps (context_of ctx.now) (shape_of left.now) (shape_of right.now) (asked_of asked.old)) }
 {
     if steps == 0 {
         return Err(AllocError);
@@ -437,7 +445,7 @@ pub fn walk_types(
     asked: &mut Demands,
     steps: u32,
 ) -> Result<Walked, AllocError>
-    ensures { IfOk result (λ w. walk_of w (asked_of asked.new) ≡ walk.types_walked (walk.walked at steps) at (context_of ctx.now) (type_of left.now) (type_of right.now) (asked_of asked.old)) }
+    ensures { IfOk result (λ w. walk_of w (asked_of asked.new) ≡ walk.types_walked (walk.walked (walk.listing at) steps) (walk.listing at) (context_of ctx.now) (type_of left.now) (type_of right.now) (asked_of asked.old)) }
 {
     let left_set = read_set(alloc, &left.set, entries(ctx))?;
     let right_set = read_set(alloc, &right.set, entries(ctx))?;

@@ -88,7 +88,7 @@ element_below_sound (TermEntry s d ∷ g) r e h =
     ]
 element_below_sound (TypeEntry b ∷ g) r e h = below_later (TypeEntry b) g e r (element_below_sound g r e h)
 
-member_below : (g : Context) (r : Set) (e : Elem) → Member e r → is_element_below g r e ≡ true
+pub member_below : (g : Context) (r : Set) (e : Elem) → Member e r → is_element_below g r e ≡ true
 member_below [] r e m = m
 member_below (TermEntry s d ∷ g) r e m =
     or_right (is_at (length g) e && list_all (is_element_below g r) d.list) (is_element_below g r e)

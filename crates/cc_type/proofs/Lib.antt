@@ -1,7 +1,6 @@
 pub mod AvoidedGreatest
 pub mod CheckedHoles
 pub mod FilledAlike
-pub mod FormedDemands
 pub mod FormedParts
 pub mod FoundHoles
 pub mod Gathering
@@ -13,8 +12,12 @@ pub mod KeptDemands
 pub mod KeptExamples
 pub mod KeptLists
 pub mod KeptVerdicts
+pub mod KeptWalks
+pub mod KnownSets
 pub mod LoggedDemands
 pub mod LostDemands
+pub mod NewestVariables
 pub mod SettledTests
 pub mod SignatureSteps
 pub mod StandingTerms
+pub mod WalkedParts

@@ -2,6 +2,7 @@ pub mod Ends
 pub mod FilledHoles
 pub mod FormedDemands
 pub mod Keeping
+pub mod KeptWalks
 pub mod KeepingExamples
 pub mod KeepingLaws
 pub mod LoggedInference

@@ -2,13 +2,8 @@
 -- was asked so far, and grows with each step.
 use Rattle.std.specs.Prelude.{◌≡◌, List, Result, Ok, Err}
 use Rattle.cc_base.specs.declared.code.Code.{Code}
-use Rattle.cc_base.specs.declared.code.Code.TheVariants.{E14}
 use Rattle.cc_base.specs.declared.place.Place.{Place}
 use Rattle.cc_sets.specs.Outcomes.{Placed, Outcome, NoAnswer, Refused, Found, finds}
-use Rattle.cc_subty.specs.declared.comparing.SubtypeError.{SubtypeError}
-use Rattle.cc_subty.specs.declared.comparing.SubtypeError.TheVariants as errors
-use Rattle.cc_subty.specs.declared.demands.Demand.{Demand as DeclaredDemand}
-use Rattle.cc_subty.specs.Demands.{asked_of}
 use Rattle.cc_type.specs.declared.stop.Stop.{Stop}
 use Rattle.cc_type.specs.declared.stop.Stop.TheVariants as stops
 use Rattle.cc_type.specs.Keeping.{keeping}
@@ -49,14 +44,3 @@ abbrev pub Meets : {A B : Type 0} → (A → B) → Result A Stop → List Place
 Meets view (Ok value) log steps = steps ≡ Got (view value) log
 Meets view (Err (stops.Refused diag)) log steps = steps ≡ Stopped diag.code diag.place
 Meets view (Err stops.NoMemory) log steps = Unit {0}
-
--- a comparison is answered so, by all that it asks
-abbrev pub Asks : Result (List DeclaredDemand) Stop → Outcome (Unit {0}) → Type 0
-Asks (Ok demands) outcome = outcome ≡ Found tt (asked_of demands)
-Asks (Err (stops.Refused diag)) outcome = outcome ≡ Refused diag.code diag.place
-Asks (Err stops.NoMemory) outcome = Unit {0}
-
--- what a comparison that fails at the place is to checking
-abbrev pub stop_of : SubtypeError → Place → Stop
-stop_of errors.ShapeMismatch at = stops.Refused (record { code = E14; place = at })
-stop_of errors.NoMemory at = stops.NoMemory

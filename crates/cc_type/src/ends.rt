@@ -1,24 +1,28 @@
 //! The last steps of inference for the forms with parts.
 
-ghost use Rattle.std.specs.Prelude.{◌≡◌, IfOk};
-ghost use Rattle.cc_capture.specs.Sets.{union};
+ghost use Rattle.std.specs.Prelude.{◌≡◌, true, false, nat_le, IfOk};
+ghost use Rattle.cc_base.specs.declared.place.Place.{Place};
+ghost use Rattle.cc_capture.specs.Sets.{Set, union};
 ghost use Rattle.cc_core.specs.Captured as captured;
+ghost use Rattle.cc_core.specs.Captured.{captured_variables};
+ghost use Rattle.cc_core.specs.Sizes.{type_size};
 ghost use Rattle.cc_core.specs.Terms.{Boundary};
-ghost use Rattle.cc_core.specs.Views.{shape_of, type_of, note_of, term_of, context_of};
+ghost use Rattle.cc_core.specs.Views.{shape_of, type_of, note_of, form_of, term_of, context_of};
 ghost use Rattle.cc_core.specs.WellFormed.{IsWellFormedContext, IsWellFormedType};
 ghost use Rattle.cc_sets.specs.Inference as plain;
 ghost use Rattle.cc_sets.specs.Inference.{result as plain_result, tested};
+ghost use Rattle.cc_sets.specs.Outcomes.{finds};
 ghost use Rattle.cc_subty.specs.Demands.{asked_of};
 ghost use Rattle.cc_type.specs.Ends.{function_type, type_function_type, unavoidable_at, let_captured, own_choice, named_choice};
 ghost use Rattle.cc_type.specs.Logs.{Answers, Meets};
 ghost use Rattle.cc_type.specs.Parts.{found_of, named_of};
-ghost use Rattle.cc_type.specs.Rows.{ways, let_end, choice_end, choice_log};
+ghost use Rattle.cc_type.specs.Rows.{ways, directly, let_end, choice_end, choice_log};
 ghost use Rattle.cc_type.specs.Standing.{NoteReadsWell};
 
 use crate::found::{Found, Named};
 use crate::log::Log;
 use crate::operands::branch;
-use crate::sizes::with_parts;
+use crate::sizes::{fitting_parts, with_parts};
 use crate::steps::entries;
 use crate::stop::{Stop, refused};
 use cc_avoid::{AvoidError, avoid_type};
@@ -26,6 +30,7 @@ use cc_base::code::Code;
 use cc_base::place::Place;
 use cc_capture::{CapSet, Elem, Var};
 use cc_core::captured::{is_value, without_binder};
+use cc_core::occurrences::occurs_in_type;
 use cc_core::reading::{read_set, read_shape, read_type, write_set};
 use cc_core::substitution::close_type;
 use cc_core::{Ctx, Form, Node, Note, Shape, Ty};
@@ -172,6 +177,38 @@ fn let_captured(
     of_right.union(alloc, &outer)
 }
 
+// Whether the type names the newest variable.
+fn names_newest(ctx: &Ctx, ty: &Ty) -> bool
+    ensures { result ≡ false → (at : Place) → (declared : Set)
+        → plain.left_behind at (context_of ctx.now) declared (type_of ty.now) ≡ finds (type_of ty.now) }
+{
+    occurs_in_type(entries(ctx), ty)
+}
+
+// A let, whose body has a type that is not too large. Where it does not name the variable it is that of the let.
+fn let_of(
+    alloc: Global,
+    ctx: &Ctx,
+    node: &Node,
+    form: Form,
+    declared: &CapSet,
+    inner: Ty,
+    captured: CapSet,
+) -> Result<Found, Stop>
+    requires captured { captured ≡ captured_variables (form_of form) }
+    requires fits { nat_le (type_size (type_of inner)) plain.greatest_size ≡ true }
+    ensures { Answers found_of result (directly (plain.left_behind node.now.first (context_of ctx.now) declared.now (type_of inner))
+        (λ type. tested ways node.now.at (plain_result type (form_of form)))) }
+{
+    if !names_newest(ctx, &inner) {
+        let found = fitting_parts(alloc, node, form, inner, captured)?;
+        return Ok(found);
+    }
+    let ty = left_behind(alloc, ctx, declared, &inner, node.first)?;
+    let found = with_parts(alloc, node, form, ty, captured)?;
+    Ok(found)
+}
+
 /// A term whose value was named in the body.
 pub(crate) fn let_end(
     alloc: Global,
@@ -194,9 +231,9 @@ pub(crate) fn let_end(
         node: body,
         captured: of_body,
     } = two;
-    let ty = left_behind(alloc, ctx, &declared.set, &inner, node.first)?;
     let captured = let_captured(alloc, &right, &of_right, &of_body)?;
-    let found = with_parts(alloc, node, Form::Let(note, right, body), ty, captured)?;
+    let form = Form::Let(note, right, body);
+    let found = let_of(alloc, ctx, node, form, &declared.set, inner, captured)?;
     Ok(found)
 }
 

@@ -1,8 +1,10 @@
 //! What inference finds.
 
-ghost use Rattle.std.specs.Prelude.{◌≡◌};
+ghost use Rattle.std.specs.Prelude.{◌≡◌, true, nat_le};
 ghost use Rattle.cc_core.specs.Captured.{captured_variables};
-ghost use Rattle.cc_core.specs.Views.{term_of};
+ghost use Rattle.cc_core.specs.Sizes.{type_size};
+ghost use Rattle.cc_core.specs.Views.{type_of, term_of};
+ghost use Rattle.cc_sets.specs.Inference.{greatest_size};
 
 use cc_capture::CapSet;
 use cc_core::{Node, Note, Ty};
@@ -18,6 +20,7 @@ pub struct Found {
     /// The captured variables of that.
     pub captured: CapSet,
     pub ghost captures: { captured ≡ captured_variables (term_of node.value) },
+    pub ghost fits: { nat_le (type_size (type_of ty)) greatest_size ≡ true },
 }
 
 /// The type of what is named, and what is then written for it.

@@ -7,6 +7,7 @@ mod ends;
 pub mod found;
 mod heads;
 pub mod infer;
+mod known;
 pub mod laws;
 pub mod log;
 pub mod operands;
@@ -14,6 +15,7 @@ mod rows;
 mod sizes;
 mod steps;
 pub mod stop;
+mod walking;
 
 pub use found::Found;
 pub use infer::infer_term;

@@ -1,15 +1,20 @@
 //! The log of inference: all that is kept of what was asked.
 
-ghost use Rattle.std.specs.Prelude.{◌≡◌, ◌↔◌, ◌<◌, ◌≤◌, [], ◌∷◌, ◌++◌, ◌&&◌, ◌||◌, not, length, IsTrue, OnOk, IfOk};
+ghost use Rattle.std.specs.Prelude.{◌≡◌, ◌↔◌, ◌<◌, ◌≤◌, [], ◌∷◌, ◌++◌, ◌&&◌, ◌||◌, not, true, length, IsTrue, OnOk, IfOk};
 ghost use Rattle.cc_core.specs.Subcapturing.{SubcapturesSet};
 ghost use Rattle.cc_core.specs.Views.{context_of};
 ghost use Rattle.cc_core.specs.WellFormed.{IsWellFormedContext, IsWellFormedSet};
+ghost use Rattle.cc_sets.specs.Comparison.{demanded};
+ghost use Rattle.cc_sets.specs.Inference.{demand_at};
 ghost use Rattle.cc_sets.specs.Marked.{IsClear};
 ghost use Rattle.cc_subty.specs.Demands.{demand_of, asked_of};
 ghost use Rattle.cc_type.specs.Keeping as keeping;
 ghost use Rattle.cc_type.specs.Keeping.{has_lost};
-ghost use Rattle.cc_type.specs.FormedDemands.{IsWellFormedAsked, AllWellFormed};
+ghost use Rattle.cc_type.specs.FormedDemands.{IsWellFormedAsked};
+ghost use Rattle.cc_type.specs.KeptWalks.{IsKnown};
 
+use crate::known::Known;
+use cc_base::place::Place;
 use cc_base::steps::Steps;
 use cc_capture::{CapSet, Elem};
 use cc_core::Ctx;
@@ -31,6 +36,8 @@ pub struct Log {
     lost: bool,
     // For the tests of a demand: they are clear between two tests.
     marks: Marks,
+    // What was last found to be settled.
+    pub(crate) known: Known,
     ghost clear: { IsClear marks },
     ghost told: { lost ≡ has_lost (asked_of demands) },
 }
@@ -44,6 +51,7 @@ impl Log {
             demands: Demands::new(alloc),
             lost: false,
             marks: Marks::new(alloc),
+            known: Known::new(alloc, Ctx::new()),
         }
     }
 
@@ -226,7 +234,8 @@ fn is_needless(lost: bool, marks: &mut Marks, demand: &Demand) -> Result<bool, A
 // Puts a demand behind the others.
 fn add(log: &mut Log, demand: Demand, lost: bool) -> Result<(), AllocError>
     requires { lost ≡ has_lost (asked_of log.old.demands ++ demand_of demand ∷ []) }
-    ensures { OnOk result (asked_of log.new.demands ≡ asked_of log.old.demands ++ demand_of demand ∷ []) }
+    ensures added { OnOk result (asked_of log.new.demands ≡ asked_of log.old.demands ++ demand_of demand ∷ []) }
+    ensures base { log.new.known.base ≡ log.old.known.base }
 {
     log.demands.push(demand)?;
     log.lost = lost;
@@ -246,13 +255,56 @@ pub(crate) fn keep(alloc: Global, log: &mut Log, demand: &Demand) -> Result<(), 
     add(log, demand, lost)
 }
 
-/// Keeps all that is asked, but for what is needless.
-pub(crate) fn keep_all(alloc: Global, log: &mut Log, demands: &Demands) -> Result<(), AllocError>
-    requires { AllWellFormed (asked_of demands.now) }
-    ensures { OnOk result (asked_of log.new.demands ≡ keeping.keeping (asked_of log.old.demands) (asked_of demands.now)) }
+// What asks that the left set is below the right one.
+fn below(ctx: &Ctx, left: &CapSet, right: &CapSet, at: Place) -> Result<Demand, AllocError>
+    ensures { IfOk result (λ d. demand_of d ≡ demand_at at (demanded (context_of ctx.now) left.now right.now)) }
 {
-    for demand in demands.as_slice() {
-        keep(alloc, log, demand)?;
+    let ctx = ctx.clone()?;
+    let left = left.clone()?;
+    let right = right.clone()?;
+    Ok(Demand::Sub {
+        ctx,
+        left,
+        right,
+        at,
+    })
+}
+
+/// Keeps that the left set is below the right one in the context, unless that is needless. The sets are copied only
+/// where it is kept. Where the answer is yes it was settled.
+pub(crate) fn keep_below(
+    alloc: Global,
+    ctx: &Ctx,
+    left: &CapSet,
+    right: &CapSet,
+    at: Place,
+    log: &mut Log,
+) -> Result<bool, AllocError>
+    requires context { IsWellFormedContext (context_of ctx.now) }
+    requires left { IsWellFormedSet (context_of ctx.now) left.now }
+    ensures kept { OnOk result (asked_of log.new.demands ≡ keeping.with_one (asked_of log.old.demands) (demand_at at (demanded (context_of ctx.now) left.now right.now))) }
+    ensures settled { IfOk result (λ s. IsTrue s → keeping.is_demand_settled (demanded (context_of ctx.now) left.now right.now) ≡ true) }
+    ensures base { log.new.known.base ≡ log.old.known.base }
+{
+    if log.lost && !has_hole(right) {
+        return Ok(false);
     }
+    if is_demand_settled(ctx, &mut log.marks, left, right)? {
+        return Ok(true);
+    }
+    let demand = below(ctx, left, right, at)?;
+    let lost = is_either_lost(alloc, log.lost, &mut log.marks, &demand)?;
+    add(log, demand, lost)?;
+    Ok(false)
+}
+
+/// Keeps in mind that the left set is below the right one, in the context in which the comparison began.
+pub(crate) fn learn(log: &mut Log, left: CapSet, right: CapSet) -> Result<(), AllocError>
+    requires { IsKnown (context_of log.old.known.base) left right }
+    ensures demands { log.new.demands ≡ log.old.demands }
+    ensures base { log.new.known.base ≡ log.old.known.base }
+{
+    let base = log.known.base.clone()?;
+    log.known = Known { base, left, right };
     Ok(())
 }

@@ -22,7 +22,7 @@ use crate::heads::{
 };
 use crate::log::Log;
 use crate::operands::{base_operand, capless, opening_set, operand, operation_argument};
-use crate::sizes::{fits_with, leaf};
+use crate::sizes::{fits_with, fitting_leaf, leaf};
 use crate::steps::{entries, in_context};
 use crate::stop::{Stop, refused};
 use cc_base::code::Code;
@@ -175,7 +175,7 @@ fn type_application_end(
         return Err(refused(Code::E18, node.at));
     }
     let ty = subst_type(alloc, gives, read)?;
-    let found = leaf(alloc, node, Form::TApp(function, argument.clone()?), ty)?;
+    let found = fitting_leaf(alloc, node, Form::TApp(function, argument.clone()?), ty)?;
     Ok(found)
 }
 

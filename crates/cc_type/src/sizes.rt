@@ -1,6 +1,6 @@
 //! What is found for a form, and the test of its size.
 
-ghost use Rattle.std.specs.Prelude.{◌≡◌, nat_le, IfOk};
+ghost use Rattle.std.specs.Prelude.{◌≡◌, true, nat_le, IfOk};
 ghost use Rattle.cc_core.specs.Captured.{captured_variables};
 ghost use Rattle.cc_core.specs.Sizes.{type_size, size_with};
 ghost use Rattle.cc_core.specs.Views.{shape_of, type_of, form_of, term_of};
@@ -49,20 +49,43 @@ fn at_places_of(alloc: Global, node: &Node, form: Form) -> Result<Rc<Node>, Allo
     Ok(Rc::new(alloc, node)?)
 }
 
-/// What is found for a form without parts, at the places of the node. A type that is too large is refused.
+/// What is found for a form without parts, at the places of the node, where the type is not too large.
+pub(crate) fn fitting_leaf(alloc: Global, node: &Node, form: Form, ty: Ty) -> Result<Found, Stop>
+    requires { nat_le (type_size (type_of ty)) greatest_size ≡ true }
+    ensures { Answers found_of result (tested ways node.now.at (plain_result (type_of ty) (form_of form))) }
+{
+    let node = at_places_of(alloc, node, form)?;
+    let captured = cv(alloc, &node)?;
+    Ok(Found { ty, node, captured })
+}
+
+/// The same of any type. One that is too large is refused.
 pub(crate) fn leaf(alloc: Global, node: &Node, form: Form, ty: Ty) -> Result<Found, Stop>
     ensures { Answers found_of result (tested ways node.now.at (plain_result (type_of ty) (form_of form))) }
 {
     if !fits(&ty) {
         return Err(refused(Code::E18, node.at));
     }
+    fitting_leaf(alloc, node, form, ty)
+}
+
+/// What is found for a form with these captured variables, at the places of the node, where the type is not too large.
+pub(crate) fn fitting_parts(
+    alloc: Global,
+    node: &Node,
+    form: Form,
+    ty: Ty,
+    captured: CapSet,
+) -> Result<Found, Stop>
+    requires captured { captured ≡ captured_variables (form_of form) }
+    requires fits { nat_le (type_size (type_of ty)) greatest_size ≡ true }
+    ensures { Answers found_of result (tested ways node.now.at (plain_result (type_of ty) (form_of form))) }
+{
     let node = at_places_of(alloc, node, form)?;
-    let captured = cv(alloc, &node)?;
     Ok(Found { ty, node, captured })
 }
 
-/// What is found for a form with these captured variables, at the places of the node. A type that is too large is
-/// refused.
+/// The same of any type. One that is too large is refused.
 pub(crate) fn with_parts(
     alloc: Global,
     node: &Node,
@@ -76,6 +99,5 @@ pub(crate) fn with_parts(
     if !fits(&ty) {
         return Err(refused(Code::E18, node.at));
     }
-    let node = at_places_of(alloc, node, form)?;
-    Ok(Found { ty, node, captured })
+    fitting_parts(alloc, node, form, ty, captured)
 }

@@ -4,9 +4,9 @@ use Rattle.cc_core.specs.Views.{type_of, context_of}
 use Rattle.cc_sets.specs.Comparison.{type_comparison}
 use Rattle.cc_subty.specs.Comparing.{most_steps}
 use Rattle.cc_subty.specs.Demands.{asked_of}
-use Rattle.cc_subty.specs.Walking.{type_walked}
+use Rattle.cc_subty.specs.Walking.{listing, type_walked}
 use Rattle.cc_subty.proofs.CallLemmas.{handed_compares, types_walked_so, types_below, types_not_below}
-use Rattle.cc_subty.proofs.WalkAgreement.{Agrees}
+use Rattle.cc_subty.proofs.WalkAgreement.{listing_puts, Agrees}
 use Rattle.cc_subty.proofs.comparing.subtype.Goals as goal
 
 pub returns-clause-exact : goal.returns-clause-exact
@@ -16,10 +16,10 @@ returns-clause-exact c =
     let right = type_of c.args.right.now in
     handed_compares c.args.at (same_type left right)
     (type_comparison most_steps context left right) _ c.args.demands.now c.hand_on.new.demands c.hand_on.result
-    (subst (Agrees c.args.at (same_type left right) (type_comparison most_steps context left right) [])
-    (sym (c.in_ok-walked.ensures ∙ ap (λ found. type_walked c.args.at most_steps context left right (asked_of found))
+    (subst (Agrees (listing_puts c.args.at) (same_type left right) (type_comparison most_steps context left right) [])
+    (sym (c.in_ok-walked.ensures ∙ ap (λ found. type_walked (listing c.args.at) most_steps context left right (asked_of found))
     c.new-found.ensures))
-    (types_walked_so c.args.at most_steps context left right c.requires.context c.requires.left c.requires.right))
+    (types_walked_so (listing_puts c.args.at) most_steps context left right [] c.requires.context c.requires.left c.requires.right))
     c.hand_on.ensures
 
 pub returns-clause-below : goal.returns-clause-below

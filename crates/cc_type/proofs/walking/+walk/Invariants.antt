@@ -1,0 +1,20 @@
+use Rattle.std.proofs.Common.{◌+◌, ◌*◌}
+use Rattle.cc_type.proofs.walking.+walk.Given as goal
+
+abbrev pub decreases-keep_shapes : goal.decreases-keep_shapes
+decreases-keep_shapes l = 8 * l.steps
+
+abbrev pub decreases-keep_types : goal.decreases-keep_types
+decreases-keep_types l = 8 * l.steps + 1
+
+abbrev pub decreases-keep_variable : goal.decreases-keep_variable
+decreases-keep_variable l = 8 * l.steps + 1
+
+abbrev pub decreases-keep_type_functions : goal.decreases-keep_type_functions
+decreases-keep_type_functions l = 8 * l.steps + 2
+
+abbrev pub decreases-keep_functions : goal.decreases-keep_functions
+decreases-keep_functions l = 8 * l.steps + 2
+
+abbrev pub decreases-keep_form : goal.decreases-keep_form
+decreases-keep_form l = 8 * l.steps + 4
