@@ -1,0 +1,29 @@
+//! The places of nodes.
+
+use cc_core::{Ctx, Node};
+use std::rc::Rc;
+
+/// What is wanted at the place of a node, in the context of the place.
+#[derive(Drop)]
+pub enum Spot {
+    /// Nothing can be said of it.
+    Nowhere,
+    /// A type of the term.
+    TypeOf(Ctx, Rc<Node>),
+    /// That a set is below another.
+    Sets(Ctx),
+    /// That a shape is below another.
+    Shapes(Ctx),
+    /// That a type is below another.
+    Types(Ctx),
+}
+
+/// A list of places, in order.
+#[cycle(spots)]
+#[derive(Drop)]
+pub enum Spots {
+    /// There is none, or none that is left.
+    End,
+    /// One, and those behind it.
+    More(Spot, Rc<Spots>),
+}

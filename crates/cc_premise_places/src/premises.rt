@@ -1,0 +1,550 @@
+//! The places of the premises of a node.
+
+ghost use Rattle.std.specs.Prelude.{◌≡◌, Some, List, [], ◌∷◌, length, drop, map, option_map, IfOk};
+ghost use Rattle.cc_capture.specs.declared.var.Elem.TheVariants.{Cap};
+ghost use Rattle.cc_capture.specs.Sets.{Set};
+ghost use Rattle.cc_core.specs.Contexts.{TermEntry, TypeEntry};
+ghost use Rattle.cc_core.specs.Derivations as derivations;
+ghost use Rattle.cc_core.specs.Shapes.{CapturingType, ExitShape};
+ghost use Rattle.cc_core.specs.Substitution.{single};
+ghost use Rattle.cc_core.specs.Views.{shape_of, type_of, term_of, bind_of, context_of};
+ghost use Rattle.cc_derivation.specs.Views.{rule_of, premises_of};
+ghost use Rattle.cc_meta_validity.specs.Broken.{claims_of, are_as_many};
+ghost use Rattle.cc_meta_validity.specs.Rows as plain;
+ghost use Rattle.cc_premise_places.specs.Spots.{place_of, places_of, places_in};
+
+use crate::places::{Spot, Spots};
+use cc_capture::{CapSet, Elem, Var};
+use cc_core::same::same_shape;
+use cc_core::substitution::instantiate_term;
+use cc_core::{Bind, Ctx, Form, Node, Note, Shape, Ty};
+use cc_derivation::{Claim, Premises, Rule};
+use cc_instances::comparisons::{element_at, only_element};
+use std::alloc::{AllocError, Global};
+use std::rc::Rc;
+
+// How many entries the context has.
+fn entries(ctx: &Ctx) -> u32
+    ensures { result ≡ length (context_of ctx.now) }
+{
+    ctx.len()
+}
+
+// One place.
+fn one(alloc: Global, first: Spot) -> Result<Spots, AllocError>
+    ensures { IfOk result (λ s. places_of s ≡ place_of first ∷ []) }
+{
+    Ok(Spots::More(first, Rc::new(alloc, Spots::End)?))
+}
+
+// Two places.
+fn two(alloc: Global, first: Spot, second: Spot) -> Result<Spots, AllocError>
+    ensures { IfOk result (λ s. places_of s ≡ place_of first ∷ place_of second ∷ []) }
+{
+    let rest = one(alloc, second)?;
+    Ok(Spots::More(first, Rc::new(alloc, rest)?))
+}
+
+// Three places.
+fn three(alloc: Global, first: Spot, second: Spot, third: Spot) -> Result<Spots, AllocError>
+    ensures { IfOk result (λ s. places_of s ≡ place_of first ∷ place_of second ∷ place_of third ∷ []) }
+{
+    let rest = two(alloc, second, third)?;
+    Ok(Spots::More(first, Rc::new(alloc, rest)?))
+}
+
+/// The place of the term in the context. Fails only for want of memory.
+pub fn typing(ctx: &Ctx, node: &Rc<Node>) -> Result<Spot, AllocError>
+    ensures { IfOk result (λ s. place_of s ≡ plain.TypeOf (context_of ctx.now) (term_of node.now.value)) }
+{
+    let ctx = ctx.clone()?;
+    let node = node.clone()?;
+    Ok(Spot::TypeOf(ctx, node))
+}
+
+// The place of a comparison of sets.
+fn sets(ctx: &Ctx) -> Result<Spot, AllocError>
+    ensures { IfOk result (λ s. place_of s ≡ plain.SetsBelow (context_of ctx.now)) }
+{
+    Ok(Spot::Sets(ctx.clone()?))
+}
+
+// The place of a comparison of shapes.
+fn shapes(ctx: &Ctx) -> Result<Spot, AllocError>
+    ensures { IfOk result (λ s. place_of s ≡ plain.ShapesBelow (context_of ctx.now)) }
+{
+    Ok(Spot::Shapes(ctx.clone()?))
+}
+
+// The place of a comparison of types.
+fn types(ctx: &Ctx) -> Result<Spot, AllocError>
+    ensures { IfOk result (λ s. place_of s ≡ plain.TypesBelow (context_of ctx.now)) }
+{
+    Ok(Spot::Types(ctx.clone()?))
+}
+
+// The place of a comparison of types under a binder of the entry.
+fn types_under(alloc: Global, ctx: &Ctx, bind: Bind) -> Result<Spot, AllocError>
+    ensures { IfOk result (λ s. place_of s ≡ plain.TypesBelow (bind_of bind ∷ context_of ctx.now)) }
+{
+    let inner = ctx.push(alloc, bind)?;
+    Ok(Spot::Types(inner))
+}
+
+// The place of a variable that stands in the term at the node.
+fn operand(alloc: Global, ctx: &Ctx, node: &Node, variable: Var) -> Result<Spot, AllocError>
+    ensures { IfOk result (λ s. place_of s ≡ plain.operand (context_of ctx.now) variable) }
+{
+    let name = Node {
+        form: Form::Var(variable),
+        at: node.at,
+        first: node.first,
+        second: node.second,
+    };
+    let ctx = ctx.clone()?;
+    Ok(Spot::TypeOf(ctx, Rc::new(alloc, name)?))
+}
+
+// The place of a body under a binder of the entry.
+fn under(alloc: Global, ctx: &Ctx, bind: Bind, body: &Rc<Node>) -> Result<Spot, AllocError>
+    ensures { IfOk result (λ s. place_of s ≡ plain.under (context_of ctx.now) (bind_of bind) (term_of body.now.value)) }
+{
+    let body = instantiate_term(alloc, body, entries(ctx))?;
+    let inner = ctx.push(alloc, bind)?;
+    Ok(Spot::TypeOf(inner, body))
+}
+
+// The place of the body of a let, whose variable has the type that the first premise claims.
+fn body_place(
+    alloc: Global,
+    ctx: &Ctx,
+    body: &Rc<Node>,
+    premises: &Premises,
+) -> Result<Spot, AllocError>
+    ensures { IfOk result (λ s. place_of s ≡ plain.body_place (context_of ctx.now) (term_of body.now.value) (claims_of (premises_of premises.now))) }
+{
+    match premises {
+        Premises::End => Ok(Spot::Nowhere),
+        Premises::More(first, _) => match &first.claim {
+            Claim::Typed(ty) => under(alloc, ctx, Bind::Var(ty.clone()?), body),
+            _ => Ok(Spot::Nowhere),
+        },
+    }
+}
+
+// The place of the body of a function.
+fn function(
+    alloc: Global,
+    ctx: &Ctx,
+    takes: &Rc<Ty>,
+    body: &Rc<Node>,
+) -> Result<Option<Spots>, AllocError>
+    ensures { IfOk result (λ o. option_map places_of o ≡ Some (plain.under (context_of ctx.now) (TermEntry (shape_of takes.now.value.shape.value) takes.now.value.set) (term_of body.now.value) ∷ [])) }
+{
+    let first = under(alloc, ctx, Bind::Var((**takes).clone()?), body)?;
+    let spots = one(alloc, first)?;
+    Ok(Some(spots))
+}
+
+// That of the body of a type function.
+fn type_function(
+    alloc: Global,
+    ctx: &Ctx,
+    bound: &Rc<Shape>,
+    body: &Rc<Node>,
+) -> Result<Option<Spots>, AllocError>
+    ensures { IfOk result (λ o. option_map places_of o ≡ Some (plain.under (context_of ctx.now) (TypeEntry (shape_of bound.now.value)) (term_of body.now.value) ∷ [])) }
+{
+    let first = under(alloc, ctx, Bind::TVar(bound.clone()?), body)?;
+    let spots = one(alloc, first)?;
+    Ok(Some(spots))
+}
+
+// That of the body of a boundary, whose exit has the universal capability.
+fn boundary(
+    alloc: Global,
+    ctx: &Ctx,
+    gives: &Rc<Shape>,
+    body: &Rc<Node>,
+) -> Result<Option<Spots>, AllocError>
+    ensures { IfOk result (λ o. option_map places_of o ≡ Some (plain.under (context_of ctx.now) (TermEntry (ExitShape (shape_of gives.now.value)) (single Cap)) (term_of body.now.value) ∷ [])) }
+{
+    let shape = Rc::new(alloc, Shape::Exit(gives.clone()?))?;
+    let mut set = CapSet::new(alloc);
+    set.insert(Elem::Cap)?;
+    let first = under(alloc, ctx, Bind::Var(Ty { shape, set }), body)?;
+    let spots = one(alloc, first)?;
+    Ok(Some(spots))
+}
+
+// The places of one operand.
+fn operand_alone(
+    alloc: Global,
+    ctx: &Ctx,
+    node: &Node,
+    first: Var,
+) -> Result<Option<Spots>, AllocError>
+    ensures { IfOk result (λ o. option_map places_of o ≡ Some (plain.operand (context_of ctx.now) first ∷ [])) }
+{
+    let first = operand(alloc, ctx, node, first)?;
+    let spots = one(alloc, first)?;
+    Ok(Some(spots))
+}
+
+// The places of two operands.
+fn operands(
+    alloc: Global,
+    ctx: &Ctx,
+    node: &Node,
+    first: Var,
+    second: Var,
+) -> Result<Option<Spots>, AllocError>
+    ensures { IfOk result (λ o. option_map places_of o ≡ Some (plain.operand (context_of ctx.now) first ∷ plain.operand (context_of ctx.now) second ∷ [])) }
+{
+    let first = operand(alloc, ctx, node, first)?;
+    let second = operand(alloc, ctx, node, second)?;
+    let spots = two(alloc, first, second)?;
+    Ok(Some(spots))
+}
+
+// The places of a type function that is applied, and of the comparison of its argument.
+fn type_application(
+    alloc: Global,
+    ctx: &Ctx,
+    node: &Node,
+    head: Var,
+) -> Result<Option<Spots>, AllocError>
+    ensures { IfOk result (λ o. option_map places_of o ≡ Some (plain.operand (context_of ctx.now) head ∷ plain.ShapesBelow (context_of ctx.now) ∷ [])) }
+{
+    let first = operand(alloc, ctx, node, head)?;
+    let second = shapes(ctx)?;
+    let spots = two(alloc, first, second)?;
+    Ok(Some(spots))
+}
+
+// The places of the right side and the body of a let.
+fn named(
+    alloc: Global,
+    ctx: &Ctx,
+    right: &Rc<Node>,
+    body: &Rc<Node>,
+    premises: &Premises,
+) -> Result<Option<Spots>, AllocError>
+    ensures { IfOk result (λ o. option_map places_of o ≡ Some (plain.TypeOf (context_of ctx.now) (term_of right.now.value) ∷ plain.body_place (context_of ctx.now) (term_of body.now.value) (claims_of (premises_of premises.now)) ∷ [])) }
+{
+    let first = typing(ctx, right)?;
+    let second = body_place(alloc, ctx, body, premises)?;
+    let spots = two(alloc, first, second)?;
+    Ok(Some(spots))
+}
+
+// The places of the test and the branches of a choice.
+fn choice(
+    alloc: Global,
+    ctx: &Ctx,
+    node: &Node,
+    test: Var,
+    positive: &Rc<Node>,
+    negative: &Rc<Node>,
+) -> Result<Option<Spots>, AllocError>
+    ensures { IfOk result (λ o. option_map places_of o ≡ Some (plain.operand (context_of ctx.now) test ∷ plain.TypeOf (context_of ctx.now) (term_of positive.now.value) ∷ plain.TypeOf (context_of ctx.now) (term_of negative.now.value) ∷ [])) }
+{
+    let first = operand(alloc, ctx, node, test)?;
+    let second = typing(ctx, positive)?;
+    let third = typing(ctx, negative)?;
+    let spots = three(alloc, first, second, third)?;
+    Ok(Some(spots))
+}
+
+// The places of the term itself, and of the comparison of its types.
+fn subsumption(alloc: Global, ctx: &Ctx, node: &Rc<Node>) -> Result<Option<Spots>, AllocError>
+    ensures { IfOk result (λ o. option_map places_of o ≡ Some (plain.TypeOf (context_of ctx.now) (term_of node.now.value) ∷ plain.TypesBelow (context_of ctx.now) ∷ [])) }
+{
+    let first = typing(ctx, node)?;
+    let second = types(ctx)?;
+    let spots = two(alloc, first, second)?;
+    Ok(Some(spots))
+}
+
+/// The places of the premises of a typing by the rule, if the rule is one for the term. Fails only for want of memory.
+pub fn typing_places(
+    alloc: Global,
+    ctx: &Ctx,
+    node: &Rc<Node>,
+    rule: Rule,
+    premises: &Premises,
+) -> Result<Option<Spots>, AllocError>
+    ensures { IfOk result (λ o. (type : CapturingType) → option_map places_of o ≡ places_in (plain.typing_row (context_of ctx.now) (rule_of rule) (term_of node.now.value) type) (claims_of (premises_of premises.now))) }
+{
+    match rule {
+        Rule::Variable => match &node.form {
+            Form::Var(_) => Ok(Some(Spots::End)),
+            _ => Ok(None),
+        },
+        Rule::Literal => match &node.form {
+            Form::Lit(_) => Ok(Some(Spots::End)),
+            _ => Ok(None),
+        },
+        Rule::Function => match &node.form {
+            Form::Fun(takes, body) => function(alloc, ctx, takes, body),
+            _ => Ok(None),
+        },
+        Rule::TypeFunction => match &node.form {
+            Form::TFun(bound, body) => type_function(alloc, ctx, bound, body),
+            _ => Ok(None),
+        },
+        Rule::Application => match &node.form {
+            Form::App(head, argument) => operands(alloc, ctx, node, *head, *argument),
+            _ => Ok(None),
+        },
+        Rule::TypeApplication => match &node.form {
+            Form::TApp(head, _) => type_application(alloc, ctx, node, *head),
+            _ => Ok(None),
+        },
+        Rule::Boxing => match &node.form {
+            Form::Boxed(content) => operand_alone(alloc, ctx, node, *content),
+            _ => Ok(None),
+        },
+        Rule::Unboxing => match &node.form {
+            Form::Unbox(set, content) => match set {
+                Some(_) => operand_alone(alloc, ctx, node, *content),
+                None => Ok(None),
+            },
+            _ => Ok(None),
+        },
+        Rule::Let => match &node.form {
+            Form::Let(_, right, body) => named(alloc, ctx, right, body, premises),
+            _ => Ok(None),
+        },
+        Rule::Primitive => match &node.form {
+            Form::Prim(_, left, right) => operands(alloc, ctx, node, *left, *right),
+            _ => Ok(None),
+        },
+        Rule::Choice => match &node.form {
+            Form::If(note, test, positive, negative) => match note {
+                Note::Written(_) => choice(alloc, ctx, node, *test, positive, negative),
+                _ => Ok(None),
+            },
+            _ => Ok(None),
+        },
+        Rule::Repetition => match &node.form {
+            Form::Repeat(count, function) => operands(alloc, ctx, node, *count, *function),
+            _ => Ok(None),
+        },
+        Rule::Operation => match &node.form {
+            Form::Operate(_, receiver, argument) => match argument {
+                Some(argument) => operands(alloc, ctx, node, *receiver, *argument),
+                None => operand_alone(alloc, ctx, node, *receiver),
+            },
+            _ => Ok(None),
+        },
+        Rule::Boundary => match &node.form {
+            Form::Boundary(gives, body) => boundary(alloc, ctx, gives, body),
+            _ => Ok(None),
+        },
+        Rule::Exit => match &node.form {
+            Form::Leave(_, exit, value) => operands(alloc, ctx, node, *exit, *value),
+            _ => Ok(None),
+        },
+        Rule::Subsumption => subsumption(alloc, ctx, node),
+        _ => Ok(None),
+    }
+}
+
+// One place of a comparison of sets for each element from the index on.
+fn each(alloc: Global, ctx: &Ctx, set: &CapSet, index: usize) -> Result<Spots, AllocError>
+    ensures { IfOk result (λ s. places_of s ≡ map (λ e. plain.SetsBelow (context_of ctx.now)) (drop index set.now.list)) }
+{
+    match element_at(set, index) {
+        None => Ok(Spots::End),
+        Some(_) => {
+            let first = sets(ctx)?;
+            let next = index.checked_add(1).ok_or(AllocError)?;
+            let rest = each(alloc, ctx, set, next)?;
+            Ok(Spots::More(first, Rc::new(alloc, rest)?))
+        }
+    }
+}
+
+// The place of the premise of a variable that stands alone on the left.
+fn variable_alone(alloc: Global, ctx: &Ctx, left: &CapSet) -> Result<Option<Spots>, AllocError>
+    ensures { IfOk result (λ o. (right : Set) (claims : List derivations.Claim) → option_map places_of o ≡ places_in (plain.variable_row (context_of ctx.now) left.now.list right) claims) }
+{
+    match only_element(left) {
+        Some(elem) => match elem {
+            Elem::Var(_) => {
+                let first = sets(ctx)?;
+                let spots = one(alloc, first)?;
+                Ok(Some(spots))
+            }
+            Elem::Cap => Ok(None),
+            Elem::Hole(_) => Ok(None),
+        },
+        None => Ok(None),
+    }
+}
+
+/// The places of the premises of a comparison of sets by the rule, if the rule is one for its left side. Fails only for
+/// want of memory.
+pub fn set_places(
+    alloc: Global,
+    ctx: &Ctx,
+    rule: Rule,
+    left: &CapSet,
+) -> Result<Option<Spots>, AllocError>
+    ensures { IfOk result (λ o. (right : Set) (claims : List derivations.Claim) → option_map places_of o ≡ places_in (plain.set_row (context_of ctx.now) (rule_of rule) left.now right) claims) }
+{
+    match rule {
+        Rule::ByElement => Ok(Some(Spots::End)),
+        Rule::ByVariable => variable_alone(alloc, ctx, left),
+        Rule::BySet => {
+            let spots = each(alloc, ctx, left, 0)?;
+            Ok(Some(spots))
+        }
+        _ => Ok(None),
+    }
+}
+
+// The places of what functions take and give.
+fn functions(
+    alloc: Global,
+    ctx: &Ctx,
+    left: &Shape,
+    right: &Shape,
+) -> Result<Option<Spots>, AllocError>
+    ensures { IfOk result (λ o. (claims : List derivations.Claim) → option_map places_of o ≡ places_in (plain.functions_row (context_of ctx.now) (shape_of left.now) (shape_of right.now)) claims) }
+{
+    match left {
+        Shape::Fun(_, _) => match right {
+            Shape::Fun(takes, _) => {
+                let first = types(ctx)?;
+                let second = types_under(alloc, ctx, Bind::Var((**takes).clone()?))?;
+                let spots = two(alloc, first, second)?;
+                Ok(Some(spots))
+            }
+            _ => Ok(None),
+        },
+        _ => Ok(None),
+    }
+}
+
+// The places of the bounds and of what type functions give, if they have one bound.
+fn type_functions(
+    alloc: Global,
+    ctx: &Ctx,
+    left: &Shape,
+    right: &Shape,
+) -> Result<Option<Spots>, AllocError>
+    ensures { IfOk result (λ o. (claims : List derivations.Claim) → option_map places_of o ≡ places_in (plain.type_functions_row (context_of ctx.now) (shape_of left.now) (shape_of right.now)) claims) }
+{
+    match left {
+        Shape::TFun(bound, _) => match right {
+            Shape::TFun(other, _) => {
+                if !same_shape(bound, other) {
+                    return Ok(None);
+                }
+                let first = shapes(ctx)?;
+                let second = types_under(alloc, ctx, Bind::TVar(bound.clone()?))?;
+                let spots = two(alloc, first, second)?;
+                Ok(Some(spots))
+            }
+            _ => Ok(None),
+        },
+        _ => Ok(None),
+    }
+}
+
+// The place of the contents of boxes.
+fn boxes(alloc: Global, ctx: &Ctx, left: &Shape, right: &Shape) -> Result<Option<Spots>, AllocError>
+    ensures { IfOk result (λ o. (claims : List derivations.Claim) → option_map places_of o ≡ places_in (plain.boxes_row (context_of ctx.now) (shape_of left.now) (shape_of right.now)) claims) }
+{
+    match left {
+        Shape::Boxed(_) => match right {
+            Shape::Boxed(_) => {
+                let first = types(ctx)?;
+                let spots = one(alloc, first)?;
+                Ok(Some(spots))
+            }
+            _ => Ok(None),
+        },
+        _ => Ok(None),
+    }
+}
+
+// The two places of a comparison by way of a third shape.
+fn chain(alloc: Global, ctx: &Ctx) -> Result<Option<Spots>, AllocError>
+    ensures { IfOk result (λ o. option_map places_of o ≡ Some (plain.ShapesBelow (context_of ctx.now) ∷ plain.ShapesBelow (context_of ctx.now) ∷ [])) }
+{
+    let first = shapes(ctx)?;
+    let second = shapes(ctx)?;
+    let spots = two(alloc, first, second)?;
+    Ok(Some(spots))
+}
+
+/// The places of the premises of a comparison of shapes by the rule, if the rule is one for its sides. Fails only for
+/// want of memory.
+pub fn shape_places(
+    alloc: Global,
+    ctx: &Ctx,
+    rule: Rule,
+    left: &Shape,
+    right: &Shape,
+) -> Result<Option<Spots>, AllocError>
+    ensures { IfOk result (λ o. (claims : List derivations.Claim) → option_map places_of o ≡ places_in (plain.shape_row (context_of ctx.now) (rule_of rule) (shape_of left.now) (shape_of right.now)) claims) }
+{
+    match rule {
+        Rule::ByReflexivity => Ok(Some(Spots::End)),
+        Rule::ByTransitivity => chain(alloc, ctx),
+        Rule::ByTypeVariable => Ok(Some(Spots::End)),
+        Rule::ByTop => Ok(Some(Spots::End)),
+        Rule::ByFunction => functions(alloc, ctx, left, right),
+        Rule::ByTypeFunction => type_functions(alloc, ctx, left, right),
+        Rule::ByBox => boxes(alloc, ctx, left, right),
+        _ => Ok(None),
+    }
+}
+
+/// The places of the premises of a comparison of types by the rule, if the rule is one for types. Fails only for want of
+/// memory.
+pub fn type_places(alloc: Global, ctx: &Ctx, rule: Rule) -> Result<Option<Spots>, AllocError>
+    ensures { IfOk result (λ o. (left right : CapturingType) (claims : List derivations.Claim) → option_map places_of o ≡ places_in (plain.type_row (context_of ctx.now) (rule_of rule) left right) claims) }
+{
+    match rule {
+        Rule::ByCapturing => {
+            let first = sets(ctx)?;
+            let second = shapes(ctx)?;
+            let spots = two(alloc, first, second)?;
+            Ok(Some(spots))
+        }
+        _ => Ok(None),
+    }
+}
+
+/// Whether there are as many places as premises.
+pub fn are_as_many(spots: &Spots, premises: &Premises) -> bool
+    ensures { result ≡ are_as_many (places_of spots.now) (claims_of (premises_of premises.now)) }
+{
+    match spots {
+        Spots::End => match premises {
+            Premises::End => true,
+            Premises::More(_, _) => false,
+        },
+        Spots::More(_, others) => match premises {
+            Premises::End => false,
+            Premises::More(_, rest) => are_as_many(others, rest),
+        },
+    }
+}
+
+/// The same place once more. Fails only for want of memory.
+pub fn same_place(spot: &Spot) -> Result<Spot, AllocError>
+    ensures { IfOk result (λ s. place_of s ≡ place_of spot.now) }
+{
+    match spot {
+        Spot::Nowhere => Ok(Spot::Nowhere),
+        Spot::TypeOf(ctx, node) => typing(ctx, node),
+        Spot::Sets(ctx) => sets(ctx),
+        Spot::Shapes(ctx) => shapes(ctx),
+        Spot::Types(ctx) => types(ctx),
+    }
+}

@@ -1,0 +1,3 @@
+pub mod CountedNodes
+pub mod PassedNodes
+pub mod JudgedRoots
