@@ -9,9 +9,8 @@ use Rattle.cc_core.specs.Occurrences.{Meets}
 use Rattle.cc_core.specs.Shapes.{Shape, BaseShape, AnyShape, TypeVariable, FunctionShape, TypeFunctionShape, BoxShape}
 use Rattle.cc_core.specs.Shapes.{ExitShape}
 use Rattle.cc_print.specs.TypeTexts.{variable_text, base_text, is_arrow, with_elements, set_under, shape_under}
-use Rattle.cc_print.specs.Laws.{finished}
 use Rattle.cc_print.proofs.Words.{IsWord, EndsWord, Begins, clash, rest_same, same_words, word_from_test}
-use Rattle.cc_print.proofs.ElementTexts.{ends_differ, variable_word, variable_not_reserved, variable_some}
+use Rattle.cc_print.proofs.ElementTexts.{placed, ends_differ, variable_word, variable_not_reserved, variable_some}
 
 -- numbers that differ
 pub unlike : (m n : ℕ) → (m == n) ≡ false → m ≡ n → ⊥
@@ -138,32 +137,32 @@ rest_ends names depth (TypeFunctionShape t g e) r h = refl
 rest_ends names depth (BoxShape t c) r h = refl
 rest_ends names depth (ExitShape g) r h = refl
 
-module _ (names : List (List ℕ)) (all : AllByRecursion IsName names) (apart : IsDistinct bytes_eq names) where
-  word_is : (depth : ℕ) (a : Shape) → Meets (finished (length names)) depth a → IsWord (word_of names depth a)
+module _ (names : List (List ℕ)) (locals : ℕ) (all : AllByRecursion IsName names) (apart : IsDistinct bytes_eq names) where
+  word_is : (depth : ℕ) (a : Shape) → Meets (placed (length names) locals) depth a → IsWord (word_of names depth a)
   word_is depth (BaseShape base) h = word_base base
   word_is depth AnyShape h = word_from_test (codes "Any") refl
   word_is depth (TypeVariable v) h =
-      variable_word names all apart depth (codes "_T") v (word_from_test (codes "_T") refl) h
+      variable_word names locals all apart depth (codes "_T") v (word_from_test (codes "_T") refl) h
   word_is depth (FunctionShape t c g e) h = tt
   word_is depth (TypeFunctionShape t g e) h = tt
   word_is depth (BoxShape t c) h = word_from_test (codes "Box") refl
   word_is depth (ExitShape g) h = word_from_test (codes "Exit") refl
 
-  kind_is : (depth : ℕ) (a : Shape) → Meets (finished (length names)) depth a
+  kind_is : (depth : ℕ) (a : Shape) → Meets (placed (length names) locals) depth a
       → kind_of_word (word_of names depth a) ≡ shape_kind a
   kind_is depth (BaseShape base) h = kind_of_base base
   kind_is depth AnyShape h = kind_of_any
   kind_is depth (TypeVariable v) h =
       kind_of_variable (variable_text names depth (codes "_T") v)
-      (variable_not_reserved names all apart depth (codes "T") v h) (variable_some names all apart depth (codes "T") v h)
+      (variable_not_reserved names locals all apart depth (codes "T") v h) (variable_some names locals all apart depth (codes "T") v h)
   kind_is depth (FunctionShape t c g e) h = kind_of_none
   kind_is depth (TypeFunctionShape t g e) h = kind_of_none
   kind_is depth (BoxShape t c) h = kind_of_box
   kind_is depth (ExitShape g) h = kind_of_exit
 
   -- where the texts are the same, so are the words at their fronts, and what stands behind
-  pub words_same : (depth : ℕ) (a b : Shape) (r s : List ℕ) → Meets (finished (length names)) depth a
-      → Meets (finished (length names)) depth b → EndsWord r → EndsWord s
+  pub words_same : (depth : ℕ) (a b : Shape) (r s : List ℕ) → Meets (placed (length names) locals) depth a
+      → Meets (placed (length names) locals) depth b → EndsWord r → EndsWord s
       → shape_under names depth a ++ r ≡ shape_under names depth b ++ s
       → (word_of names depth a ≡ word_of names depth b) × (rest_of names depth a r ≡ rest_of names depth b s)
   words_same depth a b r s h k er es eq =
@@ -171,13 +170,13 @@ module _ (names : List (List ℕ)) (all : AllByRecursion IsName names) (apart : 
       (word_is depth a h) (word_is depth b k) (rest_ends names depth a r er) (rest_ends names depth b s es)
       (sym (in_parts names depth a r) ∙ eq ∙ in_parts names depth b s)
 
-  pub kind_same : (depth : ℕ) (a b : Shape) (r s : List ℕ) → Meets (finished (length names)) depth a
-      → Meets (finished (length names)) depth b → EndsWord r → EndsWord s
+  pub kind_same : (depth : ℕ) (a b : Shape) (r s : List ℕ) → Meets (placed (length names) locals) depth a
+      → Meets (placed (length names) locals) depth b → EndsWord r → EndsWord s
       → shape_under names depth a ++ r ≡ shape_under names depth b ++ s → shape_kind a ≡ shape_kind b
   kind_same depth a b r s h k er es eq =
       sym (kind_is depth a h) ∙ ap kind_of_word (words_same depth a b r s h k er es eq).0 ∙ kind_is depth b k
 
-  front_kind : (depth : ℕ) (a : Shape) (r x : List ℕ) → Meets (finished (length names)) depth a → EndsWord r
+  front_kind : (depth : ℕ) (a : Shape) (r x : List ℕ) → Meets (placed (length names) locals) depth a → EndsWord r
       → shape_under names depth a ++ r ≡ 40 ∷ x → shape_kind a ≡ 3
   front_kind depth a r x h er eq =
       let words = same_words (word_of names depth a) [] (rest_of names depth a r) (40 ∷ x) (word_is depth a h) tt
@@ -185,7 +184,7 @@ module _ (names : List (List ℕ)) (all : AllByRecursion IsName names) (apart : 
       sym (kind_is depth a h) ∙ ap kind_of_word words.0 ∙ kind_of_none
 
   -- a shape's text that begins with a parenthesis goes on with a low line
-  pub front : (depth : ℕ) (a : Shape) (r x : List ℕ) → Meets (finished (length names)) depth a → EndsWord r
+  pub front : (depth : ℕ) (a : Shape) (r x : List ℕ) → Meets (placed (length names) locals) depth a → EndsWord r
       → shape_under names depth a ++ r ≡ 40 ∷ x → Begins (λ b. b ≡ 95) x
   front depth (FunctionShape t c g e) r x h er eq = subst (Begins (λ b. b ≡ 95)) (rest_same 40 40 _ x eq) refl
   front depth (TypeFunctionShape t g e) r x h er eq = absurd (ends_differ 91 40 _ x refl eq)

@@ -112,7 +112,7 @@ pub begins_append : (P : ℕ → Type 0) (u v : List ℕ) → Begins P u → Beg
 begins_append P (b ∷ u) v p = p
 begins_append P [] v p = absurd p
 
-begins_cond : (P : ℕ → Type 0) (test : Bool) (xs ys : List ℕ) → Begins P xs → Begins P ys → Begins P (cond test xs ys)
+pub begins_cond : (P : ℕ → Type 0) (test : Bool) (xs ys : List ℕ) → Begins P xs → Begins P ys → Begins P (cond test xs ys)
 begins_cond P true xs ys p q = p
 begins_cond P false xs ys p q = q
 
@@ -135,7 +135,7 @@ character_begins c starts =
     ⊎_elim (λ low. subst (Begins IsNoLowLine) (sym (encode_ascii c low)) (λ e. low_line_no_start (subst (λ x. is_xid_start x ≡ true) e starts)))
     (high_begins c) (cases_lt c 128)
 
-starts_of : (name : List ℕ) → IsName name → first_passes is_xid_start name ≡ true
+pub starts_of : (name : List ℕ) → IsName name → first_passes is_xid_start name ≡ true
 starts_of name named =
     (both (first_passes is_xid_start name) (list_all is_xid_continue name) (both (first_passes is_xid_start name && list_all is_xid_continue name) (not (is_reserved name)) named).0).0
 

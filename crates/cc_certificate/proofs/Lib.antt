@@ -1,0 +1,7 @@
+pub mod BinderCounts
+pub mod ClaimTextLaws
+pub mod Lines
+pub mod LiteralTexts
+pub mod SetTexts
+pub mod TermTextLaws
+pub mod TermWords
