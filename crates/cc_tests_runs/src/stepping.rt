@@ -82,3 +82,21 @@ fn memory_taken_before_the_steps(rt: HostRuntime) -> Result<(), AllocError> {
     }
     Ok(())
 }
+
+const WRITES: &str =
+    "def main = fun (u: Unit) => val a = out.say(\"hi\"); val b = data.write(8); out.print(3)";
+
+#[test]
+fn memory_taken_before_what_is_said_and_written(rt: HostRuntime) -> Result<(), AllocError> {
+    for (calls, want) in [
+        (11, "0 say hi; 2 write 8; 0 print 3; unit"),
+        (10, "0 say hi; 2 write 8; "),
+    ] {
+        let shown = match stepped_text(rt.alloc(), WRITES, calls) {
+            Some(shown) => shown,
+            None => return Err(AllocError),
+        };
+        assert_eq!(rt; shown.as_str(), want);
+    }
+    Ok(())
+}
