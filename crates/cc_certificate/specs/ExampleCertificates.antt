@@ -8,13 +8,14 @@ use Rattle.cc_capture.specs.Elements.{element_order, same_element}
 use Rattle.cc_capture.specs.Rising.{placed}
 use Rattle.cc_capture.specs.Sets.{contains, same_set, flat_image, from_list, union, retain, remove, insert, empty}
 use Rattle.cc_core.specs.Contexts.{TypeEntry}
-use Rattle.cc_core.specs.Derivations.{t-lit, t-prim, SetBelow, Derivation, Node, NoPremise, two}
+use Rattle.cc_core.specs.Derivations.{t-lit, t-prim, SetBelow, ShapeBelow, TypeBelow, Derivation, Node, NoPremise}
+use Rattle.cc_core.specs.Derivations.{two}
 use Rattle.cc_core.specs.Shapes.{AnyShape, FunctionShape, CapturingType, capturing}
 use Rattle.cc_core.specs.Substitution.{single}
 use Rattle.cc_core.specs.Terms.{Absent, Written, Term, VariableTerm, LiteralTerm, FunctionTerm, Let, Operation}
 use Rattle.cc_sets.specs.CanonicalDerivations.{canonical_shapes, shape_derived, form_derived, definition_derived}
 use Rattle.cc_sets.specs.Examples.{number, nothing, printing, first, parameter, with_console}
-use Rattle.cc_certificate.specs.Certificates.{node_lines, bind_line, certificate_text, lines_text}
+use Rattle.cc_certificate.specs.Certificates.{claim_text, node_lines, bind_line, certificate_text, lines_text}
 use lib.Utf8.{encode}
 
 -- fun (x: Unit) => x, and its type
@@ -134,3 +135,10 @@ shared_text = refl
 pub bound_line : bind_line [] 3 (TypeEntry number) ≡ codes "bind _T3 <: Int"
 unfolding digits
 bound_line = refl
+
+-- That a shape is below another, and that the type of the shape and the empty set is, have one text.
+pub two_kinds :
+    claim_text [] 0 (ShapeBelow number AnyShape)
+    ≡ claim_text [] 0 (TypeBelow (capturing number empty) (capturing AnyShape empty))
+unfolding from_list empty
+two_kinds = refl

@@ -9,13 +9,16 @@ use Rattle.cc_capture.specs.declared.var.Elem.TheVariants.{Var as Variable, Cap,
 use Rattle.cc_capture.specs.declared.var.Var.{Var}
 use Rattle.cc_capture.specs.declared.var.Var.TheVariants.{Bound, Free}
 use Rattle.cc_capture.specs.Sets.{Set}
-use Rattle.cc_core.specs.Derivations.{Rule, Claim, SetBelow, ShapeBelow, TypeBelow, OfType}
+use Rattle.cc_core.specs.Derivations.{Rule, ByElement, ByVariable, BySet, ByReflexivity, ByTransitivity, ByTypeVariable}
+use Rattle.cc_core.specs.Derivations.{ByTop, ByFunction, ByTypeFunction, ByBox, ByCapturing, t-var, t-lit, t-abs}
+use Rattle.cc_core.specs.Derivations.{t-tabs, t-app, t-tapp, t-box, t-unbox, t-let, t-prim, t-if, t-repeat, t-op}
+use Rattle.cc_core.specs.Derivations.{t-boundary, t-exit, t-sub, Claim, SetBelow, ShapeBelow, TypeBelow, OfType}
 use Rattle.cc_core.specs.Occurrences.{Condition, Meets, MeetsInSet, MeetsInType, MeetsInTerm}
 use Rattle.cc_core.specs.Terms.{Note, Absent, Written, Own, Term, VariableTerm, LiteralTerm, FunctionTerm}
 use Rattle.cc_core.specs.Terms.{TypeFunctionTerm, BoxTerm, Application, TypeApplication, Unboxing, Let, Primitive}
 use Rattle.cc_core.specs.Terms.{Conditional, Repetition, Operation, Boundary, Leave}
 use Rattle.cc_meta_validity.specs.Rows.{Place, Nowhere, TypeOf, SetsBelow, ShapesBelow, TypesBelow, Row, row_at}
-use Rattle.cc_certificate.specs.Certificates.{binds_first, binds_others, with_binder, claim_text}
+use Rattle.cc_certificate.specs.Certificates.{binds_first, binds_others, with_binder, claim_text, node_line}
 use Rattle.cc_certificate.specs.TermTexts.{term_text}
 use lib.Signed.{mag}
 
@@ -125,6 +128,37 @@ AreOfOneKind (ShapeBelow left right) (ShapeBelow left' right') = Unit {0}
 AreOfOneKind (SetBelow left right) (SetBelow left' right') = Unit {0}
 AreOfOneKind _ _ = ⊥
 
+-- the claim is one that nodes of the rule have
+abbrev pub IsClaimOf : Rule → Claim → Type 0
+IsClaimOf ByElement (SetBelow left right) = Unit {0}
+IsClaimOf ByVariable (SetBelow left right) = Unit {0}
+IsClaimOf BySet (SetBelow left right) = Unit {0}
+IsClaimOf ByReflexivity (ShapeBelow left right) = Unit {0}
+IsClaimOf ByTransitivity (ShapeBelow left right) = Unit {0}
+IsClaimOf ByTypeVariable (ShapeBelow left right) = Unit {0}
+IsClaimOf ByTop (ShapeBelow left right) = Unit {0}
+IsClaimOf ByFunction (ShapeBelow left right) = Unit {0}
+IsClaimOf ByTypeFunction (ShapeBelow left right) = Unit {0}
+IsClaimOf ByBox (ShapeBelow left right) = Unit {0}
+IsClaimOf ByCapturing (TypeBelow left right) = Unit {0}
+IsClaimOf t-var (OfType type) = Unit {0}
+IsClaimOf t-lit (OfType type) = Unit {0}
+IsClaimOf t-abs (OfType type) = Unit {0}
+IsClaimOf t-tabs (OfType type) = Unit {0}
+IsClaimOf t-app (OfType type) = Unit {0}
+IsClaimOf t-tapp (OfType type) = Unit {0}
+IsClaimOf t-box (OfType type) = Unit {0}
+IsClaimOf t-unbox (OfType type) = Unit {0}
+IsClaimOf t-let (OfType type) = Unit {0}
+IsClaimOf t-prim (OfType type) = Unit {0}
+IsClaimOf t-if (OfType type) = Unit {0}
+IsClaimOf t-repeat (OfType type) = Unit {0}
+IsClaimOf t-op (OfType type) = Unit {0}
+IsClaimOf t-boundary (OfType type) = Unit {0}
+IsClaimOf t-exit (OfType type) = Unit {0}
+IsClaimOf t-sub (OfType type) = Unit {0}
+IsClaimOf _ _ = ⊥
+
 -- Filled terms over one list of different names, and so many local binders, are one where their texts are.
 abbrev pub DifferentTermsHaveDifferentTexts : Type 0
 DifferentTermsHaveDifferentTexts =
@@ -138,3 +172,15 @@ DifferentClaimsHaveDifferentTexts =
     (names : List (List ℕ)) (locals : ℕ) (a b : Claim) → AllByRecursion IsName names → IsDistinct bytes_eq names
     → IsClaimOver (length names) locals a → IsClaimOver (length names) locals b → AreOfOneKind a b
     → claim_text names locals a ≡ claim_text names locals b → a ≡ b
+
+-- A node's line tells all of it where its claim is one that its rule has, and numbers have 64 bits.
+abbrev pub LinesTellTheirNodes : Type 0
+LinesTellTheirNodes =
+    (names : List (List ℕ)) (locals : ℕ) (number number' : ℕ) (rule rule' : Rule) (premises premises' : List ℕ)
+    (claim claim' : Claim) → AllByRecursion IsName names → IsDistinct bytes_eq names
+    → number < 2 ^ 64 → number' < 2 ^ 64
+    → AllByRecursion (λ n. n < 2 ^ 64) premises → AllByRecursion (λ n. n < 2 ^ 64) premises'
+    → IsClaimOver (length names) locals claim → IsClaimOver (length names) locals claim'
+    → IsClaimOf rule claim → IsClaimOf rule' claim'
+    → node_line names locals number rule premises claim ≡ node_line names locals number' rule' premises' claim'
+    → (number ≡ number') × (rule ≡ rule') × (premises ≡ premises') × (claim ≡ claim')

@@ -16,3 +16,8 @@ pub fn different_claims_have_different_texts()
 pub fn different_terms_have_different_texts()
     ensures { law.DifferentTermsHaveDifferentTexts }
 {}
+
+/// The line of a node tells its number, its rule, the numbers of its premises and its claim.
+pub fn lines_tell_their_nodes()
+    ensures { law.LinesTellTheirNodes }
+{}

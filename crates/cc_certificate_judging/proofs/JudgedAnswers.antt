@@ -1,0 +1,162 @@
+-- What the answer says.
+use Rattle.std.proofs.Common.{◌≡◌, ℕ, ◌+◌, ◌<◌, ◌≤◌, ◌^◌, List, [], ◌∷◌, ◌++◌, length, map, refl, ap, sym, ◌∙◌, subst, arith, get_or, drop, Result, Ok, Err, IfOk, IsErrAnd}
+use mathlib.Core.List.{reverse}
+use Rattle.std.proofs.lemmas.List.{append-nil, reverse-reverse, at_drop_more}
+use Rattle.cc_core.specs.declared.types.Ty.{Ty}
+use Rattle.cc_core.specs.Views.{type_of}
+use Rattle.cc_core.specs.Shapes.{CapturingType}
+use Rattle.cc_core.specs.Terms.{Term}
+use Rattle.cc_core.specs.Contexts.{Context, entry_of}
+use Rattle.cc_core.specs.WellFormed.{Kind, kinds_of}
+use Rattle.cc_core.specs.Derivations.{Rule, Claim, SetBelow, ShapeBelow, TypeBelow, OfType, Derivation, Node, Premises, Concludes}
+use Rattle.cc_derivation.specs.Views.{claim_of}
+use Rattle.cc_derivation.specs.declared.derivation.Claim.{Claim as DeclaredClaim}
+use Rattle.cc_derivation.specs.declared.derivation.Claim.TheVariants as claims
+use Rattle.cc_meta_validity.specs.Rows.{TypeOf}
+use Rattle.cc_meta_validity.specs.Broken.{broken}
+use Rattle.cc_sets.specs.DerivationSizes.{nodes}
+use Rattle.cc_certificate_text.specs.Certificates.{CertificateNode, Line, Concludes as LineConcludes, Start, Binding, Proving, AllFit, IsWhole, behind_lines}
+use Rattle.cc_certificate_reading.specs.declared.certificate.CertNode.{CertNode}
+use Rattle.cc_certificate_reading.specs.declared.certificate.Cert.{Cert}
+use Rattle.cc_certificate_reading.specs.Views.{node_of, node_line_of, bind_line_of, lines_of}
+use Rattle.cc_certificate_judging.specs.Judging.{NodeTree, listed, read_tree, with_binds, bind_type, IsAnswer, IsJudged}
+use Rattle.cc_certificate_judging.specs.declared.error.JudgeError.{JudgeError}
+use Rattle.cc_certificate_judging.specs.declared.error.JudgeError.TheVariants.{NoMemory}
+use Rattle.cc_certificate_judging.specs.Passes.{PlainReadNode, AreRead, Builds}
+use Rattle.cc_certificate_judging.proofs.GrownTrees.{certificate_tree, few_nodes}
+use Rattle.cc_certificate_judging.proofs.PassesOnce.{are_read_once, builds_once}
+use Rattle.cc_certificate_judging.proofs.TreePasses.{reads_of, tree_is_read, tree_builds, nodes-read_tree, length-listed}
+
+-- a claim that is of no type says so
+pub no_type : (claim : DeclaredClaim) (type : CapturingType) → ((ty : Ty) → claim ≡ claims.Typed ty → ⊥) → claim_of claim ≡ OfType type → ⊥
+no_type (claims.Typed ty) type not e = not ty refl
+no_type (claims.TypeBelow left right) type not e = cc
+no_type (claims.ShapeBelow left right) type not e = cc
+no_type (claims.SetBelow left right) type not e = cc
+
+some_number : {B : Type 0} (n : ℕ) → n ∷ [] ≡ [] → B
+some_number n e = cc
+
+-- where no node breaks its rule at a place of a term, a type is concluded
+concludes_type : (before : ℕ) (context : Context) (term : Term) (rule : Rule) (premises : Premises) (claim : Claim)
+    → broken before (TypeOf context term) (Node rule premises claim) ≡ [] → (type : CapturingType) × (claim ≡ OfType type)
+concludes_type before context term rule premises (OfType type) whole = (type, refl)
+concludes_type before context term rule premises (SetBelow left right) whole = some_number _ whole
+concludes_type before context term rule premises (ShapeBelow left right) whole = some_number _ whole
+concludes_type before context term rule premises (TypeBelow left right) whole = some_number _ whole
+
+pub whole_concludes : (context : Context) (term : Term) (derivation : Derivation) → broken 0 (TypeOf context term) derivation ≡ []
+    → (type : CapturingType) × Concludes derivation (OfType type)
+whole_concludes context term (Node rule premises claim) whole = concludes_type 0 context term rule premises claim whole
+
+-- what the lines of binds leave for those behind them
+pub record Behind (names : List (List ℕ)) (context : Context) (lines rest : List Line) : Type 0 where
+  pub later : List (List ℕ)
+  pub inner : Context
+  pub fit : AllFit (Binding later inner) rest
+  pub stage : behind_lines (Binding names context) lines ≡ behind_lines (Binding later inner) rest
+
+behind_binds : (binds : List (List ℕ × Ty)) (names : List (List ℕ)) (context : Context) (rest : List Line)
+    → AllFit (Binding names context) (map bind_line_of binds ++ rest) → Behind names context (map bind_line_of binds ++ rest) rest
+behind_binds [] names context rest fit = record { later = names; inner = context; fit = fit; stage = refl }
+behind_binds (bind ∷ binds) names context rest fit =
+    let b = behind_binds binds (names ++ bind.0 ∷ []) (entry_of (type_of bind.1) ∷ context) rest fit.1 in
+    record { later = b.later; inner = b.inner; fit = b.fit; stage = b.stage }
+
+node_lines : (ns : List CertNode) → map node_line_of ns ≡ map LineConcludes (map node_of ns)
+node_lines [] = refl
+node_lines (n ∷ ns) = ap (λ l. LineConcludes (node_of n) ∷ l) (node_lines ns)
+
+-- the nodes of a certificate in the program are those of a tree, and not too many
+pub cert_tree : (cert : Cert) → AllFit Start (lines_of cert) → IsWhole (behind_lines Start (lines_of cert))
+    → (tree : NodeTree) × (listed 0 tree ≡ map node_of cert.nodes.items)
+cert_tree cert fit whole =
+    let b = behind_binds cert.binds.items [] [] _ fit.1 in
+    let e = node_lines cert.nodes.items in
+    certificate_tree b.later (map node_of cert.nodes.items)
+    (subst (λ (l : List Line). AllFit (Proving b.later 0 []) l) e b.fit.1)
+    (subst (λ (l : List Line). IsWhole (behind_lines (Proving b.later 0 []) l)) e (subst IsWhole b.stage whole))
+
+pub cert_nodes : (cert : Cert) → AllFit Start (lines_of cert) → length (map node_of cert.nodes.items) ≤ 100000
+cert_nodes cert fit =
+    let b = behind_binds cert.binds.items [] [] _ fit.1 in
+    let few : 0 + length (map node_of cert.nodes.items) ≤ 100000 =
+    few_nodes b.later (map node_of cert.nodes.items) 0 [] (omega arith)
+    (subst (λ (l : List Line). AllFit (Proving b.later 0 []) l) (node_lines cert.nodes.items) b.fit.1) in
+    omega arith
+
+-- the derivation of a tree with so many nodes
+pub few_in_tree : (names : ℕ) (kinds : List Kind) (tree : NodeTree) (ns : List CertificateNode) (d : Derivation)
+    → listed 0 tree ≡ ns → d ≡ read_tree names kinds tree → length ns ≤ 100000 → nodes d < 2 ^ 32
+few_in_tree names kinds tree ns d whole is few =
+    let n : nodes d ≡ length ns = ap nodes is ∙ nodes-read_tree names kinds tree ∙ sym (length-listed 0 tree) ∙ ap length whole in
+    omega arith
+
+-- the passes over the nodes of a tree
+passes_read : (names : ℕ) (kinds : List Kind) (tree : NodeTree) → AreRead names (kinds ∷ []) (reverse (listed 0 tree)) (reverse (reads_of names 0 kinds tree))
+passes_read names kinds tree =
+    subst (λ (l : List CertificateNode). AreRead names (kinds ∷ []) l (reverse (reads_of names 0 kinds tree))) (append-nil (reverse (listed 0 tree)))
+    (subst (λ (l : List PlainReadNode). AreRead names (kinds ∷ []) (reverse (listed 0 tree) ++ []) l) (append-nil (reverse (reads_of names 0 kinds tree)))
+    (tree_is_read names 0 kinds tree [] [] [] (refl, refl)))
+
+pub first_pass : (names : ℕ) (kinds : List Kind) (ns : List CertificateNode) → (tree : NodeTree) × (listed 0 tree ≡ ns)
+    → (reads : List PlainReadNode) × AreRead names (kinds ∷ []) (reverse ns) reads
+first_pass names kinds ns t =
+    (reverse (reads_of names 0 kinds t.0), subst (λ (l : List CertificateNode). AreRead names (kinds ∷ []) (reverse l) (reverse (reads_of names 0 kinds t.0))) t.1 (passes_read names kinds t.0))
+
+reverse_twice : {A : Type 0} (l : List A) → reverse (reverse l) ≡ l
+reverse_twice l = reverse-reverse l
+
+builds_tree : (names : ℕ) (kinds : List Kind) (tree : NodeTree) (reads : List PlainReadNode)
+    → AreRead names (kinds ∷ []) (reverse (listed 0 tree)) reads → Builds [] (reverse reads) (read_tree names kinds tree)
+builds_tree names kinds tree reads r =
+    let e : reads ≡ reverse (reads_of names 0 kinds tree) = are_read_once names (reverse (listed 0 tree)) (kinds ∷ []) reads (reverse (reads_of names 0 kinds tree)) r (passes_read names kinds tree) in
+    let turned : reads_of names 0 kinds tree ≡ reverse reads = sym (reverse_twice (reads_of names 0 kinds tree)) ∙ ap reverse (sym e) in
+    subst (λ (l : List PlainReadNode). Builds [] l (read_tree names kinds tree)) (append-nil (reads_of names 0 kinds tree) ∙ turned)
+    (tree_builds names 0 kinds tree [] [] (read_tree names kinds tree) refl)
+
+pub second_pass : (names : ℕ) (kinds : List Kind) (ns : List CertificateNode) (reads : List PlainReadNode) → (tree : NodeTree) × (listed 0 tree ≡ ns)
+    → AreRead names (kinds ∷ []) (reverse ns) reads → (root : Derivation) × Builds [] (reverse reads) root
+second_pass names kinds ns reads t r =
+    (read_tree names kinds t.0, builds_tree names kinds t.0 reads (subst (λ (l : List CertificateNode). AreRead names (kinds ∷ []) (reverse l) reads) (sym t.1) r))
+
+pub passes_give : (names : ℕ) (kinds : List Kind) (ns : List CertificateNode) (reads : List PlainReadNode) (d : Derivation)
+    → AreRead names (kinds ∷ []) (reverse ns) reads → Builds [] (reverse reads) d
+    → (tree : NodeTree) → listed 0 tree ≡ ns → d ≡ read_tree names kinds tree
+passes_give names kinds ns reads d r b tree whole =
+    builds_once (reverse reads) [] d (read_tree names kinds tree) b
+    (builds_tree names kinds tree reads (subst (λ (l : List CertificateNode). AreRead names (kinds ∷ []) (reverse l) reads) (sym whole) r))
+
+-- one bind more
+pub bind_step : (binds : List (List ℕ × Ty)) (i : ℕ) (item : List ℕ × Ty) (context inner start : Context)
+    → i < length binds → item ≡ get_or binds i item → inner ≡ entry_of (type_of item.1) ∷ context
+    → with_binds context (map bind_type (drop i binds)) ≡ start → with_binds inner (map bind_type (drop (i + 1) binds)) ≡ start
+bind_step binds i item context inner start low is own was =
+    let more : with_binds context (map bind_type (drop i binds)) ≡ with_binds (entry_of (bind_type (get_or binds i item)) ∷ context) (map bind_type (drop (i + 1) binds)) =
+    at_drop_more (λ l. with_binds context (map bind_type l)) binds i item low in
+    ap (λ c. with_binds c (map bind_type (drop (i + 1) binds))) own
+    ∙ ap (λ (x : List ℕ × Ty). with_binds (entry_of (bind_type x) ∷ context) (map bind_type (drop (i + 1) binds))) is ∙ sym more ∙ was
+
+-- the passes over the nodes give the derivation of their tree
+pub passes_answer : {T E : Type 0} (f : T → Derivation) (r : Result T E) (names : ℕ) (kinds : List Kind) (ns : List CertificateNode) (reads : List PlainReadNode)
+    → AreRead names (kinds ∷ []) (reverse ns) reads → IfOk r (λ d. Builds [] (reverse reads) (f d))
+    → IfOk r (λ d. (tree : NodeTree) → listed 0 tree ≡ ns → f d ≡ read_tree names kinds tree)
+passes_answer f (Ok d) names kinds ns reads a b = λ tree whole. passes_give names kinds ns reads (f d) a b tree whole
+passes_answer f (Err e) names kinds ns reads a b = tt
+
+-- want of memory is an answer
+pub no_memory : (context : Context) (term : Term) (ns : List CertificateNode) (answer : Result Ty JudgeError)
+    → (tree : NodeTree) × (listed 0 tree ≡ ns) → IsErrAnd answer (λ e. e ≡ NoMemory) → IsJudged context term ns answer
+no_memory context term ns (Ok type) t e = absurd e
+no_memory context term ns (Err error) t e =
+    subst (λ (x : JudgeError). IsJudged context term ns (Err x)) (sym e) (record { tree = t.0; whole = t.1; told = tt })
+
+-- the answer for the derivation of the tree is that for the certificate
+pub answered : (context own : Context) (term : Term) (ns : List CertificateNode) (answer : Result Ty JudgeError) (names : ℕ) (kinds : List Kind) (d : Derivation)
+    → (tree : NodeTree) × (listed 0 tree ≡ ns) → own ≡ context → names ≡ length own → kinds ≡ kinds_of own
+    → ((tree : NodeTree) → listed 0 tree ≡ ns → d ≡ read_tree names kinds tree)
+    → IsAnswer own term d answer → IsJudged context term ns answer
+answered context own term ns answer names kinds d t same n k is a =
+    let e : d ≡ read_tree (length own) (kinds_of own) t.0 = is t.0 t.1 ∙ ap (λ i. read_tree i kinds t.0) n ∙ ap (λ (l : List Kind). read_tree (length own) l t.0) k in
+    subst (λ (g : Context). IsJudged g term ns answer) same
+    (record { tree = t.0; whole = t.1; told = subst (λ (x : Derivation). IsAnswer own term x answer) e a })

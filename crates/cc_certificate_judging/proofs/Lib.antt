@@ -1,0 +1,10 @@
+mod FormedAnswers
+mod GrownTrees
+mod JudgedAnswers
+mod JudgedTypes
+pub mod OneTree
+mod PassSteps
+mod PassesOnce
+mod ReadElements
+mod TreePasses
+mod WorkedCertificates

@@ -1,0 +1,5 @@
+pub mod Judging
+pub mod JudgingExamples
+pub mod JudgingLaws
+pub mod PassViews
+pub mod Passes

@@ -1,0 +1,252 @@
+//! The claims of nodes, read at their places.
+
+ghost use Rattle.std.specs.Prelude.{◌≡◌, ◌-◌, ◌+◌, ◌<◌, length, IfOk, OnOk};
+ghost use Rattle.cc_capture.specs.Sets.{union};
+ghost use Rattle.cc_core.specs.Traversal.{act, act_set, act_type};
+ghost use Rattle.cc_core.specs.Views.{shape_of, type_of, context_of};
+ghost use Rattle.cc_core.specs.WellFormed.{kinds_of};
+ghost use Rattle.cc_derivation.specs.Views.{claim_of, rule_of};
+ghost use Rattle.cc_certificate_text.specs.Certificates.{rule_kind};
+ghost use Rattle.cc_certificate_judging.specs.Judging as plain;
+
+use cc_capture::{CapSet, Elem, Var};
+use cc_core::wellformed::{wf, wf_set, wf_shape};
+use cc_core::{Ctx, Shape, Ty};
+use cc_derivation::{Claim, Rule};
+use std::alloc::{AllocError, Global};
+use std::rc::Rc;
+
+// The variable that the number names under so many binders of the claim, where there are so many names, and so many
+// entries with the local ones.
+fn numbered(names: u32, entries: u32, depth: u32, number: u32) -> Var
+    ensures { result ≡ plain.numbered names (entries - names) depth number }
+{
+    let locals = entries.saturating_sub(names);
+    if number < locals {
+        return Var::Free(names + number);
+    }
+    if number - locals < depth {
+        Var::Bound(depth - (number - locals + 1))
+    } else {
+        Var::Bound(number)
+    }
+}
+
+// The same of a variable as it is written.
+fn read_variable(names: u32, entries: u32, depth: u32, variable: Var) -> Var
+    ensures { result ≡ plain.read_variable names (entries - names) depth variable }
+{
+    match variable {
+        Var::Bound(number) => numbered(names, entries, depth, number),
+        Var::Free(_) => variable,
+    }
+}
+
+// Puts the element, as it is read, into the set.
+fn add_read(
+    names: u32,
+    entries: u32,
+    depth: u32,
+    elem: Elem,
+    read: &mut CapSet,
+) -> Result<(), AllocError>
+    ensures { OnOk result (read.new ≡ union ((plain.reading names (entries - names)).element depth elem) read.old) }
+{
+    match elem {
+        Elem::Var(variable) => read.insert(Elem::Var(read_variable(
+            names, entries, depth, variable,
+        ))),
+        Elem::Cap => read.insert(elem),
+        Elem::Hole(_) => read.insert(elem),
+    }
+}
+
+// The set, as it is read.
+fn read_set(
+    alloc: Global,
+    names: u32,
+    entries: u32,
+    depth: u32,
+    set: &CapSet,
+) -> Result<CapSet, AllocError>
+    ensures { IfOk result (λ s. s ≡ act_set (plain.reading names (entries - names)) depth set.now) }
+{
+    let mut read = CapSet::new(alloc);
+    for elem in set.iter() {
+        add_read(names, entries, depth, elem, &mut read)?;
+    }
+    Ok(read)
+}
+
+// The depth under one binder more.
+fn under(depth: u32) -> Result<u32, AllocError>
+    ensures { IfOk result (λ d. d ≡ depth + 1) }
+{
+    depth.checked_add(1).ok_or(AllocError)
+}
+
+// The shape, as it is read.
+#[cycle(read_shapes)]
+fn read_shape(
+    alloc: Global,
+    names: u32,
+    entries: u32,
+    depth: u32,
+    shape: &Rc<Shape>,
+) -> Result<Rc<Shape>, AllocError>
+    ensures { IfOk result (λ s. shape_of s.value ≡ act (plain.reading names (entries - names)) depth (shape_of shape.now.value)) }
+{
+    match &**shape {
+        Shape::Base(_) => shape.clone(),
+        Shape::Any => shape.clone(),
+        Shape::TVar(variable) => {
+            let variable = read_variable(names, entries, depth, *variable);
+            Ok(Rc::new(alloc, Shape::TVar(variable))?)
+        }
+        Shape::Fun(takes, gives) => {
+            let takes = read_shared_type(alloc, names, entries, depth, takes)?;
+            let gives = read_shared_type(alloc, names, entries, under(depth)?, gives)?;
+            Ok(Rc::new(alloc, Shape::Fun(takes, gives))?)
+        }
+        Shape::TFun(bound, result) => {
+            let bound = read_shape(alloc, names, entries, depth, bound)?;
+            let result = read_shared_type(alloc, names, entries, under(depth)?, result)?;
+            Ok(Rc::new(alloc, Shape::TFun(bound, result))?)
+        }
+        Shape::Boxed(content) => {
+            let content = read_shared_type(alloc, names, entries, depth, content)?;
+            Ok(Rc::new(alloc, Shape::Boxed(content))?)
+        }
+        Shape::Exit(gives) => {
+            let gives = read_shape(alloc, names, entries, depth, gives)?;
+            Ok(Rc::new(alloc, Shape::Exit(gives))?)
+        }
+    }
+}
+
+#[cycle(read_shapes)]
+fn read_shared_type(
+    alloc: Global,
+    names: u32,
+    entries: u32,
+    depth: u32,
+    ty: &Rc<Ty>,
+) -> Result<Rc<Ty>, AllocError>
+    ensures { IfOk result (λ t. type_of t.value ≡ act_type (plain.reading names (entries - names)) depth (type_of ty.now.value)) }
+{
+    let shape = read_shape(alloc, names, entries, depth, &ty.shape)?;
+    let set = read_set(alloc, names, entries, depth, &ty.set)?;
+    Ok(Rc::new(alloc, Ty { shape, set })?)
+}
+
+// The type, as it is read.
+fn read_type(alloc: Global, names: u32, entries: u32, ty: &Ty) -> Result<Ty, AllocError>
+    ensures { IfOk result (λ t. type_of t ≡ act_type (plain.reading names (entries - names)) 0 (type_of ty.now)) }
+{
+    let shape = read_shape(alloc, names, entries, 0, &ty.shape)?;
+    let set = read_set(alloc, names, entries, 0, &ty.set)?;
+    Ok(Ty { shape, set })
+}
+
+/// The claim, as it is read where there are so many names, and so many entries with the local ones.
+fn read_claim(alloc: Global, names: u32, entries: u32, claim: &Claim) -> Result<Claim, AllocError>
+    ensures { IfOk result (λ c. claim_of c ≡ plain.read_claim names (entries - names) (claim_of claim.now)) }
+{
+    match claim {
+        Claim::Typed(ty) => Ok(Claim::Typed(read_type(alloc, names, entries, ty)?)),
+        Claim::TypeBelow(left, right) => {
+            let left = read_type(alloc, names, entries, left)?;
+            let right = read_type(alloc, names, entries, right)?;
+            Ok(Claim::TypeBelow(left, right))
+        }
+        Claim::ShapeBelow(left, right) => {
+            let left = read_shape(alloc, names, entries, 0, left)?;
+            let right = read_shape(alloc, names, entries, 0, right)?;
+            Ok(Claim::ShapeBelow(left, right))
+        }
+        Claim::SetBelow(left, right) => {
+            let left = read_set(alloc, names, entries, 0, left)?;
+            let right = read_set(alloc, names, entries, 0, right)?;
+            Ok(Claim::SetBelow(left, right))
+        }
+    }
+}
+
+// Whether each variable of the claim is in scope, and of the kind of its place.
+fn is_in_scope(ctx: &Ctx, claim: &Claim) -> bool
+    ensures { result ≡ plain.is_in_scope (kinds_of (context_of ctx.now)) (claim_of claim.now) }
+{
+    match claim {
+        Claim::Typed(ty) => wf(ctx, ty),
+        Claim::TypeBelow(left, right) => wf(ctx, left) && wf(ctx, right),
+        Claim::ShapeBelow(left, right) => wf_shape(ctx, left) && wf_shape(ctx, right),
+        Claim::SetBelow(left, right) => wf_set(ctx, left) && wf_set(ctx, right),
+    }
+}
+
+// Whether the outermost binders, where there are some, have the number.
+fn begins_at(locals: u32, first: Option<u32>) -> bool
+    ensures { result ≡ plain.begins_at locals first }
+{
+    match first {
+        Some(first) => first == locals,
+        None => true,
+    }
+}
+
+// Whether the rule concludes that a set is below another.
+fn is_of_sets(rule: Rule) -> bool
+    ensures { result ≡ plain.is_of_sets (rule_kind (rule_of rule)) }
+{
+    match rule {
+        Rule::ByElement => true,
+        Rule::ByVariable => true,
+        Rule::BySet => true,
+        _ => false,
+    }
+}
+
+// A claim that is not of the kind of what the rule concludes.
+fn claim_of_another_kind(alloc: Global, rule: Rule) -> Result<Claim, AllocError>
+    ensures { IfOk result (λ c. claim_of c ≡ plain.claim_of_another_kind (rule_kind (rule_of rule))) }
+{
+    if is_of_sets(rule) {
+        let shape = Rc::new(alloc, Shape::Any)?;
+        let set = CapSet::new(alloc);
+        Ok(Claim::Typed(Ty { shape, set }))
+    } else {
+        Ok(Claim::SetBelow(CapSet::new(alloc), CapSet::new(alloc)))
+    }
+}
+
+// How many entries are in scope.
+fn entries(ctx: &Ctx) -> u32
+    ensures { result ≡ length (kinds_of (context_of ctx.now)) }
+{
+    ctx.len()
+}
+
+/// The claim of a node of the rule, as it is read at the place where the entries are in scope, of which the first ones
+/// are those of so many names. Where its names do not fit the place, it is a claim of another kind. Fails only for want
+/// of memory.
+pub(crate) fn claim_at(
+    alloc: Global,
+    names: u32,
+    ctx: &Ctx,
+    rule: Rule,
+    first: Option<u32>,
+    claim: &Claim,
+) -> Result<Claim, AllocError>
+    ensures { IfOk result (λ c. claim_of c ≡ plain.claim_at names (kinds_of (context_of ctx.now)) (rule_of rule) first (claim_of claim.now)) }
+{
+    let entries = entries(ctx);
+    if !begins_at(entries.saturating_sub(names), first) {
+        return claim_of_another_kind(alloc, rule);
+    }
+    let read = read_claim(alloc, names, entries, claim)?;
+    if is_in_scope(ctx, &read) {
+        Ok(read)
+    } else {
+        claim_of_another_kind(alloc, rule)
+    }
+}

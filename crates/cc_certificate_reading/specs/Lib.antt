@@ -1,0 +1,4 @@
+pub mod Examples
+pub mod Progress
+pub mod RuleLists
+pub mod Views

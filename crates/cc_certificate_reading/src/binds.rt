@@ -1,0 +1,98 @@
+//! Binds and the term.
+
+ghost use Rattle.std.specs.Prelude.{◌≡◌, ◌≤◌, length, IfOk};
+ghost use Rattle.std.specs.Str.{bytes_eq};
+ghost use Rattle.std.specs.List.{list_any};
+ghost use Rattle.cc_core.specs.Views.{term_of, context_of};
+ghost use Rattle.cc_job.specs.Reading.{name_of};
+ghost use Rattle.cc_certificate_text.specs.Certificates.{States};
+ghost use Rattle.cc_certificate_text.specs.LineReading.{name_at, bind_at, statement_at};
+ghost use Rattle.cc_certificate_types.specs.Agreement.{Agrees};
+ghost use Rattle.cc_certificate_reading.specs.Views.{bind_line_of};
+
+use cc_base::name::{Name, NameError};
+use cc_certificate_terms::terms::read_term;
+use cc_certificate_types::sets::Locals;
+use cc_certificate_types::stop::{Reading, Stop};
+use cc_certificate_types::types::read_type;
+use cc_certificate_types::words::{cut_at, read_exact};
+use cc_core::wellformed::{wf, wf_term};
+use cc_core::{Ctx, Node, Ty};
+use std::alloc::{AllocError, Global};
+use std::str;
+
+// The name that a word is, if it is one.
+#[tactic(auto, unfolding(cc_job::specs::Reading::name_of))]
+fn name_of(alloc: Global, word: &[u8]) -> Result<Option<Name>, AllocError>
+    ensures { IfOk result (λ name. name ≡ name_of word.now) }
+{
+    let Ok(text) = str::from_utf8(word) else {
+        return Ok(None);
+    };
+    match Name::read(alloc, text) {
+        Ok(name) => Ok(Some(name)),
+        Err(NameError::NotAName) => Ok(None),
+        Err(NameError::NoMemory) => Err(AllocError),
+    }
+}
+
+// A name, and the colon behind it.
+#[tactic(auto, unfolding(cc_certificate_text::specs::LineReading::name_at))]
+fn read_name<'a>(alloc: Global, bytes: &'a [u8]) -> Reading<'a, Name>
+    ensures { Agrees (λ name. name) result (name_at bytes.now) }
+{
+    let Some((word, rest)) = cut_at(bytes, b':') else {
+        return Err(Stop::Misfit);
+    };
+    match name_of(alloc, word)? {
+        Some(name) => Ok((name, rest)),
+        None => Err(Stop::Misfit),
+    }
+}
+
+fn is_among(names: &[Name], name: &Name) -> bool
+    ensures { result ≡ list_any (bytes_eq name.now) names.now }
+{
+    names.iter().any(|other| *name == *other)
+}
+
+/// The name and the type of a bind.
+#[tactic(auto, unfolding(cc_certificate_text::specs::LineReading::bind_at, cc_certificate_text::specs::Reading::type_at))]
+pub fn read_bind<'a>(
+    alloc: Global,
+    names: &[Name],
+    ctx: &Ctx,
+    bytes: &'a [u8],
+) -> Reading<'a, (Name, Ty)>
+    requires { length names.now ≤ 4294967296 }
+    ensures { Agrees bind_line_of result (bind_at names.now (context_of ctx.now) bytes.now) }
+{
+    let (name, rest) = read_name(alloc, bytes)?;
+    if is_among(names, &name) {
+        return Err(Stop::Misfit);
+    }
+    let (_, rest) = read_exact(" ", rest)?;
+    let (ty, rest) = read_type(alloc, Locals::Counted, names, 5000, 0, rest)?;
+    if !wf(ctx, &ty) {
+        return Err(Stop::Misfit);
+    }
+    Ok(((name, ty), rest))
+}
+
+/// The term over the binds.
+#[tactic(auto, unfolding(cc_certificate_text::specs::LineReading::statement_at))]
+pub fn read_statement<'a>(
+    alloc: Global,
+    names: &[Name],
+    ctx: &Ctx,
+    bytes: &'a [u8],
+) -> Reading<'a, Node>
+    requires { length names.now ≤ 4294967296 }
+    ensures { Agrees (λ node. States (term_of node)) result (statement_at names.now (context_of ctx.now) bytes.now) }
+{
+    let (node, rest) = read_term(alloc, names, 5000, 0, bytes)?;
+    if !wf_term(ctx, &node) {
+        return Err(Stop::Misfit);
+    }
+    Ok((node, rest))
+}

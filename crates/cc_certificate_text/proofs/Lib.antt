@@ -1,0 +1,16 @@
+pub mod Certified
+pub mod ClaimReading
+pub mod KindedNames
+pub mod LinesRead
+pub mod NodeReading
+pub mod Pieces
+pub mod ReadSets
+pub mod ReadShapes
+pub mod ReadTerms
+pub mod ReadTypes
+pub mod Readers
+pub mod Seen
+pub mod SetOrders
+pub mod TermRules
+pub mod TermsRead
+pub mod TextLiterals

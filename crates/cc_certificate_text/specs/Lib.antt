@@ -1,0 +1,8 @@
+pub mod Certificates
+pub mod Heights
+pub mod Laws
+pub mod LineReading
+pub mod LocalNames
+pub mod NodeTexts
+pub mod Reading
+pub mod TermTexts

@@ -1,0 +1,11 @@
+use Rattle.std.proofs.Common.{◌≡◌, ◌∷◌, drop, map, option_map}
+use Rattle.cc_job.specs.Reading.{all_of}
+use Rattle.cc_job.proofs.Numbers.{before_all}
+use Rattle.cc_certificate_text.specs.Reading.{other_of}
+use Rattle.cc_certificate_types.specs.Numberings.{locals_of}
+use Rattle.cc_certificate_types.proofs.sets.elements_behind.Given as goal
+
+abbrev pub invariant-loop-word : goal.invariant-loop-word
+invariant-loop-word l =
+    before_all l.elems.items (all_of (other_of (locals_of l.locals) l.names l.depth) (map (λ it. it.now) (drop l.word-index l.words)))
+    ≡ option_map (λ others. l.fn.first ∷ others) (all_of (other_of (locals_of l.locals) l.names l.depth) (map (λ it. it.now) l.words))

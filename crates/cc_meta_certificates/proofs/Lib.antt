@@ -1,0 +1,17 @@
+pub mod BindLines
+pub mod ClosedSyntax
+pub mod DefinitionCertificates
+pub mod HolelessComparisons
+pub mod HolelessTerms
+pub mod LinesThatFit
+pub mod NamedFronts
+pub mod NodeLines
+pub mod NumberedNames
+pub mod NumberedTexts
+pub mod Places
+pub mod PresentableComparisons
+pub mod PresentableTypings
+pub mod SameTexts
+pub mod ValidCertificates
+pub mod WholeCertificates
+pub mod WholeTerms

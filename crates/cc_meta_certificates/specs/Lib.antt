@@ -1,0 +1,4 @@
+pub mod CertificateExamples
+pub mod CertificateLaws
+pub mod CertificateLines
+pub mod DefinitionLaws

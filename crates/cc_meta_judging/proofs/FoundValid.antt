@@ -1,0 +1,94 @@
+-- What is read back from the text of a valid derivation is judged to be valid.
+use Rattle.std.proofs.Common.{◌≡◌, ◌<◌, ℕ, List, [], ◌∷◌, ◌++◌, map, length, sym, ap, subst, ◌∙◌, arith}
+use Rattle.std.specs.Prelude.{Contains, Result, Ok, Err}
+use Rattle.std.specs.List.{AllByRecursion}
+use Rattle.cc_core.specs.declared.types.Ty.{Ty}
+use Rattle.cc_core.specs.Views.{type_of}
+use Rattle.cc_core.specs.Terms.{Term}
+use Rattle.cc_core.specs.Contexts.{TermEntry, TypeEntry, Context}
+use Rattle.cc_core.specs.WellFormed.{kinds_of}
+use Rattle.cc_core.specs.Derivations.{OfType, Derivation, Concludes, IsValidTyping}
+use Rattle.cc_meta_validity.specs.Rows.{TypeOf}
+use Rattle.cc_meta_validity.specs.Broken.{broken, IsLeast}
+use Rattle.cc_meta_validity.proofs.BrokenNodes.{valid_typings}
+use Rattle.cc_certificate_text.specs.Certificates.{States, Concludes as ConcludesNode}
+use Rattle.cc_certificate_judging.specs.Judging.{NodeTree, listed, read_tree, IsJudged}
+use Rattle.cc_certificate_judging.specs.declared.error.JudgeError.{JudgeError}
+use Rattle.cc_certificate_judging.specs.declared.error.JudgeError.TheVariants.{NoMemory, BadNode}
+use Rattle.cc_certificate_judging.proofs.OneTree.{one_tree}
+use Rattle.cc_meta_certificates.specs.CertificateLaws.{IsPresentable, IsPresentableEntry, IsTermEntry}
+use Rattle.cc_meta_checking.specs.CheckingLaws.{definition_context}
+use Rattle.cc_meta_checking.specs.CanonicalLaws.{accepted_derived}
+use Rattle.cc_core.specs.Shapes.{CapturingType}
+use Rattle.cc_meta_certificates.proofs.DefinitionCertificates.{accepted_certifiable}
+use Rattle.cc_meta_certificates.proofs.PresentableTypings.{valid_presentable}
+use Rattle.cc_meta_certificates.proofs.WholeCertificates.{written_are_read_back}
+use Rattle.cc_meta_judging.specs.JudgedCertificates.{written_tree, bind_line, parts_lines, bound_context, PartsAreReadBack, AnswersAs, AnswersType, WrittenCertificatesAreFoundValid, CertificatesOfDefinitionsAreFoundValid}
+use Rattle.cc_meta_judging.proofs.ReadTrees.{written_nodes, derivations_back}
+use Rattle.cc_meta_judging.proofs.SameLines.{same_tail, same_parts, binds_in, bound_are_binds, context_of_binds}
+
+term_entries : (g : Context) → AllByRecursion IsPresentableEntry g → AllByRecursion IsTermEntry g
+term_entries [] all = tt
+term_entries (TermEntry shape set ∷ older) all = (tt, term_entries older all.1)
+term_entries (TypeEntry bound ∷ older) all = absurd all.0
+
+pub parts_back : PartsAreReadBack
+parts_back names context term derivation binds stated listing open_context open_term valid done few text =
+    let all = term_entries context open_context.entries in
+    let can = subst (λ n. IsPresentable n 0 derivation) (sym open_context.each)
+    (valid_presentable context term derivation all open_context.formed open_term.formed valid done) in
+    let lines = written_are_read_back names context term derivation (parts_lines binds stated listing) open_context open_term can
+    few text in
+    let names_alike : written_tree (length names) 0 derivation ≡ written_tree (length context) 0 derivation =
+    ap (λ n. written_tree n 0 derivation) open_context.each in
+    let written : map bind_line binds ++ States stated ∷ map ConcludesNode listing
+    ≡ map bind_line (binds_in names context) ++ States term ∷ map ConcludesNode (listed 0 (written_tree (length context) 0 derivation)) =
+    same_tail lines
+    ∙ (λ i. bound_are_binds names context all i
+    ++ States term ∷ (written_nodes (length names) 0 0 derivation ∙ ap (λ tree. map ConcludesNode (listed 0 tree)) names_alike) i) in
+    let parts = same_parts binds (binds_in names context) stated term listing (listed 0 (written_tree (length context) 0 derivation)) written in
+    (ap bound_context parts.0 ∙ context_of_binds names context all, parts.1, parts.2)
+
+contains_none : {B : Type 0} (number : ℕ) (numbers : List ℕ) → numbers ≡ [] → Contains numbers number → B
+contains_none number numbers e h = let at : h.0 < length numbers = h.1 in absurd (omega (arith, ap length e, at))
+
+answered : (context : Context) (term : Term) (derivation : Derivation) (tree : NodeTree) (answer : Result Ty JudgeError)
+    → IsValidTyping context term derivation → read_tree (length context) (kinds_of context) tree ≡ derivation
+    → IsJudged context term (listed 0 tree) answer → AnswersAs derivation answer
+answered context term derivation tree (Ok type) valid back judged =
+    let same = one_tree judged.tree tree judged.whole in
+    subst (λ d. Concludes d (OfType (type_of type)))
+    (ap (read_tree (length context) (kinds_of context)) same ∙ back) judged.told.1
+answered context term derivation tree (Err NoMemory) valid back judged = tt
+answered context term derivation tree (Err (BadNode number)) valid back judged =
+    let same = one_tree judged.tree tree judged.whole in
+    let least = subst (λ d. IsLeast number (broken 0 (TypeOf context term) d))
+    (ap (read_tree (length context) (kinds_of context)) same ∙ back) judged.told in
+    contains_none number _ ((valid_typings 0 context term derivation).1 valid) least.0
+
+pub found_valid : WrittenCertificatesAreFoundValid
+found_valid names context term derivation binds stated listing answer open_context open_term valid done few text judged =
+    let parts = parts_back names context term derivation binds stated listing open_context open_term valid done few text in
+    let all = term_entries context open_context.entries in
+    let here = subst (λ g. IsJudged g stated listing answer) parts.0 judged in
+    let stated_here = subst (λ t. IsJudged context t listing answer) parts.1 here in
+    let listed_here = subst (λ l. IsJudged context term l answer) parts.2 stated_here in
+    answered context term derivation (written_tree (length context) 0 derivation) answer valid
+    (derivations_back context term derivation all open_context.formed open_term.formed valid done) listed_here
+
+type_told : (derivation : Derivation) (wanted : CapturingType) (answer : Result Ty JudgeError)
+    → Concludes derivation (OfType wanted) → AnswersAs derivation answer → AnswersType wanted answer
+type_told derivation wanted (Ok type) concludes told = same_type (sym told ∙ concludes)
+  where
+    same_type : {t u : CapturingType} → OfType t ≡ OfType u → t ≡ u
+    same_type e = cc
+type_told derivation wanted (Err NoMemory) concludes told = tt
+type_told derivation wanted (Err (BadNode number)) concludes told = told
+
+pub definitions_found_valid : CertificatesOfDefinitionsAreFoundValid
+definitions_found_valid devices globals definition accepted names binds stated listing answer fits verdict limits text judged =
+    let g = definition_context globals definition accepted.signature in
+    let can = accepted_certifiable devices globals definition accepted names fits verdict limits in
+    type_told (accepted_derived g accepted) accepted.signature answer can.concludes
+    (found_valid names g accepted.filled (accepted_derived g accepted) binds stated listing answer can.context can.term can.valid
+    can.done limits.few text judged)

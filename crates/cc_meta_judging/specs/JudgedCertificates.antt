@@ -1,0 +1,127 @@
+-- What is written for a valid derivation is judged to be valid.
+use Rattle.std.specs.Prelude.{◌≡◌, ℕ, ◌≤◌, List, [], ◌∷◌, ◌++◌, length, map, Result, Ok, Err}
+use Rattle.std.specs.List.{AllByRecursion}
+use Rattle.cc_core.specs.declared.types.Ty.{Ty}
+use Rattle.cc_core.specs.Views.{type_of}
+use Rattle.cc_core.specs.Shapes.{CapturingType}
+use Rattle.cc_core.specs.Terms.{Term}
+use Rattle.cc_core.specs.Contexts.{Context}
+use Rattle.cc_core.specs.WellFormed.{kinds_of, IsWellFormedContext, IsWellFormedTerm}
+use Rattle.cc_core.specs.Derivations.{OfType, Derivation, Node, Premises, NoPremise, Premise, Concludes, IsValidTyping}
+use Rattle.cc_sets.specs.DerivationSizes.{nodes}
+use Rattle.cc_sets.specs.Verdicts.{Definition, Accepted, IsAccepted, HasVerdict}
+use Rattle.cc_meta_checking.specs.CheckingLaws.{Fits, definition_context}
+use Rattle.cc_meta_checking.specs.CanonicalLaws.{accepted_derived}
+use Rattle.cc_certificate.specs.Certificates.{binds_first, binds_others, with_binder, certificate_text}
+use Rattle.cc_certificate_text.specs.Certificates.{CertificateNode, Line, Opens, Binds}
+use Rattle.cc_certificate_text.specs.Certificates.{States, Concludes as ConcludesNode}
+use Rattle.cc_certificate_text.specs.Certificates.{IsCertificate}
+use Rattle.cc_certificate_judging.specs.Judging.{NodeTree, Grown, NodeTrees, NoTree, Tree, listed}
+use Rattle.cc_certificate_judging.specs.Judging.{read_tree, with_binds}
+use Rattle.cc_certificate_judging.specs.Judging.{IsJudged}
+use Rattle.cc_certificate_judging.specs.declared.error.JudgeError.{JudgeError}
+use Rattle.cc_certificate_judging.specs.declared.error.JudgeError.TheVariants.{NoMemory, BadNode}
+use Rattle.cc_meta_certificates.specs.CertificateLines.{numbered_claim, outermost_number, concluded_lines}
+use Rattle.cc_meta_certificates.specs.DefinitionLaws.{IsWithinLimits}
+use Rattle.cc_meta_certificates.specs.CertificateLaws.{IsTermEntry, IsFinished, IsPresentableContext, IsPresentableTerm}
+
+abbrev mutual
+  -- the tree of a certificate's nodes that is written for a derivation, where so many local binders stand at its root
+  pub written_tree : ℕ → ℕ → Derivation → NodeTree
+  written_tree names locals (Node rule premises claim) =
+      Grown rule (outermost_number locals claim) (numbered_claim names locals claim)
+      (written_trees names (with_binder (binds_first rule) locals) (with_binder (binds_others rule) locals) premises)
+
+  -- the same of premises, where so many stand at the first one, and so many at those behind it
+  pub written_trees : ℕ → ℕ → ℕ → Premises → NodeTrees
+  written_trees names first_locals other_locals NoPremise = NoTree
+  written_trees names first_locals other_locals (Premise first rest) =
+      Tree (written_tree names first_locals first) (written_trees names other_locals other_locals rest)
+
+-- The nodes that are written for a derivation are those of the tree.
+abbrev pub WrittenNodesAreOfTheTree : Type 0
+WrittenNodesAreOfTheTree =
+    (names before locals : ℕ) (derivation : Derivation)
+    → concluded_lines names before locals derivation
+    ≡ map ConcludesNode (listed before (written_tree names locals derivation))
+
+-- The tree of a valid derivation is read as the derivation.
+abbrev pub DerivationsAreReadBack : Type 0
+DerivationsAreReadBack =
+    (context : Context) (term : Term) (derivation : Derivation) → AllByRecursion IsTermEntry context
+    → IsWellFormedContext context → IsWellFormedTerm context term → IsValidTyping context term derivation
+    → IsFinished derivation
+    → read_tree (length context) (kinds_of context) (written_tree (length context) 0 derivation) ≡ derivation
+
+-- So what is written for it is judged to be valid, of the type that it concludes.
+abbrev pub ValidDerivationsAreJudgedValid : Type 0
+ValidDerivationsAreJudgedValid =
+    (context : Context) (term : Term) (derivation : Derivation) (type : Ty) → AllByRecursion IsTermEntry context
+    → IsWellFormedContext context → IsWellFormedTerm context term → IsValidTyping context term derivation
+    → IsFinished derivation → Concludes derivation (OfType (type_of type))
+    → IsJudged context term (listed 0 (written_tree (length context) 0 derivation)) (Ok type)
+
+-- a bind of a certificate: its name and its type
+abbrev pub CertificateBind : Type 0
+CertificateBind = List ℕ × CapturingType
+
+abbrev pub bind_line : CertificateBind → Line
+bind_line bind = Binds bind.0 bind.1
+
+-- the lines of a certificate with these binds, this term and these nodes
+abbrev pub parts_lines : List CertificateBind → Term → List CertificateNode → List Line
+parts_lines binds term nodes = Opens ∷ (map bind_line binds ++ States term ∷ map ConcludesNode nodes)
+
+-- the context of the binds
+abbrev pub bound_context : List CertificateBind → Context
+bound_context binds = with_binds [] (map (λ bind. bind.1) binds)
+
+-- What is read back from the text of a valid derivation binds its context, states its term, and has the nodes of the
+-- derivation.
+abbrev pub PartsAreReadBack : Type 0
+PartsAreReadBack =
+    (names : List (List ℕ)) (context : Context) (term : Term) (derivation : Derivation)
+    (binds : List CertificateBind) (stated : Term) (listing : List CertificateNode)
+    → IsPresentableContext names context → IsPresentableTerm context term
+    → IsValidTyping context term derivation → IsFinished derivation → nodes derivation ≤ 100000
+    → IsCertificate (certificate_text names context term derivation) (parts_lines binds stated listing)
+    → (bound_context binds ≡ context) × (stated ≡ term)
+    × (listing ≡ listed 0 (written_tree (length context) 0 derivation))
+
+-- The answer is the type that the derivation concludes; want of memory says nothing.
+abbrev pub AnswersAs : Derivation → Result Ty JudgeError → Type 0
+AnswersAs derivation (Ok type) = Concludes derivation (OfType (type_of type))
+AnswersAs derivation (Err NoMemory) = Unit {0}
+AnswersAs derivation (Err (BadNode number)) = ⊥
+
+-- And it is judged to be valid, of the type that the derivation concludes.
+abbrev pub WrittenCertificatesAreFoundValid : Type 0
+WrittenCertificatesAreFoundValid =
+    (names : List (List ℕ)) (context : Context) (term : Term) (derivation : Derivation)
+    (binds : List CertificateBind) (stated : Term) (listing : List CertificateNode) (answer : Result Ty JudgeError)
+    → IsPresentableContext names context → IsPresentableTerm context term
+    → IsValidTyping context term derivation → IsFinished derivation → nodes derivation ≤ 100000
+    → IsCertificate (certificate_text names context term derivation) (parts_lines binds stated listing)
+    → IsJudged (bound_context binds) stated listing answer
+    → AnswersAs derivation answer
+
+-- the answer is the type; want of memory says nothing
+abbrev pub AnswersType : CapturingType → Result Ty JudgeError → Type 0
+AnswersType wanted (Ok type) = type_of type ≡ wanted
+AnswersType wanted (Err NoMemory) = Unit {0}
+AnswersType wanted (Err (BadNode number)) = ⊥
+
+-- What is read back from the text of an accepted definition's canonical derivation is judged to have the type that
+-- others see.
+abbrev pub CertificatesOfDefinitionsAreFoundValid : Type 0
+CertificatesOfDefinitionsAreFoundValid =
+    (devices : ℕ) (globals : Context) (definition : Definition) (accepted : Accepted) (names : List (List ℕ))
+    (binds : List CertificateBind) (stated : Term) (listing : List CertificateNode) (answer : Result Ty JudgeError)
+    → Fits globals definition → HasVerdict devices globals definition (IsAccepted accepted)
+    → IsWithinLimits names (definition_context globals definition accepted.signature) accepted
+    → IsCertificate
+    (certificate_text names (definition_context globals definition accepted.signature) accepted.filled
+    (accepted_derived (definition_context globals definition accepted.signature) accepted))
+    (parts_lines binds stated listing)
+    → IsJudged (bound_context binds) stated listing answer
+    → AnswersType accepted.signature answer

@@ -1,0 +1,17 @@
+//! The functions do nothing. Their contracts are theorems.
+ghost use Rattle.cc_meta_judging.specs.JudgedCertificates as law;
+
+/// The nodes that are written for a valid derivation are read as the derivation, and judged to be valid.
+pub fn written_certificates_are_valid()
+    ensures nodes { law.WrittenNodesAreOfTheTree }
+    ensures read_back { law.DerivationsAreReadBack }
+    ensures judged { law.ValidDerivationsAreJudgedValid }
+{}
+
+/// What is read back from the text of a valid derivation has its context, its term and its nodes, and is judged to be
+/// valid, of the type that the derivation concludes; for an accepted definition this is the type that others see.
+pub fn what_is_read_back_is_valid()
+    ensures parts { law.PartsAreReadBack }
+    ensures judged { law.WrittenCertificatesAreFoundValid }
+    ensures definitions { law.CertificatesOfDefinitionsAreFoundValid }
+{}

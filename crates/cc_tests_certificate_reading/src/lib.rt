@@ -1,0 +1,7 @@
+//! Tests of reading certificates.
+#![tactic(auto)]
+
+#[cfg(test)]
+mod depths;
+#[cfg(test)]
+mod lines;
