@@ -22,12 +22,12 @@ use Rattle.cc_meta_checking.specs.FillingLaws.{AreFit}
 use Rattle.cc_core.specs.Holes.{HolesAreOfParameters}
 use Rattle.cc_meta_checking.proofs.CheckedDefinitions.{all_terms}
 use Rattle.cc_meta_checking.proofs.FilledTyping.{fill_kinded}
+use Rattle.cc_meta_checking.proofs.FitDemands.{asked_is_fit}
 use Rattle.cc_meta_checking.proofs.LeastFillings.{globals_still}
 use Rattle.cc_meta_checking.proofs.ReadingKinds.{outermost}
 use Rattle.cc_subty.specs.Comparing.{most_steps}
 use Rattle.cc_solve.specs.Solutions.{AsksOfHolesBelow, AreSolvable, CanBeJudged, filling_of}
 use Rattle.cc_type.specs.FilledHoles.{HasAskedHolesBelow, holes_of, HasCheckingHolesBelow}
-use Rattle.cc_type.specs.FormedDemands.{AllWellFormed}
 use Rattle.cc_type.specs.Keeping.{kept}
 use Rattle.cc_type.specs.declared.stop.Stop.{Stop}
 use Rattle.cc_type.specs.declared.stop.Stop.TheVariants as stops
@@ -35,7 +35,7 @@ use Rattle.cc_type.specs.Logs.{Got, Stopped, Meets}
 use Rattle.cc_type.specs.Rows.{ways}
 use Rattle.cc_type.proofs.CheckedHoles.{checking_adds_no_hole}
 use Rattle.cc_type.proofs.FilledAlike.{lists_fill_alike}
-use Rattle.cc_type.proofs.KeptVerdicts.{sides_below, kept_of_checking, checking_formed, refused_by_kept}
+use Rattle.cc_type.proofs.KeptVerdicts.{sides_below, kept_of_checking, refused_by_kept}
 use Rattle.cc_type.proofs.KeptVerdicts.{decided_by_kept, accepted_by_list, signature_by_list}
 use Rattle.cc_check.specs.declared.error.CheckError.{CheckError}
 use Rattle.cc_check.specs.declared.error.CheckError.TheVariants as errors
@@ -84,8 +84,8 @@ module _ (devices : ℕ) (globals : Context) (definition : Definition) (found : 
       × ((one : Asked) → IsAskedIn (kept keeps.0) one → HasAskedHolesBelow (holes_of definition.right) one)
   fit_kept = kept_of_checking devices globals definition found keeps.0 fits holes keeps.1
 
-  all_formed : AllWellFormed keeps.0
-  all_formed = checking_formed devices globals definition found keeps.0 fits holes keeps.1
+  all_fit : AreFit globals keeps.0
+  all_fit = asked_is_fit devices globals definition found keeps.0 fits holes keeps.1
 
   -- it can be solved
   pub solvable : (many : ℕ) → many ≡ holes_of definition.right → AreSolvable number many log
@@ -117,7 +117,7 @@ module _ (devices : ℕ) (globals : Context) (definition : Definition) (found : 
   refused_by_demand sets code at least fails = (
     Found found keeps.0,
     keeps.1,
-    refused_by_kept devices globals definition found keeps.0 (filling_of sets) code at all_formed (least_kept sets least)
+    refused_by_kept devices globals definition found keeps.0 (filling_of sets) code at all_fit (least_kept sets least)
         (subst (λ l. FailsFirst (filling_of sets) l code at) keeps.2 fails),
   )
 
@@ -147,7 +147,7 @@ module _ (devices : ℕ) (globals : Context) (definition : Definition) (found : 
       Found found keeps.0,
       keeps.1,
       subst (Deserves devices globals definition (Found found keeps.0)) same_verdict
-          (decided_by_kept devices globals definition found keeps.0 (filling_of sets) all_formed (least_kept sets least)
+          (decided_by_kept devices globals definition found keeps.0 (filling_of sets) all_fit (least_kept sets least)
           (subst (AllServed (filling_of sets)) keeps.2 serves)),
     )
 

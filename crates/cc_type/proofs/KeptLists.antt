@@ -12,16 +12,20 @@ use Rattle.cc_core.specs.Questions.{is_hole}
 use Rattle.cc_core.specs.Substitution.{single}
 use Rattle.cc_core.proofs.Moving.{Member-single, Member-single_itself}
 use Rattle.cc_sets.specs.Comparison.{Demand}
-use Rattle.cc_sets.specs.Outcomes.{Asked, IsBelow, Placed}
+use Rattle.cc_sets.specs.Outcomes.{Asked, IsBelow, IsCapless, Placed}
 use Rattle.cc_sets.specs.Fillings.{Filling, IsServed, AllServed, IsAskedIn, Comes, global, capability, local, forced}
-use Rattle.cc_sets.specs.Fillings.{FailsFirst, code_of_failure}
+use Rattle.cc_sets.specs.Fillings.{IsOverGlobals, FailsFirst, code_of_failure}
+use Rattle.cc_core.specs.WellFormed.{IsWellFormedContext}
+use Rattle.cc_meta_checking.specs.FillingLaws.{AreGlobals, IsFit}
 use Rattle.cc_type.specs.FormedDemands.{IsWellFormedAsked, AllWellFormed}
 use Rattle.cc_type.specs.Keeping.{is_below, has_hole, is_demand_settled, is_settled, may_force, is_lost, has_lost}
-use Rattle.cc_type.specs.Keeping.{is_needless, with_one, keeping, kept}
+use Rattle.cc_type.specs.Keeping.{is_repeated, is_needless, with_one, keeping, kept}
 use Rattle.cc_type.specs.KeepingLaws.{KeptIsNotSettled, WhatMayForceIsKept, OneLostIsEnough, OneIsKeptWithoutHoles}
-use Rattle.cc_type.specs.KeepingLaws.{KeptOfBoth, KeptForcesTheSame, KeptIsServedAlike, KeptFailsAlike, KeptIsFit}
+use Rattle.cc_type.specs.KeepingLaws.{KeptOfBoth, KeptForcesTheSame, RepeatedIsServed, KeptIsServedAlike, KeptFailsAlike}
+use Rattle.cc_type.specs.KeepingLaws.{KeptIsFit}
 use Rattle.cc_type.proofs.KeptDemands.{none_passes, settled_is_served, subset_members}
 use Rattle.cc_type.proofs.LostDemands.{lost_is_never_served, lost_without_holes}
+use Rattle.cc_type.proofs.RepeatedDemands.{AllFit, repeated_served, force_not_repeated}
 
 -- what is asked in a list with one more
 asked_first : (p : Placed) (list : List Placed) (a : Asked) → p.asked ≡ a → IsAskedIn (p ∷ list) a
@@ -63,6 +67,13 @@ asked_right : (xs ys : List Placed) (a : Asked) → IsAskedIn ys a → IsAskedIn
 asked_right [] ys a asked = asked
 asked_right (p ∷ xs) ys a asked = asked_later p (xs ++ ys) a (asked_right xs ys a asked)
 
+-- what is not needless is not settled, and forces something behind what is lost
+unneeded : (log : List Placed) (a : Asked) → is_needless log a ≡ false
+    → ((has_lost log && not (may_force a)) ≡ false) × (is_settled a ≡ false)
+unneeded log a is =
+    let k = or_parts ((has_lost log && not (may_force a)) || is_settled a) (is_repeated log a) is in
+    or_parts (has_lost log && not (may_force a)) (is_settled a) k.0
+
 -- what is kept was asked and is not settled
 added : (log : List Placed) (p : Placed) (a : Asked) → IsAskedIn (with_one log p) a
     → IsAskedIn log a ⊎ ((p.asked ≡ a) × (is_settled a ≡ false))
@@ -80,8 +91,7 @@ added log p a asked = by_test (is_needless log p.asked) refl asked
                 | inl same ↦
                     inr (
                       same,
-                      sym (ap is_settled same)
-                          ∙ (or_parts (has_lost log && not (may_force p.asked)) (is_settled p.asked) is).1,
+                      sym (ap is_settled same) ∙ (unneeded log p.asked is).1,
                     )
                 | inr none ↦ absurd (none_asked a none)
               ]
@@ -121,10 +131,11 @@ stays log [] a asked = asked
 stays log (p ∷ list) a asked = stays (with_one log p) list a (stays_one log p a asked)
 
 -- what may force something and is not settled is not needless
-needed : (lost force settled : Bool) → force ≡ true → settled ≡ false → ((lost && not force) || settled) ≡ false
-needed lost force settled h k = (λ i. (lost && not (h i)) || k i) ∙ nothing_and lost
+needed : (lost force settled again : Bool) → force ≡ true → settled ≡ false → again ≡ false
+    → (((lost && not force) || settled) || again) ≡ false
+needed lost force settled again h k l = (λ i. ((lost && not (h i)) || k i) || l i) ∙ nothing_and lost
   where
-    nothing_and : (b : Bool) → ((b && false) || false) ≡ false
+    nothing_and : (b : Bool) → (((b && false) || false) || false) ≡ false
     nothing_and true = refl
     nothing_and false = refl
 
@@ -136,8 +147,9 @@ kept_force log (p ∷ list) a asked not_so force =
       | inl same ↦
           stays (with_one log p) list a
           (by_test same (is_needless log p.asked)
-          (needed (has_lost log) (may_force p.asked) (is_settled p.asked) (ap may_force same ∙ force)
-          (ap is_settled same ∙ not_so)))
+          (needed (has_lost log) (may_force p.asked) (is_settled p.asked) (is_repeated log p.asked)
+          (ap may_force same ∙ force) (ap is_settled same ∙ not_so)
+          (force_not_repeated log p.asked (ap may_force same ∙ force))))
       | inr later ↦ kept_force (with_one log p) list a later not_so force
     ]
   where
@@ -191,9 +203,7 @@ lean_one log p lean = by_test (is_needless log p.asked) refl
         elim (last_cases log before after p placed same) as (λ _. may_force placed.asked ≡ true) [
           | inl (whole, last) ↦
               ap (λ (x : Placed). may_force x.asked) (sym last)
-              ∙ forces (has_lost log) (may_force p.asked)
-              (or_parts (has_lost log && not (may_force p.asked)) (is_settled p.asked) is).0
-              (ap has_lost whole ∙ lost)
+              ∙ forces (has_lost log) (may_force p.asked) (unneeded log p.asked is).0 (ap has_lost whole ∙ lost)
           | inr (rest, inner) ↦ lean before rest placed inner lost
         ]
 
@@ -306,46 +316,70 @@ served_parts : (f : Filling) (xs ys : List Placed) → AllServed f (xs ++ ys) �
 served_parts f [] ys all = (tt, all)
 served_parts f (x ∷ xs) ys all = let k = served_parts f xs ys all.1 in ((all.0, k.0), k.1)
 
-formed_append : (xs ys : List Placed) → AllWellFormed xs → AllWellFormed ys → AllWellFormed (xs ++ ys)
-formed_append [] ys p q = q
-formed_append (x ∷ xs) ys p q = (p.0, formed_append xs ys p.1 q)
+-- all that is asked is fit
+fit_append : (globals : Context) (xs ys : List Placed) → AllFit globals xs → AllFit globals ys → AllFit globals (xs ++ ys)
+fit_append globals [] ys p q = q
+fit_append globals (x ∷ xs) ys p q = (p.0, fit_append globals xs ys p.1 q)
 
-formed_one : (log : List Placed) (p : Placed) → AllWellFormed log → IsWellFormedAsked p.asked
-    → AllWellFormed (with_one log p)
-formed_one log p formed own = by_test (is_needless log p.asked)
+fit_one : (globals : Context) (log : List Placed) (p : Placed) → AllFit globals log → IsFit globals p.asked
+    → AllFit globals (with_one log p)
+fit_one globals log p fits own = by_test (is_needless log p.asked)
   where
-    by_test : (b : Bool) → AllWellFormed (cond b log (log ++ p ∷ []))
-    by_test true = formed
-    by_test false = formed_append log (p ∷ []) formed (own, tt)
+    by_test : (b : Bool) → AllFit globals (cond b log (log ++ p ∷ []))
+    by_test true = fits
+    by_test false = fit_append globals log (p ∷ []) fits (own, tt)
 
-none_lost : (f : Filling) (log : List Placed) → AllWellFormed log → AllServed f log → has_lost log ≡ true → ⊥
-none_lost f [] formed all lost = cc
-none_lost f (p ∷ log) formed all lost =
+fit_each : (globals : Context) (list : List Placed) → ((a : Asked) → IsAskedIn list a → IsFit globals a)
+    → AllFit globals list
+fit_each globals [] each = tt
+fit_each globals (p ∷ list) each = (
+  each p.asked ([], p, list, refl, refl),
+  fit_each globals list (λ a asked. each a (asked_later p list a asked)),
+)
+
+fit_formed : (globals : Context) (a : Asked) → IsFit globals a → IsWellFormedAsked a
+fit_formed globals (IsBelow d) fit = record { context = fit.1; left = fit.2 }
+fit_formed globals (IsCapless c) fit = tt
+
+none_lost : (globals : Context) (f : Filling) (log : List Placed) → AllFit globals log → AllServed f log
+    → has_lost log ≡ true → ⊥
+none_lost globals f [] fits all lost = cc
+none_lost globals f (p ∷ log) fits all lost =
     elim (or_cases (is_lost p.asked) (has_lost log) lost) as (λ _. ⊥) [
-      | inl here ↦ lost_is_never_served f p.asked formed.0 here all.0
-      | inr later ↦ none_lost f log formed.1 all.1 later
+      | inl here ↦ lost_is_never_served f p.asked (fit_formed globals p.asked fits.0) here all.0
+      | inr later ↦ none_lost globals f log fits.1 all.1 later
     ]
 
 -- what is needless is served where all before it is
-needless_served : (f : Filling) (log : List Placed) (p : Placed) → AllWellFormed log → AllServed f log
-    → is_needless log p.asked ≡ true → IsServed f p.asked
-needless_served f log p formed all is =
-    elim (or_cases (has_lost log && not (may_force p.asked)) (is_settled p.asked) is) as (λ _. IsServed f p.asked) [
-      | inl behind ↦ absurd (none_lost f log formed all (and_parts (has_lost log) (not (may_force p.asked)) behind).0)
-      | inr settled ↦ settled_is_served f p.asked settled
-    ]
+module _ (globals : Context) (formed : IsWellFormedContext globals) (alone : AreGlobals globals) (f : Filling)
+    (over : IsOverGlobals (length globals) f) where
+  needless_served : (log : List Placed) (p : Placed) → AllFit globals log → IsFit globals p.asked → AllServed f log
+      → is_needless log p.asked ≡ true → IsServed f p.asked
+  needless_served log p fits fit all is =
+      elim (or_cases ((has_lost log && not (may_force p.asked)) || is_settled p.asked) (is_repeated log p.asked) is)
+      as (λ _. IsServed f p.asked) [
+        | inl other ↦
+            elim (or_cases (has_lost log && not (may_force p.asked)) (is_settled p.asked) other)
+            as (λ _. IsServed f p.asked) [
+              | inl behind ↦
+                  absurd
+                  (none_lost globals f log fits all (and_parts (has_lost log) (not (may_force p.asked)) behind).0)
+              | inr settled ↦ settled_is_served f p.asked settled
+            ]
+        | inr again ↦ repeated_served globals formed alone f over log p.asked fits fit all again
+      ]
 
-served_all : (f : Filling) (log list : List Placed) → AllWellFormed log → AllWellFormed list
-    → AllServed f (keeping log list) → AllServed f log × AllServed f list
-served_all f log [] formed each all = (all, tt)
-served_all f log (p ∷ list) formed each all =
-    let k = served_all f (with_one log p) list (formed_one log p formed each.0) each.1 all in
-    by_test (is_needless log p.asked) refl k.0 k.1
-  where
-    by_test : (b : Bool) → is_needless log p.asked ≡ b → AllServed f (cond b log (log ++ p ∷ [])) → AllServed f list
-        → AllServed f log × (IsServed f p.asked × AllServed f list)
-    by_test true is before later = (before, (needless_served f log p formed before is, later))
-    by_test false is before later = let k = served_parts f log (p ∷ []) before in (k.0, (k.1.0, later))
+  served_all : (log list : List Placed) → AllFit globals log → AllFit globals list
+      → AllServed f (keeping log list) → AllServed f log × AllServed f list
+  served_all log [] fits each all = (all, tt)
+  served_all log (p ∷ list) fits each all =
+      let k = served_all (with_one log p) list (fit_one globals log p fits each.0) each.1 all in
+      by_test (is_needless log p.asked) refl k.0 k.1
+    where
+      by_test : (b : Bool) → is_needless log p.asked ≡ b → AllServed f (cond b log (log ++ p ∷ [])) → AllServed f list
+          → AllServed f log × (IsServed f p.asked × AllServed f list)
+      by_test true is before later = (before, (needless_served log p fits each.0 before is, later))
+      by_test false is before later = let k = served_parts f log (p ∷ []) before in (k.0, (k.1.0, later))
 
 served_kept : (f : Filling) (log list : List Placed) → AllServed f log → AllServed f list
     → AllServed f (keeping log list)
@@ -357,8 +391,15 @@ served_kept f log (p ∷ list) before all =
     by_test true = before
     by_test false = served_append f log (p ∷ []) before (all.0, tt)
 
+pub repeated_is_served : RepeatedIsServed
+repeated_is_served globals f list a fit own over all is =
+    repeated_served globals fit.formed fit.globals_alone f over list a (fit_each globals list fit.each) own all is
+
 pub kept_is_served_alike : KeptIsServedAlike
-kept_is_served_alike f list formed = (λ all. (served_all f [] list tt formed all).1, λ all. served_kept f [] list tt all)
+kept_is_served_alike globals f list fit over = (
+  λ all. (served_all globals fit.formed fit.globals_alone f over [] list tt (fit_each globals list fit.each) all).1,
+  λ all. served_kept f [] list tt all,
+)
 
 -- the first of a list fails first, or it is served and another one fails first
 abbrev FailsHere : Filling → Placed → Code → Place → Type 0
@@ -424,22 +465,23 @@ fails_parts f (x ∷ xs) ys code at fails =
     ]
 
 -- the first that fails, in a list and then in what is asked more
-module _ (f : Filling) (code : Code) (at : Place) where
+module _ (globals : Context) (formed : IsWellFormedContext globals) (alone : AreGlobals globals) (f : Filling)
+    (over : IsOverGlobals (length globals) f) (code : Code) (at : Place) where
   abbrev FailsIn : List Placed → List Placed → Type 0
   FailsIn log list = FailsFirst f log code at ⊎ (AllServed f log × FailsFirst f list code at)
 
-  fails_all : (log list : List Placed) → AllWellFormed log → AllWellFormed list → FailsFirst f (keeping log list) code at
+  fails_all : (log list : List Placed) → AllFit globals log → AllFit globals list → FailsFirst f (keeping log list) code at
       → FailsIn log list
-  fails_all log [] formed each fails = inl fails
-  fails_all log (p ∷ list) formed each fails =
+  fails_all log [] fits each fails = inl fails
+  fails_all log (p ∷ list) fits each fails =
       by_test (is_needless log p.asked) refl
-      (fails_all (with_one log p) list (formed_one log p formed each.0) each.1 fails)
+      (fails_all (with_one log p) list (fit_one globals log p fits each.0) each.1 fails)
     where
       by_test : (b : Bool) → is_needless log p.asked ≡ b → FailsIn (cond b log (log ++ p ∷ [])) list
           → FailsIn log (p ∷ list)
       by_test true is (inl before) = inl before
       by_test true is (inr (all, later)) =
-          inr (all, fails_later f p list code at (needless_served f log p formed all is) later)
+          inr (all, fails_later f p list code at (needless_served globals formed alone f over log p fits each.0 all is) later)
       by_test false is (inl before) =
           elim (fails_parts f log (p ∷ []) code at before) as (λ _. FailsIn log (p ∷ list)) [
             | inl older ↦ inl older
@@ -448,12 +490,12 @@ module _ (f : Filling) (code : Code) (at : Place) where
       by_test false is (inr (all, later)) =
           let k = served_parts f log (p ∷ []) all in inr (k.0, fails_later f p list code at k.1.0 later)
 
-  fails_kept : (log list : List Placed) → AllWellFormed log → AllWellFormed list → FailsIn log list
+  fails_kept : (log list : List Placed) → AllFit globals log → AllFit globals list → FailsIn log list
       → FailsFirst f (keeping log list) code at
-  fails_kept log [] formed each (inl before) = before
-  fails_kept log [] formed each (inr (all, none)) = absurd (no_failure f code at none)
-  fails_kept log (p ∷ list) formed each fails =
-      fails_kept (with_one log p) list (formed_one log p formed each.0) each.1
+  fails_kept log [] fits each (inl before) = before
+  fails_kept log [] fits each (inr (all, none)) = absurd (no_failure f code at none)
+  fails_kept log (p ∷ list) fits each fails =
+      fails_kept (with_one log p) list (fit_one globals log p fits each.0) each.1
       (by_test (is_needless log p.asked) refl fails)
     where
       by_test : (b : Bool) → is_needless log p.asked ≡ b → FailsIn log (p ∷ list)
@@ -461,7 +503,7 @@ module _ (f : Filling) (code : Code) (at : Place) where
       by_test true is (inl before) = inl before
       by_test true is (inr (all, fails)) =
           elim (fails_cases f p list code at fails) as (λ _. FailsIn log list) [
-            | inl here ↦ absurd (here.0 (needless_served f log p formed all is))
+            | inl here ↦ absurd (here.0 (needless_served globals formed alone f over log p fits each.0 all is))
             | inr (served, later) ↦ inr (all, later)
           ]
       by_test false is (inl before) = inl (fails_left f log (p ∷ []) code at before)
@@ -472,13 +514,16 @@ module _ (f : Filling) (code : Code) (at : Place) where
           ]
 
 pub kept_fails_alike : KeptFailsAlike
-kept_fails_alike f list code at formed = (
+kept_fails_alike globals f list code at fit over = (
   λ fails.
-      elim (fails_all f code at [] list tt formed fails) as (λ _. FailsFirst f list code at) [
+      elim (fails_all globals fit.formed fit.globals_alone f over code at [] list tt (fit_each globals list fit.each) fails)
+      as (λ _. FailsFirst f list code at) [
         | inl none ↦ absurd (no_failure f code at none)
         | inr (all, later) ↦ later
       ],
-  λ fails. fails_kept f code at [] list tt formed (inr (tt, fails)),
+  λ fails.
+      fails_kept globals fit.formed fit.globals_alone f over code at [] list tt (fit_each globals list fit.each)
+      (inr (tt, fails)),
 )
 
 pub kept_is_fit : KeptIsFit

@@ -16,6 +16,7 @@ use Rattle.cc_meta_checking.specs.FillingLaws.{IsFit, AreFit}
 use Rattle.cc_meta_checking.specs.CheckingLaws.{Fits}
 use Rattle.cc_core.specs.Holes.{HolesAreOfParameters}
 use Rattle.cc_meta_checking.proofs.FitDemands.{asked_is_fit}
+use Rattle.cc_meta_checking.proofs.LeastFillings.{least_over_globals}
 use Rattle.cc_solve.specs.Solutions.{filling_of}
 use Rattle.cc_type.specs.FilledHoles.{HasAskedHolesBelow, holes_of, FillAlike, HasCheckingHolesBelow}
 use Rattle.cc_type.specs.FormedDemands.{IsWellFormedAsked, AllWellFormed}
@@ -53,52 +54,28 @@ kept_of_checking devices globals definition found asked fits holes is = (
       (kept_is_not_settled asked one among).0,
 )
 
--- all that is asked of a definition is well formed
-fit_formed : (globals : Context) (one : Asked) → IsFit globals one → IsWellFormedAsked one
-fit_formed globals (IsBelow d) fit = record { context = fit.1; left = fit.2 }
-fit_formed globals (IsCapless c) fit = tt
-
-formed_each : (list : List Placed) → ((one : Asked) → IsAskedIn list one → IsWellFormedAsked one) → AllWellFormed list
-formed_each [] each = tt
-formed_each (p ∷ list) each = (
-  each p.asked ([], p, list, refl, refl),
-  formed_each list (λ one (before, q, after, is, same). each one (p ∷ before, q, after, ap (λ l. p ∷ l) is, same)),
-)
-
-pub checking_formed : (devices : ℕ) (globals : Context) (definition : Definition) (found : Checking)
-    (asked : List Placed)
-    → Fits globals definition → HolesAreOfParameters definition.right
-    → IsChecked devices globals definition (Found found asked) → AllWellFormed asked
-checking_formed devices globals definition found asked fits holes is =
-    let fit = asked_is_fit devices globals definition found asked fits holes is in
-    formed_each asked (λ one among. fit_formed globals one (fit.each one among))
-
 -- where the first of what is kept fails, that is the verdict
 pub refused_by_kept : (devices : ℕ) (globals : Context) (definition : Definition) (found : Checking)
     (asked : List Placed)
     (filling : Filling) (code : Code) (at : Place)
-    → AllWellFormed asked → IsLeast (length globals) (kept asked) filling → FailsFirst filling (kept asked) code at
+    → AreFit globals asked → IsLeast (length globals) (kept asked) filling → FailsFirst filling (kept asked) code at
     → Deserves devices globals definition (Found found asked) (IsRefused code at)
-refused_by_kept devices globals definition found asked filling code at formed least fails = (
-  filling,
-  (kept_forces_the_same (length globals) asked filling).0 least,
-  inl
-      (code, at, (kept_fails_alike filling asked code at formed).0 fails, refl),
-)
+refused_by_kept devices globals definition found asked filling code at fit least fails =
+    let forced = (kept_forces_the_same (length globals) asked filling).0 least in
+    let over = least_over_globals (length globals) asked filling forced in
+    (filling, forced, inl (code, at, (kept_fails_alike globals filling asked code at fit over).0 fails, refl))
 
 -- where all that is kept is served, the signature decides
 pub decided_by_kept : (devices : ℕ) (globals : Context) (definition : Definition) (found : Checking)
     (asked : List Placed)
     (filling : Filling)
-    → AllWellFormed asked → IsLeast (length globals) (kept asked) filling → AllServed filling (kept asked)
+    → AreFit globals asked → IsLeast (length globals) (kept asked) filling → AllServed filling (kept asked)
     → Deserves devices globals definition (Found found asked)
     (signature_verdict filling definition found (signature_under filling devices globals found))
-decided_by_kept devices globals definition found asked filling formed least serves = (
-  filling,
-  (kept_forces_the_same (length globals) asked filling).0 least,
-  inr
-      ((kept_is_served_alike filling asked formed).0 serves, refl),
-)
+decided_by_kept devices globals definition found asked filling fit least serves =
+    let forced = (kept_forces_the_same (length globals) asked filling).0 least in
+    let over = least_over_globals (length globals) asked filling forced in
+    (filling, forced, inr ((kept_is_served_alike globals filling asked fit over).0 serves, refl))
 
 -- fillings that fill alike have one signature and one verdict
 module _ (first second : Filling) (number : ℕ) (alike : FillAlike first second number) (found : Checking)

@@ -1,7 +1,7 @@
 -- A walk that keeps what a comparison demands as it is found leaves the log with all that is kept of it.
-use Rattle.std.proofs.Common.{◌≡◌, ℕ, zero, suc, ◌-◌, Bool, true, false, ◌&&◌, not, cond, map, List, [], ◌∷◌, ◌++◌}
+use Rattle.std.proofs.Common.{◌≡◌, ℕ, zero, suc, ◌-◌, Bool, true, false, ◌&&◌, ◌||◌, not, cond, map, List, [], ◌∷◌, ◌++◌}
 use Rattle.std.proofs.Common.{Option, Some, None, Result, Ok, Err, refl, sym, ap, ◌∙◌, subst, arith}
-use Rattle.std.proofs.lemmas.Bool.{or_right}
+use Rattle.std.proofs.lemmas.Bool.{or_left, or_right}
 use Rattle.cc_base.specs.declared.code.Code.TheVariants.{E14}
 use Rattle.cc_base.specs.declared.place.Place.{Place}
 use Rattle.cc_capture.specs.Sets.{Set, Member, contains, is_subset, same_set}
@@ -15,7 +15,7 @@ use Rattle.cc_sets.specs.Inference.{demand_at, compared_at}
 use Rattle.cc_subty.specs.Walking.{Walk, Unended, Apart, Alongside, settled, form_walked, walked}
 use Rattle.cc_subty.proofs.WalkAgreement.{AreOne, Puts, Agrees, some_inside}
 use Rattle.cc_type.specs.Keeping.{is_element_below, is_below, has_hole, is_demand_settled, is_settled, may_force, has_lost}
-use Rattle.cc_type.specs.Keeping.{with_one, keeping}
+use Rattle.cc_type.specs.Keeping.{is_repeated, with_one, keeping}
 use Rattle.cc_type.specs.KeptWalks.{keeping_at}
 use Rattle.cc_type.specs.declared.stop.Stop.{Stop}
 use Rattle.cc_type.specs.declared.stop.Stop.TheVariants as stops
@@ -37,7 +37,9 @@ one_settled d same =
 -- what is settled is not kept
 pub settled_goes : (log : List Placed) (p : Placed) → is_settled p.asked ≡ true → with_one log p ≡ log
 settled_goes log p h =
-    ap (λ b. cond b log (log ++ p ∷ [])) (or_right (has_lost log && not (may_force p.asked)) (is_settled p.asked) h)
+    ap (λ b. cond b log (log ++ p ∷ []))
+    (or_left ((has_lost log && not (may_force p.asked)) || is_settled p.asked) (is_repeated log p.asked)
+    (or_right (has_lost log && not (may_force p.asked)) (is_settled p.asked) h))
 
 pub ones_go : (at : Place) (log : List Placed) (ds : List Demand) → AreOne ds → keeping log (map (demand_at at) ds) ≡ log
 ones_go at log [] ones = refl

@@ -1,12 +1,13 @@
 -- Of what is asked, only what may force an element into a hole, or may be the first to fail under some filling, has to
 -- be kept.
-use Rattle.std.specs.Prelude.{ℕ, nat_eq, Bool, false, not, ◌&&◌, ◌||◌, List, [], ◌∷◌, ◌++◌, length, if◌then◌else◌}
+use Rattle.std.specs.Prelude.{ℕ, ◌-◌, nat_eq, Bool, true, false, not, ◌&&◌, ◌||◌, List, [], ◌∷◌, ◌++◌, length, drop}
+use Rattle.std.specs.Prelude.{Option, Some, None, if◌then◌else◌}
 use Rattle.std.specs.List.{list_any, list_all}
 use Rattle.cc_capture.specs.declared.var.Var.TheVariants.{Bound, Free}
 use Rattle.cc_capture.specs.declared.var.Elem.{Elem}
 use Rattle.cc_capture.specs.declared.var.Elem.TheVariants.{Var as Variable, Cap, Hole}
-use Rattle.cc_capture.specs.Sets.{Set, contains, empty, is_subset}
-use Rattle.cc_core.specs.Contexts.{TermEntry, TypeEntry, Context}
+use Rattle.cc_capture.specs.Sets.{Set, contains, empty, is_subset, same_set}
+use Rattle.cc_core.specs.Contexts.{Bind, TermEntry, TypeEntry, Context, lookup}
 use Rattle.cc_core.specs.Questions.{is_hole}
 use Rattle.cc_core.specs.Substitution.{filled_set}
 use Rattle.cc_sets.specs.Comparison.{Demand}
@@ -75,9 +76,64 @@ is_lost asked = not (may_force asked) && not (is_served nothing asked)
 abbrev pub has_lost : List Placed → Bool
 has_lost list = list_any (λ placed. is_lost placed.asked) list
 
--- Whether it need not be kept behind the list. What forces nothing cannot be the first to fail behind what is lost.
+-- whether it is the universal capability or a hole, which no context says more of
+abbrev pub is_end : Elem → Bool
+is_end (Variable variable) = false
+is_end Cap = true
+is_end (Hole number) = true
+
+-- Whether nothing has to be looked up to tell that the declared set is below the right one under some filling: besides
+-- members of that one it has ends alone.
+abbrev pub has_ends_beside : Set → Set → Bool
+has_ends_beside right declared = list_all (λ e. contains e right || is_end e) declared.list
+
+-- whether the entry is of a variable that is declared with this set, which has ends beside the right set
+abbrev pub is_declared_with : Set → Set → Option Bind → Bool
+is_declared_with right declared (Some (TermEntry shape set)) = same_set set declared && has_ends_beside right declared
+is_declared_with right declared (Some (TypeEntry bound)) = false
+is_declared_with right declared None = false
+
+-- whether both entries are so, with one set
+abbrev pub are_declared_alike : Set → Option Bind → Option Bind → Bool
+are_declared_alike right (Some (TermEntry shape set)) other = is_declared_with right set other
+are_declared_alike right (Some (TypeEntry bound)) other = false
+are_declared_alike right None other = false
+
+-- whether two contexts say the same of whether the element is below the right set
+abbrev pub is_alike : Context → Context → Set → Elem → Bool
+is_alike context other right (Variable (Free position)) =
+    contains (Variable (Free position)) right
+    || are_declared_alike right (lookup context position) (lookup other position)
+is_alike context other right (Variable (Bound index)) = contains (Variable (Bound index)) right
+is_alike context other right Cap = true
+is_alike context other right (Hole number) = true
+
+-- Whether the second demand is the first one again: it forces nothing, its sets are the same, and the contexts say the
+-- same of the left set.
+abbrev pub repeats : Demand → Demand → Bool
+repeats demand again =
+    (same_set demand.left again.left && same_set demand.right again.right)
+    && (not (has_hole again.right) && list_all (is_alike demand.context again.context again.right) again.left.list)
+
+-- whether a demand is asked again
+abbrev pub is_again : Demand → Asked → Bool
+is_again again (IsBelow demand) = repeats demand again
+is_again again (IsCapless set) = false
+
+-- the last of the list, eight at most
+abbrev pub recent : List Placed → List Placed
+recent list = drop (length list - 8) list
+
+-- whether it is among the last of the list already
+abbrev pub is_repeated : List Placed → Asked → Bool
+is_repeated list (IsBelow demand) = list_any (λ placed. is_again demand placed.asked) (recent list)
+is_repeated list (IsCapless set) = false
+
+-- Whether it need not be kept behind the list. What forces nothing cannot be the first to fail behind what is lost, nor
+-- behind what it repeats.
 abbrev pub is_needless : List Placed → Asked → Bool
-is_needless list asked = (has_lost list && not (may_force asked)) || is_settled asked
+is_needless list asked =
+    ((has_lost list && not (may_force asked)) || is_settled asked) || is_repeated list asked
 
 -- the list with one more thing that is asked, unless that is needless
 abbrev pub with_one : List Placed → Placed → List Placed

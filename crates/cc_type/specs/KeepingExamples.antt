@@ -89,6 +89,28 @@ WhatMayFailIsKept =
     → kept (below_nothing at local ∷ below_nothing at console ∷ below_nothing at local ∷ [])
     ≡ below_nothing at local ∷ below_nothing at console ∷ []
 
+-- the same context, but that the local variable's set is the second hole
+abbrev pub with_other : Context
+with_other =
+    TermEntry (BaseShape bases.Int) (single (Hole 1)) ∷ TermEntry (BaseShape bases.Int) empty
+    ∷ TermEntry (BaseShape bases.Console) (single Cap) ∷ []
+
+-- that the local variable is below nothing, in a context
+abbrev pub local_below_nothing : Place → Context → Placed
+local_below_nothing at context = demand_at at (demanded context (single local) empty)
+
+-- Behind one such demand the same is not kept, under a binder more and at another place; with another declared set it
+-- is.
+abbrev pub RepeatedIsKeptOnce : Type 0
+RepeatedIsKeptOnce =
+    (at other : Place)
+    → (kept
+    (local_below_nothing at with_local
+    ∷ local_below_nothing other (TermEntry (BaseShape bases.Int) empty ∷ with_local) ∷ [])
+    ≡ local_below_nothing at with_local ∷ [])
+    × (kept (local_below_nothing at with_local ∷ local_below_nothing other with_other ∷ [])
+    ≡ local_below_nothing at with_local ∷ local_below_nothing other with_other ∷ [])
+
 -- the greatest position from the first definition on, and none where only devices are free
 abbrev pub GreatestIsFound : Type 0
 GreatestIsFound =

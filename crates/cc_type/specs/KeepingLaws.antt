@@ -7,11 +7,11 @@ use Rattle.cc_core.specs.Contexts.{Context}
 use Rattle.cc_core.specs.WellFormed.{IsWellFormedContext, IsWellFormedSet}
 use Rattle.cc_core.specs.Subcapturing.{SubcapturesSet}
 use Rattle.cc_sets.specs.Outcomes.{Asked, Placed}
-use Rattle.cc_sets.specs.Fillings.{Filling, IsServed, AllServed, IsAskedIn, IsLeast, FailsFirst}
-use Rattle.cc_meta_checking.specs.FillingLaws.{AreFit}
+use Rattle.cc_sets.specs.Fillings.{Filling, IsServed, AllServed, IsAskedIn, IsLeast, IsOverGlobals, FailsFirst}
+use Rattle.cc_meta_checking.specs.FillingLaws.{IsFit, AreFit}
 use Rattle.cc_type.specs.FilledHoles.{HasAskedHolesBelow}
 use Rattle.cc_type.specs.FormedDemands.{IsWellFormedAsked, AllWellFormed}
-use Rattle.cc_type.specs.Keeping.{is_below, is_settled, may_force, is_lost, has_lost, keeping, kept}
+use Rattle.cc_type.specs.Keeping.{is_below, is_settled, may_force, is_lost, has_lost, is_repeated, keeping, kept}
 
 -- the test of a set decides subcapturing
 abbrev pub TestOfSetsDecides : Type 0
@@ -62,16 +62,25 @@ abbrev pub KeptForcesTheSame : Type 0
 KeptForcesTheSame =
     (root : ℕ) (list : List Placed) (filling : Filling) → IsLeast root (kept list) filling ↔ IsLeast root list filling
 
--- the same fillings serve it
+-- A filling over the globals that serves the list serves what repeats something in it.
+abbrev pub RepeatedIsServed : Type 0
+RepeatedIsServed =
+    (globals : Context) (filling : Filling) (list : List Placed) (asked : Asked)
+    → AreFit globals list → IsFit globals asked → IsOverGlobals (length globals) filling → AllServed filling list
+    → IsTrue (is_repeated list asked) → IsServed filling asked
+
+-- the same fillings over the globals serve it
 abbrev pub KeptIsServedAlike : Type 0
 KeptIsServedAlike =
-    (filling : Filling) (list : List Placed) → AllWellFormed list
+    (globals : Context) (filling : Filling) (list : List Placed)
+    → AreFit globals list → IsOverGlobals (length globals) filling
     → AllServed filling (kept list) ↔ AllServed filling list
 
 -- and it fails first with the same code at the same place
 abbrev pub KeptFailsAlike : Type 0
 KeptFailsAlike =
-    (filling : Filling) (list : List Placed) (code : Code) (at : Place) → AllWellFormed list
+    (globals : Context) (filling : Filling) (list : List Placed) (code : Code) (at : Place)
+    → AreFit globals list → IsOverGlobals (length globals) filling
     → FailsFirst filling (kept list) code at ↔ FailsFirst filling list code at
 
 -- what is kept of what is fit is fit

@@ -30,6 +30,7 @@ pub fn kept_alone()
 /// What is kept has the same least filling, is served by the same fillings, fails first alike, and is fit where all is.
 pub fn kept()
     ensures forces { keeping.KeptForcesTheSame }
+    ensures repeated { keeping.RepeatedIsServed }
     ensures served { keeping.KeptIsServedAlike }
     ensures fails { keeping.KeptFailsAlike }
     ensures fit { keeping.KeptIsFit }
@@ -77,5 +78,6 @@ pub fn examples()
     ensures lost { example.ConsolesAreLost }
     ensures kept { example.OneLostAndWhatForcesAreKept }
     ensures may_fail { example.WhatMayFailIsKept }
+    ensures repeated { example.RepeatedIsKeptOnce }
     ensures greatest { example.GreatestIsFound }
 {}

@@ -11,6 +11,7 @@ mod known;
 pub mod laws;
 pub mod log;
 pub mod operands;
+mod repeated;
 mod rows;
 mod sizes;
 mod steps;

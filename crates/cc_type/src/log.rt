@@ -14,6 +14,7 @@ ghost use Rattle.cc_type.specs.FormedDemands.{IsWellFormedAsked};
 ghost use Rattle.cc_type.specs.KeptWalks.{IsKnown};
 
 use crate::known::Known;
+use crate::repeated::is_repeated;
 use cc_base::place::Place;
 use cc_base::steps::Steps;
 use cc_capture::{CapSet, Elem};
@@ -98,7 +99,7 @@ fn is_below(ctx: &Ctx, marks: &mut Marks, left: &CapSet, right: &CapSet) -> Resu
 }
 
 // Whether a hole is a member of the set.
-fn has_hole(set: &CapSet) -> bool
+pub(crate) fn has_hole(set: &CapSet) -> bool
     ensures { result ≡ keeping.has_hole set.now }
 {
     set_has_hole(set)
@@ -218,17 +219,34 @@ fn is_either_lost(
     is_lost(alloc, marks, demand)
 }
 
-// Whether what is asked need not be kept behind a list in which something is lost or not.
-fn is_needless(lost: bool, marks: &mut Marks, demand: &Demand) -> Result<bool, AllocError>
-    requires formed { IsWellFormedAsked (demand_of demand.now).asked }
-    requires clear { IsClear marks.old }
-    ensures needless { IfOk result (λ b. b ≡ ((lost && not (keeping.may_force (demand_of demand.now).asked)) || keeping.is_settled (demand_of demand.now).asked)) }
-    ensures clear { IsClear marks.new }
+// Whether what is asked is among the last that are kept already.
+fn is_kept(kept: &[Demand], demand: &Demand) -> bool
+    ensures { result ≡ keeping.is_repeated (asked_of kept.now) (demand_of demand.now).asked }
 {
-    if lost && !may_force(demand) {
+    match demand {
+        Demand::Sub {
+            ctx,
+            left,
+            right,
+            at: _,
+        } => is_repeated(kept, ctx, left, right),
+        Demand::NoCap { set: _, at: _ } => false,
+    }
+}
+
+// Whether what is asked need not be kept behind what is kept.
+fn is_needless(log: &mut Log, demand: &Demand) -> Result<bool, AllocError>
+    requires { IsWellFormedAsked (demand_of demand.now).asked }
+    ensures needless { IfOk result (λ b. b ≡ keeping.is_needless (asked_of log.old.demands) (demand_of demand.now).asked) }
+    ensures demands { log.new.demands ≡ log.old.demands }
+{
+    if log.lost && !may_force(demand) {
         return Ok(true);
     }
-    is_settled(marks, demand)
+    if is_settled(&mut log.marks, demand)? {
+        return Ok(true);
+    }
+    Ok(is_kept(log.demands.as_slice(), demand))
 }
 
 // Puts a demand behind the others.
@@ -247,7 +265,7 @@ pub(crate) fn keep(alloc: Global, log: &mut Log, demand: &Demand) -> Result<(), 
     requires { IsWellFormedAsked (demand_of demand.now).asked }
     ensures { OnOk result (asked_of log.new.demands ≡ keeping.with_one (asked_of log.old.demands) (demand_of demand.now)) }
 {
-    if is_needless(log.lost, &mut log.marks, demand)? {
+    if is_needless(log, demand)? {
         return Ok(());
     }
     let lost = is_either_lost(alloc, log.lost, &mut log.marks, demand)?;
@@ -287,6 +305,9 @@ pub(crate) fn keep_below(
     ensures base { log.new.known.base ≡ log.old.known.base }
 {
     if log.lost && !has_hole(right) {
+        return Ok(false);
+    }
+    if is_repeated(log.demands.as_slice(), ctx, left, right) {
         return Ok(false);
     }
     if is_demand_settled(ctx, &mut log.marks, left, right)? {
