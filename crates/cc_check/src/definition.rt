@@ -30,7 +30,8 @@ use cc_core::substitution::{fill_note, fill_term, fill_type};
 use cc_core::{Checked, CoreDef, Ctx, Ty};
 use cc_solve::{Filling, first_failed, solve};
 use cc_subty::Demands;
-use cc_type::{Log, Stop};
+use cc_type::instances::exchange;
+use cc_type::{Instances, Log, Stop};
 use std::alloc::{AllocError, Global};
 
 /// Checks the definition in the context of the devices, so many, of what is imported and of the definitions before it.
@@ -52,17 +53,44 @@ pub fn check_def(
     ensures no_hole { IfOk result (λ c. HasNoHoleInTerm (term_of c.filled.value) × HasNoHoleInType (type_of c.ty)) }
     ensures no_type { HasNoTypeIfRefused devices (context_of ctx.now) (definition_of def.now) result }
 {
-    judge(alloc, ctx, devices, def)
+    check_next(alloc, ctx, devices, def, &mut Instances::new(alloc))
+}
+
+/// The same for the next definition of a module. What type functions gave for the definitions before it is remembered,
+/// and so is what they give for this one.
+pub fn check_next(
+    alloc: Global,
+    ctx: &Ctx,
+    devices: u32,
+    def: &CoreDef,
+    instances: &mut Instances,
+) -> Result<Checked, CheckError>
+    requires fits { Fits (context_of ctx.now) (definition_of def.now) }
+    requires holes { HolesAreOfParameters (term_of def.now.right.value) }
+    ensures verdict { Judges devices (context_of ctx.now) (definition_of def.now) result }
+    ensures typed { IfOk result (λ c. HasType (definition_context (context_of ctx.now) (definition_of def.now) (type_of c.sig)) (term_of c.filled.value) (type_of c.ty)
+        × HasType (definition_context (context_of ctx.now) (definition_of def.now) (type_of c.sig)) (term_of c.filled.value) (type_of c.sig)) }
+    ensures over_devices { IfOk result (λ c. IsWellFormedType (oldest devices (context_of ctx.now)) (type_of c.sig) × HasNoHoleInType (type_of c.sig)) }
+    ensures no_hole { IfOk result (λ c. HasNoHoleInTerm (term_of c.filled.value) × HasNoHoleInType (type_of c.ty)) }
+    ensures no_type { HasNoTypeIfRefused devices (context_of ctx.now) (definition_of def.now) result }
+{
+    judge(alloc, ctx, devices, def, instances)
 }
 
 // The verdict.
-fn judge(alloc: Global, ctx: &Ctx, devices: u32, def: &CoreDef) -> Result<Checked, CheckError>
+fn judge(
+    alloc: Global,
+    ctx: &Ctx,
+    devices: u32,
+    def: &CoreDef,
+    instances: &mut Instances,
+) -> Result<Checked, CheckError>
     requires fits { Fits (context_of ctx.now) (definition_of def.now) }
     requires holes { HolesAreOfParameters (term_of def.now.right.value) }
     ensures { Judges devices (context_of ctx.now) (definition_of def.now) result }
 {
     let mut log = Log::new(alloc);
-    match find(alloc, ctx, devices, def, &mut log) {
+    match find(alloc, ctx, devices, def, instances, &mut log) {
         Ok(found) => judge_found(alloc, ctx, devices, def, found, log.demands()),
         Err(stop) => Err(error_of(stop)),
     }
@@ -70,6 +98,24 @@ fn judge(alloc: Global, ctx: &Ctx, devices: u32, def: &CoreDef) -> Result<Checke
 
 // What is found for the definition, and what is kept of all that is asked.
 fn find(
+    alloc: Global,
+    ctx: &Ctx,
+    devices: u32,
+    def: &CoreDef,
+    instances: &mut Instances,
+    log: &mut Log,
+) -> Result<Checking, Stop>
+    requires { Fits (context_of ctx.now) (definition_of def.now) }
+    ensures { Meets checking_of result (asked_of log.new.demands) (checked_log devices (context_of ctx.now) (definition_of def.now) (asked_of log.old.demands)) }
+{
+    exchange(log, instances);
+    let found = find_by_form(alloc, ctx, devices, def, log);
+    exchange(log, instances);
+    found
+}
+
+// The same, by whether the name of the definition is visible in its right side.
+fn find_by_form(
     alloc: Global,
     ctx: &Ctx,
     devices: u32,

@@ -9,5 +9,5 @@ mod plain;
 mod recursive;
 mod signature;
 
-pub use definition::check_def;
+pub use definition::{check_def, check_next};
 pub use error::CheckError;

@@ -24,11 +24,12 @@ use cc_base::code::Diag;
 use cc_base::device::DeviceDecl;
 use cc_base::literal::Import;
 use cc_base::steps::Steps;
-use cc_check::{CheckError, check_def};
+use cc_check::{CheckError, check_next};
 use cc_core::{CoreDef, Ctx};
 use cc_mnf::ElaborateError;
 use cc_mnf::elaborate::elaborate;
 use cc_parse::tree::Module;
+use cc_type::Instances;
 use std::alloc::{AllocError, Global};
 use std::sync::ledger::Ledger;
 
@@ -49,12 +50,18 @@ fn first_missing(imports: &[Import], findings: &[Finding]) -> Option<Diag>
 }
 
 // The definition as it is accepted in the context of the devices, so many, and of what stands before it.
-fn check(alloc: Global, ctx: &Ctx, devices: u32, def: &CoreDef) -> Result<CheckedDef, CheckError>
+fn check(
+    alloc: Global,
+    ctx: &Ctx,
+    devices: u32,
+    def: &CoreDef,
+    instances: &mut Instances,
+) -> Result<CheckedDef, CheckError>
     requires fits { Fits (context_of ctx.now) (to_be_checked (definition_of def.now)) }
     requires holes { HolesAreOfParameters (definition_of def.now).right }
     ensures { JudgesOne devices (context_of ctx.now) (definition_of def.now) result }
 {
-    let checked = check_def(alloc, ctx, devices, def)?;
+    let checked = check_next(alloc, ctx, devices, def, instances)?;
     let name = def.name.clone()?;
     Ok(CheckedDef {
         name,
@@ -89,8 +96,9 @@ fn check_all(
 {
     let mut globals = ctx;
     let mut checked = Vec::new(alloc);
+    let mut instances = Instances::new(alloc);
     for def in defs {
-        let next = check(alloc, &globals, devices, def)?;
+        let next = check(alloc, &globals, devices, def, &mut instances)?;
         globals = after(alloc, &globals, &next)?;
         add(&mut checked, next)?;
     }

@@ -17,6 +17,7 @@ pub mod KnownSets
 pub mod LoggedDemands
 pub mod LostDemands
 pub mod NewestVariables
+pub mod RememberedInstances
 pub mod RepeatedDemands
 pub mod SettledTests
 pub mod SignatureSteps

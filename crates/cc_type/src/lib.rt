@@ -7,6 +7,7 @@ mod ends;
 pub mod found;
 mod heads;
 pub mod infer;
+pub mod instances;
 mod known;
 pub mod laws;
 pub mod log;
@@ -20,5 +21,6 @@ mod walking;
 
 pub use found::Found;
 pub use infer::infer_term;
+pub use instances::Instances;
 pub use log::Log;
 pub use stop::Stop;

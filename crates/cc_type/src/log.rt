@@ -13,6 +13,7 @@ ghost use Rattle.cc_type.specs.Keeping.{has_lost};
 ghost use Rattle.cc_type.specs.FormedDemands.{IsWellFormedAsked};
 ghost use Rattle.cc_type.specs.KeptWalks.{IsKnown};
 
+use crate::instances::Instances;
 use crate::known::Known;
 use crate::repeated::is_repeated;
 use cc_base::place::Place;
@@ -39,6 +40,8 @@ pub struct Log {
     marks: Marks,
     // What was last found to be settled.
     pub(crate) known: Known,
+    // What type functions gave.
+    pub(crate) instances: Instances,
     ghost clear: { IsClear marks },
     ghost told: { lost ≡ has_lost (asked_of demands) },
 }
@@ -53,6 +56,7 @@ impl Log {
             lost: false,
             marks: Marks::new(alloc),
             known: Known::new(alloc, Ctx::new()),
+            instances: Instances::new(alloc),
         }
     }
 

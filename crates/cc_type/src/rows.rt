@@ -20,9 +20,10 @@ use crate::found::Found;
 use crate::heads::{
     box_part, device_part, exit_part, function_part, type_function_part, type_of_variable,
 };
+use crate::instances::{Instances, instantiated};
 use crate::log::Log;
 use crate::operands::{base_operand, capless, opening_set, operand, operation_argument};
-use crate::sizes::{fits_with, fitting_leaf, leaf};
+use crate::sizes::{fitting_leaf, leaf};
 use crate::steps::{entries, in_context};
 use crate::stop::{Stop, refused};
 use cc_base::code::Code;
@@ -31,7 +32,7 @@ use cc_base::place::Place;
 use cc_capture::{CapSet, Var};
 use cc_core::copies::copy_literal;
 use cc_core::reading::{read_shape, read_type, write_set};
-use cc_core::substitution::{subst_type, subst_var};
+use cc_core::substitution::subst_var;
 use cc_core::{Ctx, Form, Node, Shape, Ty};
 use std::alloc::{AllocError, Global};
 use std::rc::Rc;
@@ -167,16 +168,19 @@ fn type_application_end(
     function: Var,
     argument: &Rc<Shape>,
     read: &Rc<Shape>,
-    gives: &Ty,
+    gives: &Rc<Ty>,
+    instances: &mut Instances,
 ) -> Result<Found, Stop>
-    ensures { Answers found_of result (type_application_end node.now.at function (shape_of argument.now.value) (shape_of read.now.value) (type_of gives.now)) }
+    ensures { Answers found_of result (type_application_end node.now.at function (shape_of argument.now.value) (shape_of read.now.value) (type_of gives.now.value)) }
 {
-    if !fits_with(gives, read) {
-        return Err(refused(Code::E18, node.at));
+    match instantiated(alloc, gives, read, instances)? {
+        Some(ty) => {
+            let form = Form::TApp(function, argument.clone()?);
+            let found = fitting_leaf(alloc, node, form, ty)?;
+            Ok(found)
+        }
+        None => Err(refused(Code::E18, node.at)),
     }
-    let ty = subst_type(alloc, gives, read)?;
-    let found = fitting_leaf(alloc, node, Form::TApp(function, argument.clone()?), ty)?;
-    Ok(found)
 }
 
 /// A type function applied to a shape.
@@ -195,7 +199,15 @@ pub(crate) fn type_application(
     let (bound, gives) = type_function_part(alloc, ctx, node.first, function)?;
     let read = read_shape(alloc, argument, entries(ctx))?;
     against(alloc, ctx, &read, &bound, node.second, log)?;
-    let found = type_application_end(alloc, node, function, argument, &read, &gives)?;
+    let found = type_application_end(
+        alloc,
+        node,
+        function,
+        argument,
+        &read,
+        &gives,
+        &mut log.instances,
+    )?;
     Ok(found)
 }
 

@@ -2,7 +2,7 @@ use Rattle.cc_core.specs.Views.{context_of}
 use Rattle.cc_check.specs.Definitions.{definition_of}
 use Rattle.cc_check.proofs.JudgedResults.{answered_typed, answered_over_devices, answered_without_hole}
 use Rattle.cc_check.proofs.JudgedResults.{answered_without_type}
-use Rattle.cc_check.proofs.definition.check_def.Goals as goal
+use Rattle.cc_check.proofs.definition.check_next.Goals as goal
 
 pub returns-clause-typed : goal.returns-clause-typed
 returns-clause-typed c =
