@@ -100,3 +100,27 @@ fn closures_of_closures(rt: HostRuntime) -> Result<(), Fail> {
     assert_eq!(rt; verdict(alloc, text.as_bytes())?.as_str(), "ok 1");
     Ok(())
 }
+
+// So many applications of a type function, each to boxes in one box more, and then that to one box once more.
+fn applied(alloc: Global, count: usize) -> Result<String, AllocError> {
+    let mut text = String::new(alloc);
+    text.push_str("def p=fun[X<:Any]=>fun(x:X)=>x\ndef f=fun(u:Unit)=>")?;
+    let mut shape = String::new(alloc);
+    shape.push_str("Int")?;
+    for _more in 0..count {
+        let inner = shape;
+        shape = format!(in alloc; "Box[{inner}]")?;
+        let line = format!(in alloc; "val a:(x:{shape})->{shape}=p[{shape}];")?;
+        text.push_str(&line)?;
+    }
+    text.push_str("val a:(x:Box[Int])->Box[Int]=p[Box[Int]];a")?;
+    Ok(text)
+}
+
+#[test]
+fn many_shapes_behind_each_other(rt: HostRuntime) -> Result<(), Fail> {
+    let alloc = rt.alloc();
+    let text = applied(alloc, 40)?;
+    assert_eq!(rt; verdict(alloc, text.as_bytes())?.as_str(), "ok 2");
+    Ok(())
+}

@@ -164,3 +164,37 @@ fn omitted_sets(rt: HostRuntime) -> Result<(), Fail> {
     }
     Ok(())
 }
+
+#[test]
+fn type_functions_applied_behind_each_other(rt: HostRuntime) -> Result<(), Fail> {
+    let cases: [(&str, &str); 5] = [
+        (
+            "def p = fun [X <: Any] => fun (x: X) => x\ndef q = fun [X <: Any] => fun (x: X) => box x\ndef f = fun (u: Unit) =>\n  val a: (x: Int) -> Int = p[Int];\n  val b: (x: Bool) -> Bool = p[Bool];\n  val c: (x: Int) -> Box[Int] = q[Int];\n  val d: (x: Bool) -> Box[Bool] = q[Bool];\n  val e: (x: Int) -> Int = p[Int];\n  e\ndef g = fun (u: Unit) =>\n  val a: (x: Bool) -> Bool = p[Bool];\n  val b: (x: Bool) -> Box[Bool] = q[Bool];\n  val c: (x: Int) -> Int = p[Int];\n  c",
+            "ok 4",
+        ),
+        (
+            "def p = fun [X <: Any] => fun (x: X) => x\ndef f = fun (u: Unit) => p[Int]\ndef g = fun (u: Unit) =>\n  val a: (x: Int) -> Int = p[Bool];\n  a",
+            "E14 4:28",
+        ),
+        (
+            "def p = fun [X <: Any] => fun (x: X) => x\ndef q = fun [X <: Any] => fun (x: X) => box x\ndef f = fun (u: Unit) => p[Int]\ndef g = fun (u: Unit) =>\n  val a: (x: Int) -> Int = q[Int];\n  a",
+            "E14 5:28",
+        ),
+        (
+            "def p = fun [X <: Any] => fun (x: X) => x\ndef f = fun (c: Console^{cap}) => fun (d: Console^{cap}) =>\n  val a: (x: Box[Console^{c}]) -> Box[Console^{c}] = p[Box[Console^{c}]];\n  val b: (x: Box[Console^{d}]) -> Box[Console^{d}] = p[Box[Console^{d}]];\n  unit",
+            "ok 2",
+        ),
+        (
+            "def p = fun [X <: Any] => fun (x: X) => x\ndef f = fun (c: Console^{cap}) => fun (d: Console^{cap}) =>\n  val a = p[Box[Console^{c}]];\n  val b: (x: Box[Console^{c}]) -> Box[Console^{c}] = p[Box[Console^{d}]];\n  unit",
+            "E15 4:54",
+        ),
+    ];
+    for (text, want) in cases {
+        assert_eq!(rt;
+            verdict(rt.alloc(), text.as_bytes())?.as_str(),
+            want,
+            "of {text}"
+        );
+    }
+    Ok(())
+}

@@ -19,9 +19,9 @@ pub remembered_is :
     → replaced_type_by_shape (shape_of put) (type_of given) ≡ type_of made
 remembered_is made inner given x y by put a b is p q shapes r s types =
     let e : shape_of by ≡ shape_of put =
-        sym (ap (λ (z : Shape). shape_of z) p) ∙ (same_shape-decides (shape_of a) (shape_of b)).0 shapes ∙ ap (λ (z : Shape). shape_of z) q in
+    sym (ap (λ (z : Shape). shape_of z) p) ∙ (same_shape-decides (shape_of a) (shape_of b)).0 shapes ∙ ap (λ (z : Shape). shape_of z) q in
     let f : type_of inner ≡ type_of given =
-        sym (ap (λ (z : Ty). type_of z) r) ∙ (same_type-decides (type_of x) (type_of y)).0 types ∙ ap (λ (z : Ty). type_of z) s in
+    sym (ap (λ (z : Ty). type_of z) r) ∙ (same_type-decides (type_of x) (type_of y)).0 types ∙ ap (λ (z : Ty). type_of z) s in
     sym ((same_type-decides (type_of made) (replaced_type_by_shape (shape_of by) (type_of inner))).0 is
     ∙ (λ i. replaced_type_by_shape (e i) (f i)))
 
