@@ -1,14 +1,16 @@
 //! The last steps of inference for the forms with parts.
 
-ghost use Rattle.std.specs.Prelude.{◌≡◌, true, false, nat_le, IfOk};
+ghost use Rattle.std.specs.Prelude.{◌≡◌, true, false, length, nat_le, IfOk};
 ghost use Rattle.cc_base.specs.declared.place.Place.{Place};
-ghost use Rattle.cc_capture.specs.Sets.{Set, union};
+ghost use Rattle.cc_capture.specs.Sets.{union};
 ghost use Rattle.cc_core.specs.Captured as captured;
 ghost use Rattle.cc_core.specs.Captured.{captured_variables};
+ghost use Rattle.cc_core.specs.Occurrences as occurrences;
 ghost use Rattle.cc_core.specs.Sizes.{type_size};
 ghost use Rattle.cc_core.specs.Terms.{Boundary};
 ghost use Rattle.cc_core.specs.Views.{shape_of, type_of, note_of, form_of, term_of, context_of};
 ghost use Rattle.cc_core.specs.WellFormed.{IsWellFormedContext, IsWellFormedType};
+ghost use Rattle.cc_sets.specs.Avoidance.{Positive, avoided_set};
 ghost use Rattle.cc_sets.specs.Inference as plain;
 ghost use Rattle.cc_sets.specs.Inference.{result as plain_result, tested};
 ghost use Rattle.cc_sets.specs.Outcomes.{finds};
@@ -30,7 +32,7 @@ use cc_base::code::Code;
 use cc_base::place::Place;
 use cc_capture::{CapSet, Elem, Var};
 use cc_core::captured::{is_value, without_binder};
-use cc_core::occurrences::occurs_in_type;
+use cc_core::occurrences::occurs_in_shape;
 use cc_core::reading::{read_set, read_shape, read_type, write_set};
 use cc_core::substitution::close_type;
 use cc_core::{Ctx, Form, Node, Note, Shape, Ty};
@@ -177,15 +179,51 @@ fn let_captured(
     of_right.union(alloc, &outer)
 }
 
-// Whether the type names the newest variable.
-fn names_newest(ctx: &Ctx, ty: &Ty) -> bool
-    ensures { result ≡ false → (at : Place) → (declared : Set)
-        → plain.left_behind at (context_of ctx.now) declared (type_of ty.now) ≡ finds (type_of ty.now) }
+// Whether the shape names the newest variable.
+fn names_newest(ctx: &Ctx, shape: &Shape) -> bool
+    ensures { result ≡ false → occurrences.Meets (occurrences.without (length (context_of ctx.now))) 0 (shape_of shape.now) }
 {
-    occurs_in_type(entries(ctx), ty)
+    occurs_in_shape(entries(ctx), shape)
 }
 
-// A let, whose body has a type that is not too large. Where it does not name the variable it is that of the let.
+// What is left of the set of a type where the newest variable goes out of scope.
+fn set_left_behind(
+    alloc: Global,
+    ctx: &Ctx,
+    declared: &CapSet,
+    set: &CapSet,
+) -> Result<CapSet, AllocError>
+    ensures { IfOk result (λ s. s ≡ avoided_set Positive (length (context_of ctx.now)) declared.now set.now) }
+{
+    let newest = Elem::Var(Var::Free(entries(ctx)));
+    if !set.contains(newest) {
+        return Ok(set.clone()?);
+    }
+    let mut others = set.clone()?;
+    others.remove(newest);
+    Ok(others.union(alloc, declared)?)
+}
+
+// The type where the newest variable goes out of scope that the shape does not name, and whether its set has grown no
+// larger. So the shape need not be gone over again.
+fn shape_left_behind(
+    alloc: Global,
+    ctx: &Ctx,
+    declared: &CapSet,
+    inner: Ty,
+) -> Result<(Ty, bool), AllocError>
+    requires shape { occurrences.Meets (occurrences.without (length (context_of ctx.now))) 0 (shape_of inner.shape.value) }
+    requires fits { nat_le (type_size (type_of inner)) plain.greatest_size ≡ true }
+    ensures is { IfOk result (λ t. (at : Place) → plain.left_behind at (context_of ctx.now) declared.now (type_of inner) ≡ finds (type_of t.0)) }
+    ensures fits { IfOk result (λ t. t.1 ≡ true → nat_le (type_size (type_of t.0)) plain.greatest_size ≡ true) }
+{
+    let Ty { shape, set: before } = inner;
+    let set = set_left_behind(alloc, ctx, declared, &before)?;
+    let fits = set.len() <= before.len();
+    Ok((Ty { shape, set }, fits))
+}
+
+// A let, whose body has a type that is not too large.
 fn let_of(
     alloc: Global,
     ctx: &Ctx,
@@ -200,13 +238,19 @@ fn let_of(
     ensures { Answers found_of result (directly (plain.left_behind node.now.first (context_of ctx.now) declared.now (type_of inner))
         (λ type. tested ways node.now.at (plain_result type (form_of form)))) }
 {
-    if !names_newest(ctx, &inner) {
-        let found = fitting_parts(alloc, node, form, inner, captured)?;
+    if names_newest(ctx, &inner.shape) {
+        let ty = left_behind(alloc, ctx, declared, &inner, node.first)?;
+        let found = with_parts(alloc, node, form, ty, captured)?;
         return Ok(found);
     }
-    let ty = left_behind(alloc, ctx, declared, &inner, node.first)?;
-    let found = with_parts(alloc, node, form, ty, captured)?;
-    Ok(found)
+    let (ty, fits) = shape_left_behind(alloc, ctx, declared, inner)?;
+    if fits {
+        let found = fitting_parts(alloc, node, form, ty, captured)?;
+        Ok(found)
+    } else {
+        let found = with_parts(alloc, node, form, ty, captured)?;
+        Ok(found)
+    }
 }
 
 /// A term whose value was named in the body.
