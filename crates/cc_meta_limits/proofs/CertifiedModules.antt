@@ -1,0 +1,188 @@
+-- Each definition of an accepted module has a right certificate.
+use Rattle.std.proofs.Common.{◌≡◌, ℕ, ◌≤◌, Bool, true, false, List, [], ◌∷◌, ◌++◌, length, Some, refl, sym, ap, ◌∙◌, subst, arith, if◌then◌else◌}
+use Rattle.std.specs.List.{AllByRecursion, IsDistinct}
+use Rattle.std.specs.Str.{bytes_eq}
+use Rattle.cc_base.specs.Names.{IsName}
+use Rattle.cc_base.specs.declared.device.DeviceDecl.{DeviceDecl}
+use Rattle.cc_core.specs.Contexts.{Bind, Context, entry_of}
+use Rattle.cc_grammar.specs.Syntax.{ImportSyntax}
+use Rattle.cc_mnf.specs.CoreModules.{device_names}
+use Rattle.cc_mnf.specs.ElaboratedModules.{CoreDefinition}
+use Rattle.cc_mnf.specs.ElaborationLaws.{import_names, definition_names}
+use Rattle.cc_mnf.proofs.ElaboratedDefinitions.{definitions_are_in_order}
+use Rattle.cc_mnf.proofs.SecondNames.{names_differ}
+use Rattle.cc_sets.specs.DerivationSizes.{nodes}
+use Rattle.cc_sets.specs.Verdicts.{Accepted}
+use Rattle.cc_sets.specs.Verdicts as definitions
+use Rattle.cc_meta_checking.specs.CheckingLaws.{Fits, definition_context}
+use Rattle.cc_meta_checking.specs.CanonicalLaws.{accepted_derived}
+use Rattle.cc_meta_modules.specs.Readings.{IsTree, imports_in, imports_of}
+use Rattle.cc_meta_modules.specs.ModuleVerdicts.{Finding, CheckedDefinition, ModuleVerdict, IsAccepted, declared_context, with_findings, to_be_checked, checked_as, HasModuleVerdict, is_no_module, import_is_missing, is_not_elaborated, is_judged}
+use Rattle.cc_meta_modules.specs.ModuleLaws.{AreFit}
+use Rattle.cc_meta_modules.specs.PresentTexts.{findings_for}
+use Rattle.cc_meta_modules.proofs.GlobalContexts.{module_ready, count_devices}
+use Rattle.cc_meta_modules.proofs.ModuleVerdictLaws.{fits_tree}
+use Rattle.cc_meta_modules.proofs.PresentLaws.{present_findings_fit}
+use Rattle.cc_meta_modules.proofs.ReadingLaws.{text_has_one_reading}
+use Rattle.cc_meta_certificates.specs.DefinitionLaws.{IsWithinLimits}
+use Rattle.cc_meta_certificates.proofs.DefinitionCertificates.{accepted_have_certificates, definitions_are_read_back}
+use Rattle.cc_meta_judging.proofs.FoundValid.{definitions_found_valid}
+use Rattle.cc_meta_limits.specs.ModuleCertificates.{with_definitions, context_of, names_in, IsCertified, AreNamed, DefinitionsOfModulesAreCertified, DefinitionsOfPresentTextsAreCertified}
+use Rattle.cc_meta_limits.specs.ModuleLimits.{IsLowFinding}
+use Rattle.cc_meta_limits.specs.TextLimits.{IsOfText}
+use Rattle.cc_meta_limits.proofs.LowComparisons.{LowContext}
+use Rattle.cc_meta_limits.proofs.LowDefinitions.{accepted_low, literals_kept}
+use Rattle.cc_meta_limits.proofs.LowModules as modules
+use Rattle.cc_meta_limits.proofs.TextDefinitions.{definitions_of_texts_low, imports_of_texts_named}
+use Rattle.cc_meta_limits.proofs.JudgedPlaces.{declared_low, findings_low, Place, place, checked_names, names_kept, definitions_named, imports_named, all_joined, all_front, distinct_front, kept_in_front, found_count, definitions_count, names_count}
+
+note_within : (n : ℕ) → n ≤ 100 → n ≤ 5000
+note_within n h = omega arith
+
+right_within : (n : ℕ) → n ≤ 200 → n ≤ 5000
+right_within n h = omega arith
+
+-- a definition of a text, accepted in a low context
+certified_in : (devices : ℕ) (globals : Context) (d : CoreDefinition) (a : Accepted) (names : List (List ℕ))
+    → Fits globals (to_be_checked d)
+    → definitions.HasVerdict devices globals (to_be_checked d) (definitions.IsAccepted a) → LowContext globals
+    → IsOfText d
+    → AllByRecursion IsName names → IsDistinct bytes_eq names
+    → length names ≡ length (definition_context globals (to_be_checked d) a.signature)
+    → nodes (accepted_derived (definition_context globals (to_be_checked d) a.signature) a) ≤ 100000
+    → IsCertified names (definition_context globals (to_be_checked d) a.signature) a
+certified_in devices globals d a names fits has low of named apart each few =
+    let is = accepted_low devices globals (to_be_checked d) a low
+    (record { note = note_within _ of.note; right = right_within _ of.right }) has in
+    let limits : IsWithinLimits names (definition_context globals (to_be_checked d) a.signature) a = record {
+      named = named;
+      apart = apart;
+      each = each;
+      low_entries = is.entries;
+      literals = literals_kept devices globals (to_be_checked d) a has of.literals;
+      low_term = is.term;
+      low_claims = is.claims;
+      few = few;
+    } in
+    record {
+      written = accepted_have_certificates devices globals (to_be_checked d) a names fits has limits;
+      read_back = λ lines h. definitions_are_read_back devices globals
+          (to_be_checked d) a names lines fits has limits h;
+      judged = λ binds stated listing answer h k. definitions_found_valid devices globals
+          (to_be_checked d) a names binds stated listing answer fits has limits h k;
+    }
+
+imports_same : (a b : List ImportSyntax) → Some a ≡ Some b → a ≡ b
+imports_same a b e = cc
+
+-- one name for each position
+count_by : (recursive : Bool) (first : List (List ℕ)) (name : List ℕ) (g : Context) (entry : Bind)
+    → length (first ++ []) ≡ length g
+    → length (first ++ name ∷ []) ≡ length (entry ∷ g)
+    → length (first ++ (if recursive then name ∷ [] else [])) ≡ length (if recursive then entry ∷ g else g)
+count_by true first name g entry h k = k
+count_by false first name g entry h k = h
+
+module _ (devices : List DeviceDecl) (imports : List ImportSyntax) (findings : List Finding)
+    (before : List CheckedDefinition) where
+  abbrev base : Context
+  base = with_definitions (with_findings (declared_context devices) findings) before
+
+  -- what is asked of the names
+  record AreGood (one : CheckedDefinition) : Type 0 where
+    named : AllByRecursion IsName (names_in devices imports before one)
+    apart : IsDistinct bytes_eq (names_in devices imports before one)
+    each : length (names_in devices imports before one) ≡ length (context_of devices findings before one)
+    few : nodes (accepted_derived (context_of devices findings before one) one.accepted) ≤ 100000
+
+  abbrev Certified : CheckedDefinition → Type 0
+  Certified one =
+      AreGood one → IsCertified (names_in devices imports before one)
+      (context_of devices findings before one) one.accepted
+
+  certified_at : (one : CheckedDefinition) → Place (length devices) base one → Certified one
+  certified_at one p =
+      subst Certified (sym p.is)
+      (λ (good : AreGood (checked_as p.definition p.accepted)).
+      certified_in (length devices) base p.definition p.accepted
+      (names_in devices imports before (checked_as p.definition p.accepted)) p.fits p.has p.low p.of_text
+      good.named good.apart good.each good.few)
+
+  certified_by : (text : List ℕ) (one : CheckedDefinition) (after : List CheckedDefinition) (v : ModuleVerdict)
+      → AreNamed devices
+      → imports_of text ≡ Some imports → HasModuleVerdict devices text findings v
+      → v ≡ IsAccepted (before ++ one ∷ after)
+      → AreFit devices text findings → LowContext (with_findings (declared_context devices) findings)
+      → nodes (accepted_derived (context_of devices findings before one) one.accepted) ≤ 100000
+      → IsCertified (names_in devices imports before one) (context_of devices findings before one) one.accepted
+  certified_by text one after v names are (is_no_module reading) e fit low few = cc
+  certified_by text one after v names are (import_is_missing reading missing) e fit low few = cc
+  certified_by text one after v names are (is_not_elaborated reading found is) e fit low few = cc
+  certified_by text one after v names are (is_judged {tree = tree} {core = core} {verdict = verdict} reading found is
+      judged) e fit low few =
+      let g : Context = with_findings (declared_context devices) findings in
+      let counted = fits_tree devices text findings tree fit reading in
+      let ready = module_ready devices tree findings core counted fit.over_devices found is in
+      let good = definitions_of_texts_low (device_names devices) text tree core reading is in
+      let there = place (length devices) g core.definitions verdict ready judged good low before one after e in
+      let same : tree.imports ≡ imports = imports_same tree.imports imports
+      (ap imports_in ((text_has_one_reading text (IsTree tree)).0 reading) ∙ are) in
+      let kept : core.imports ≡ imports = (definitions_are_in_order (device_names devices) tree core is).0 ∙ same in
+      let called : definition_names core.definitions ≡ checked_names (before ++ one ∷ after) =
+      sym (names_kept (length devices) g core.definitions verdict (before ++ one ∷ after) judged e) in
+      let first : List (List ℕ) = device_names devices ++ import_names imports in
+      let apart : IsDistinct bytes_eq (first ++ checked_names (before ++ one ∷ after)) =
+      subst (λ l. IsDistinct bytes_eq (first ++ l)) called
+      (subst (λ l. IsDistinct bytes_eq (device_names devices ++ import_names l ++ definition_names core.definitions))
+      kept
+      (names_differ (device_names devices) tree core is names.apart)) in
+      let imported : AllByRecursion IsName (import_names imports) =
+      subst (λ l. AllByRecursion IsName (import_names l)) same
+      (imports_named tree.imports (imports_of_texts_named text tree reading)) in
+      let defined : AllByRecursion IsName (checked_names (before ++ one ∷ after)) = subst (AllByRecursion IsName) called
+      (definitions_named core.definitions good) in
+      let named = all_joined IsName first (checked_names (before ++ one ∷ after))
+      (all_joined IsName (device_names devices) (import_names imports) names.named imported) defined in
+      let declared = count_devices devices in
+      let found_are = found_count (declared_context devices) tree.imports findings counted found in
+      let imports_are : length tree.imports ≡ length imports = ap length same in
+      let earlier = definitions_count g before in
+      let without = names_count devices imports before [] in
+      let with_own = names_count devices imports before (one.name ∷ []) in
+      certified_at one there
+      (record {
+        named = kept_in_front first before one after (AllByRecursion IsName) (all_front IsName) named one.recursive;
+        apart = kept_in_front first before one after (IsDistinct bytes_eq) distinct_front apart one.recursive;
+        each =
+            count_by one.recursive (first ++ checked_names before) one.name base (entry_of one.accepted.signature)
+            (omega arith) (omega arith);
+        few = few;
+      })
+
+pub modules_certified : DefinitionsOfModulesAreCertified
+modules_certified devices imports findings before one names stands few =
+    certified_by devices imports findings before stands.text one stands.after
+    (IsAccepted (before ++ one ∷ stands.after)) names
+    stands.imports_are stands.accepted refl stands.fit (findings_low (declared_context devices) findings
+    (declared_low devices) stands.low) few
+
+pub present_certified : DefinitionsOfPresentTextsAreCertified
+present_certified devices texts verdicts imports findings before one names present are stands few =
+    let same : findings_for texts verdicts stands.name stands.text ≡ findings = sym stands.findings_are in
+    modules_certified devices imports findings before one names
+    (record {
+      text = stands.text;
+      imports_are = stands.imports_are;
+      after = stands.after;
+      accepted =
+          subst (λ (fs : List Finding). HasModuleVerdict devices stands.text fs
+          (IsAccepted (before ++ one ∷ stands.after))) same
+          (subst (HasModuleVerdict devices stands.text (findings_for texts verdicts stands.name stands.text))
+          stands.accepted
+          (are stands.name stands.text stands.present));
+      fit =
+          subst (AreFit devices stands.text) same
+          (present_findings_fit devices texts verdicts names.apart present are stands.name stands.text stands.present);
+      low = subst (AllByRecursion IsLowFinding) same (modules.findings_low devices texts verdicts are stands.name
+          stands.text);
+    }) few

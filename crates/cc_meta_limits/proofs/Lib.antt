@@ -1,0 +1,11 @@
+pub mod BareShapes
+pub mod CertifiedModules
+pub mod ElaboratedHeights
+pub mod JudgedPlaces
+pub mod KeptHeights
+pub mod LowComparisons
+pub mod LowDefinitions
+pub mod LowModules
+pub mod LowTerms
+pub mod SpelledTexts
+pub mod TextDefinitions

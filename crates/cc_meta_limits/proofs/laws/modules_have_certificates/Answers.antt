@@ -1,0 +1,5 @@
+use Rattle.cc_meta_limits.proofs.CertifiedModules.{modules_certified, present_certified}
+use Rattle.cc_meta_limits.proofs.laws.modules_have_certificates.Goals as goal
+
+pub returns : goal.returns
+returns c = record { modules = modules_certified; present = present_certified }

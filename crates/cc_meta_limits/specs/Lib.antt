@@ -1,0 +1,4 @@
+pub mod LimitLaws
+pub mod ModuleCertificates
+pub mod ModuleLimits
+pub mod TextLimits

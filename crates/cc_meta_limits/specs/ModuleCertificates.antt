@@ -1,0 +1,112 @@
+-- Certificates of modules: for each definition of an accepted module what is written is a certificate, and is read back.
+use Rattle.std.specs.Prelude.{◌≡◌, ℕ, ◌≤◌, List, [], ◌∷◌, ◌++◌, map, Result, Some, if◌then◌else◌}
+use Rattle.std.specs.List.{AllByRecursion}
+use Rattle.cc_base.specs.Names.{IsName}
+use Rattle.cc_base.specs.declared.device.DeviceDecl.{DeviceDecl}
+use Rattle.cc_core.specs.declared.types.Ty.{Ty}
+use Rattle.cc_core.specs.Contexts.{Context, entry_of}
+use Rattle.cc_core.specs.Terms.{Term}
+use Rattle.cc_grammar.specs.Syntax.{ImportSyntax}
+use Rattle.cc_mnf.specs.CoreModules.{device_names}
+use Rattle.cc_mnf.specs.ElaborationLaws.{import_names}
+use Rattle.cc_sets.specs.DerivationSizes.{nodes}
+use Rattle.cc_sets.specs.Verdicts.{Accepted}
+use Rattle.cc_meta_checking.specs.CanonicalLaws.{accepted_derived}
+use Rattle.cc_meta_modules.specs.Readings.{imports_of}
+use Rattle.cc_meta_modules.specs.ModuleVerdicts.{Finding, CheckedDefinition, ModuleVerdict, IsAccepted}
+use Rattle.cc_meta_modules.specs.ModuleVerdicts.{HasModuleVerdict, declared_context, with_findings}
+use Rattle.cc_meta_modules.specs.ModuleLaws.{NamesOfDevicesDiffer, AreFit}
+use Rattle.cc_meta_modules.specs.PresentTexts.{Texts, ArePresent, text_of, findings_for, AreVerdicts}
+use Rattle.cc_certificate.specs.Certificates.{certificate_text}
+use Rattle.cc_certificate_text.specs.Certificates.{Line, CertificateNode, IsCertificate}
+use Rattle.cc_certificate_judging.specs.Judging.{IsJudged}
+use Rattle.cc_certificate_judging.specs.declared.error.JudgeError.{JudgeError}
+use Rattle.cc_meta_certificates.specs.CertificateLines.{lines_of}
+use Rattle.cc_meta_limits.specs.ModuleLimits.{IsLowFinding}
+use Rattle.cc_meta_judging.specs.JudgedCertificates.{CertificateBind, parts_lines, bound_context, AnswersType}
+
+-- the context with the signatures of definitions, in order
+abbrev pub with_definitions : Context → List CheckedDefinition → Context
+with_definitions context [] = context
+with_definitions context (first ∷ rest) = with_definitions (entry_of first.accepted.signature ∷ context) rest
+
+-- The context of a definition's right side: the devices, what is found for the imports, the definitions before it, and
+-- itself where it is recursive.
+abbrev pub context_of : List DeviceDecl → List Finding → List CheckedDefinition → CheckedDefinition → Context
+context_of devices findings before one =
+    if one.recursive
+    then entry_of one.accepted.signature ∷ with_definitions (with_findings (declared_context devices) findings) before
+    else with_definitions (with_findings (declared_context devices) findings) before
+
+-- the names of its positions, in order
+abbrev pub names_in : List DeviceDecl → List ImportSyntax → List CheckedDefinition → CheckedDefinition → List (List ℕ)
+names_in devices imports before one =
+    device_names devices ++ import_names imports ++ map (λ definition. definition.name) before
+    ++ (if one.recursive then one.name ∷ [] else [])
+
+-- the text of the certificate that is written for the accepted definition
+abbrev pub definition_certificate : List (List ℕ) → Context → Accepted → List ℕ
+definition_certificate names context accepted =
+    certificate_text names context accepted.filled (accepted_derived context accepted)
+
+-- and its lines
+abbrev pub definition_lines : List (List ℕ) → Context → Accepted → List Line
+definition_lines names context accepted = lines_of names context accepted.filled (accepted_derived context accepted)
+
+-- The certificate of the definition is right: it is one, with the lines of the canonical derivation and with no others;
+-- and what its lines bind, state and list is judged to have the signature's type.
+pub record IsCertified (names : List (List ℕ)) (context : Context) (accepted : Accepted) : Type 0 where
+  pub written : IsCertificate (definition_certificate names context accepted) (definition_lines names context accepted)
+  pub read_back : (lines : List Line) → IsCertificate (definition_certificate names context accepted) lines
+      → lines ≡ definition_lines names context accepted
+  pub judged :
+      (binds : List CertificateBind) (stated : Term) (listing : List CertificateNode) (answer : Result Ty JudgeError)
+      → IsCertificate (definition_certificate names context accepted) (parts_lines binds stated listing)
+      → IsJudged (bound_context binds) stated listing answer → AnswersType accepted.signature answer
+
+-- The definition stands behind these in an accepted module with these imports, for which this is found.
+pub record StandsInModule (devices : List DeviceDecl) (imports : List ImportSyntax) (findings : List Finding)
+    (before : List CheckedDefinition) (one : CheckedDefinition) : Type 0 where
+  pub text : List ℕ
+  pub imports_are : imports_of text ≡ Some imports
+  pub after : List CheckedDefinition
+  pub accepted : HasModuleVerdict devices text findings (IsAccepted (before ++ one ∷ after))
+  pub fit : AreFit devices text findings
+  pub low : AllByRecursion IsLowFinding findings
+
+-- the devices have names, which differ
+pub record AreNamed (devices : List DeviceDecl) : Type 0 where
+  pub named : AllByRecursion IsName (device_names devices)
+  pub apart : NamesOfDevicesDiffer devices
+
+-- Each definition of an accepted module whose canonical derivation has at most 100,000 nodes has a right certificate.
+abbrev pub DefinitionsOfModulesAreCertified : Type 0
+DefinitionsOfModulesAreCertified =
+    (devices : List DeviceDecl) (imports : List ImportSyntax) (findings : List Finding)
+    (before : List CheckedDefinition) (one : CheckedDefinition) → AreNamed devices
+    → StandsInModule devices imports findings before one
+    → nodes (accepted_derived (context_of devices findings before one) one.accepted) ≤ 100000
+    → IsCertified (names_in devices imports before one) (context_of devices findings before one) one.accepted
+
+-- The definition stands behind these in an accepted present module, where modules have these verdicts.
+pub record StandsInPresent (devices : List DeviceDecl) (texts : Texts) (verdicts : List ℕ → ModuleVerdict)
+    (imports : List ImportSyntax) (findings : List Finding) (before : List CheckedDefinition)
+    (one : CheckedDefinition) :
+    Type 0 where
+  pub name : List ℕ
+  pub text : List ℕ
+  pub present : text_of texts name ≡ Some text
+  pub imports_are : imports_of text ≡ Some imports
+  pub findings_are : findings ≡ findings_for texts verdicts name text
+  pub after : List CheckedDefinition
+  pub accepted : verdicts name ≡ IsAccepted (before ++ one ∷ after)
+
+-- So has each definition of an accepted present module.
+abbrev pub DefinitionsOfPresentTextsAreCertified : Type 0
+DefinitionsOfPresentTextsAreCertified =
+    (devices : List DeviceDecl) (texts : Texts) (verdicts : List ℕ → ModuleVerdict) (imports : List ImportSyntax)
+    (findings : List Finding) (before : List CheckedDefinition) (one : CheckedDefinition) → AreNamed devices
+    → ArePresent texts → AreVerdicts devices texts verdicts
+    → StandsInPresent devices texts verdicts imports findings before one
+    → nodes (accepted_derived (context_of devices findings before one) one.accepted) ≤ 100000
+    → IsCertified (names_in devices imports before one) (context_of devices findings before one) one.accepted

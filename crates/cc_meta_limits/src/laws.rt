@@ -1,0 +1,33 @@
+//! The functions do nothing. Their contracts are theorems.
+ghost use Rattle.cc_meta_limits.specs.LimitLaws as law;
+ghost use Rattle.cc_meta_limits.specs.ModuleCertificates as certificate_law;
+ghost use Rattle.cc_meta_limits.specs.ModuleLimits as module_law;
+ghost use Rattle.cc_meta_limits.specs.TextLimits as text_law;
+
+/// The canonical derivation of an accepted low definition is low, as are its context and its right side, and the type
+/// that others see is.
+pub fn accepted_definitions_are_low()
+    ensures low { law.AcceptedDefinitionsAreLow }
+    ensures heights { law.HeightsAreKept }
+    ensures literals { law.LiteralsAreKept }
+    ensures signatures { law.SignaturesAreLow }
+{}
+
+/// The definitions of a text are low, have names, and their literals are those of the grammar.
+pub fn definitions_of_texts_are_low()
+    ensures definitions { text_law.DefinitionsOfTextsAreLow }
+    ensures imports { text_law.ImportsOfTextsAreNamed }
+{}
+
+/// The signatures of accepted modules are low, and so is what is found for imports.
+pub fn signatures_of_modules_are_low()
+    ensures signatures { module_law.SignaturesOfModulesAreLow }
+    ensures findings { module_law.FindingsAreLow }
+{}
+
+/// Each definition of an accepted module has a right certificate, where its canonical derivation has few enough nodes:
+/// what is written is a certificate, is read back, and is judged to have the type that others see.
+pub fn modules_have_certificates()
+    ensures modules { certificate_law.DefinitionsOfModulesAreCertified }
+    ensures present { certificate_law.DefinitionsOfPresentTextsAreCertified }
+{}

@@ -1,0 +1,4 @@
+//! The limits of certificates, and the laws of this, without code.
+#![tactic(auto)]
+
+pub mod laws;
