@@ -1,4 +1,4 @@
--- Shapes without their sets: filling, reading, closing and avoiding leave those of a type as they are, and its height with them.
+-- Shapes without their sets: filling and avoiding leave those of a type as they are, and its height with them.
 use Rattle.std.proofs.Common.{◌≡◌, ℕ, suc, ◌≤◌, Bool, true, false, cond, [], ◌∷◌, length, map, Option, Some, None, refl, sym, ap, ◌∙◌, arith}
 use Rattle.std.specs.Prelude.{max, nat_eq, nat_lt}
 use Rattle.std.specs.Option.{option_map, option_and_then}

@@ -1,10 +1,11 @@
 -- Each definition of an accepted module has a right certificate.
-use Rattle.std.proofs.Common.{◌≡◌, ℕ, ◌≤◌, Bool, true, false, List, [], ◌∷◌, ◌++◌, length, Some, refl, sym, ap, ◌∙◌, subst, arith, if◌then◌else◌}
+use Rattle.std.proofs.Common.{◌≡◌, ℕ, ◌≤◌, Bool, true, false, List, [], ◌∷◌, ◌++◌, map, length, Some, refl, sym, ap, ◌∙◌, subst, arith, if◌then◌else◌}
 use Rattle.std.specs.List.{AllByRecursion, IsDistinct}
 use Rattle.std.specs.Str.{bytes_eq}
 use Rattle.cc_base.specs.Names.{IsName}
 use Rattle.cc_base.specs.declared.device.DeviceDecl.{DeviceDecl}
-use Rattle.cc_core.specs.Contexts.{Bind, Context, entry_of}
+use Rattle.cc_core.specs.Contexts.{Bind, TermEntry, TypeEntry, Context, entry_of}
+use Rattle.cc_core.specs.Derivations.{Derivation, OfType, Concludes}
 use Rattle.cc_grammar.specs.Syntax.{ImportSyntax}
 use Rattle.cc_mnf.specs.CoreModules.{device_names}
 use Rattle.cc_mnf.specs.ElaboratedModules.{CoreDefinition}
@@ -24,10 +25,17 @@ use Rattle.cc_meta_modules.proofs.GlobalContexts.{module_ready, count_devices}
 use Rattle.cc_meta_modules.proofs.ModuleVerdictLaws.{fits_tree}
 use Rattle.cc_meta_modules.proofs.PresentLaws.{present_findings_fit}
 use Rattle.cc_meta_modules.proofs.ReadingLaws.{text_has_one_reading}
+use Rattle.cc_certificate_text.specs.Certificates.{Opens, States, Concludes as ConcludesNode}
+use Rattle.cc_certificate_judging.specs.Judging.{listed}
+use Rattle.cc_meta_certificates.specs.CertificateLaws.{IsPresentableEntry, IsTermEntry}
+use Rattle.cc_meta_certificates.specs.CertificateLines.{concluded_lines}
 use Rattle.cc_meta_certificates.specs.DefinitionLaws.{IsWithinLimits}
-use Rattle.cc_meta_certificates.proofs.DefinitionCertificates.{accepted_have_certificates, definitions_are_read_back}
+use Rattle.cc_meta_certificates.proofs.DefinitionCertificates.{accepted_certifiable, accepted_have_certificates, definitions_are_read_back}
+use Rattle.cc_meta_judging.specs.JudgedCertificates.{written_tree}
 use Rattle.cc_meta_judging.proofs.FoundValid.{definitions_found_valid}
-use Rattle.cc_meta_limits.specs.ModuleCertificates.{with_definitions, context_of, names_in, IsCertified, AreNamed, DefinitionsOfModulesAreCertified, DefinitionsOfPresentTextsAreCertified}
+use Rattle.cc_meta_judging.proofs.ReadTrees.{written_nodes, judged_valid}
+use Rattle.cc_meta_judging.proofs.SameLines.{binds_in, bound_are_binds, context_of_binds}
+use Rattle.cc_meta_limits.specs.ModuleCertificates.{with_definitions, context_behind, names_behind, IsCertified, AreNamed, DefinitionsOfModulesAreCertified, DefinitionsOfPresentTextsAreCertified}
 use Rattle.cc_meta_limits.specs.ModuleLimits.{IsLowFinding}
 use Rattle.cc_meta_limits.specs.TextLimits.{IsOfText}
 use Rattle.cc_meta_limits.proofs.LowComparisons.{LowContext}
@@ -35,6 +43,11 @@ use Rattle.cc_meta_limits.proofs.LowDefinitions.{accepted_low, literals_kept}
 use Rattle.cc_meta_limits.proofs.LowModules as modules
 use Rattle.cc_meta_limits.proofs.TextDefinitions.{definitions_of_texts_low, imports_of_texts_named}
 use Rattle.cc_meta_limits.proofs.JudgedPlaces.{declared_low, findings_low, Place, place, checked_names, names_kept, definitions_named, imports_named, all_joined, all_front, distinct_front, kept_in_front, found_count, definitions_count, names_count}
+
+term_entries : (g : Context) → AllByRecursion IsPresentableEntry g → AllByRecursion IsTermEntry g
+term_entries [] all = tt
+term_entries (TermEntry shape set ∷ older) all = (tt, term_entries older all.1)
+term_entries (TypeEntry bound ∷ older) all = absurd all.0
 
 note_within : (n : ℕ) → n ≤ 100 → n ≤ 5000
 note_within n h = omega arith
@@ -64,12 +77,29 @@ certified_in devices globals d a names fits has low of named apart each few =
       low_claims = is.claims;
       few = few;
     } in
+    let g : Context = definition_context globals (to_be_checked d) a.signature in
+    let tree : Derivation = accepted_derived g a in
+    let can = accepted_certifiable devices globals (to_be_checked d) a names fits has limits in
+    let all = term_entries g can.context.entries in
+    let listed_are : concluded_lines (length names) 0 0 tree ≡ map ConcludesNode
+    (listed 0 (written_tree (length g) 0 tree)) =
+    written_nodes (length names) 0 0 tree ∙ ap (λ n. map ConcludesNode (listed 0 (written_tree n 0 tree))) each in
     record {
       written = accepted_have_certificates devices globals (to_be_checked d) a names fits has limits;
       read_back = λ lines h. definitions_are_read_back devices globals
           (to_be_checked d) a names lines fits has limits h;
-      judged = λ binds stated listing answer h k. definitions_found_valid devices globals
-          (to_be_checked d) a names binds stated listing answer fits has limits h k;
+      binds = binds_in names g;
+      listing = listed 0 (written_tree (length g) 0 tree);
+      parts = λ i. Opens ∷ (bound_are_binds names g all i ++ States a.filled ∷ listed_are i);
+      bound = context_of_binds names g all;
+      valid =
+          λ type is.
+          judged_valid g a.filled tree type all can.context.formed can.term.formed can.valid can.done
+          (subst (λ t. Concludes tree (OfType t)) (sym is) can.concludes);
+      judged =
+          λ binds stated listing answer h k.
+          definitions_found_valid devices globals (to_be_checked d) a names binds stated listing answer fits has limits
+          h k;
     }
 
 imports_same : (a b : List ImportSyntax) → Some a ≡ Some b → a ≡ b
@@ -90,22 +120,22 @@ module _ (devices : List DeviceDecl) (imports : List ImportSyntax) (findings : L
 
   -- what is asked of the names
   record AreGood (one : CheckedDefinition) : Type 0 where
-    named : AllByRecursion IsName (names_in devices imports before one)
-    apart : IsDistinct bytes_eq (names_in devices imports before one)
-    each : length (names_in devices imports before one) ≡ length (context_of devices findings before one)
-    few : nodes (accepted_derived (context_of devices findings before one) one.accepted) ≤ 100000
+    named : AllByRecursion IsName (names_behind devices imports before one)
+    apart : IsDistinct bytes_eq (names_behind devices imports before one)
+    each : length (names_behind devices imports before one) ≡ length (context_behind devices findings before one)
+    few : nodes (accepted_derived (context_behind devices findings before one) one.accepted) ≤ 100000
 
   abbrev Certified : CheckedDefinition → Type 0
   Certified one =
-      AreGood one → IsCertified (names_in devices imports before one)
-      (context_of devices findings before one) one.accepted
+      AreGood one → IsCertified (names_behind devices imports before one)
+      (context_behind devices findings before one) one.accepted
 
   certified_at : (one : CheckedDefinition) → Place (length devices) base one → Certified one
   certified_at one p =
       subst Certified (sym p.is)
       (λ (good : AreGood (checked_as p.definition p.accepted)).
       certified_in (length devices) base p.definition p.accepted
-      (names_in devices imports before (checked_as p.definition p.accepted)) p.fits p.has p.low p.of_text
+      (names_behind devices imports before (checked_as p.definition p.accepted)) p.fits p.has p.low p.of_text
       good.named good.apart good.each good.few)
 
   certified_by : (text : List ℕ) (one : CheckedDefinition) (after : List CheckedDefinition) (v : ModuleVerdict)
@@ -113,8 +143,8 @@ module _ (devices : List DeviceDecl) (imports : List ImportSyntax) (findings : L
       → imports_of text ≡ Some imports → HasModuleVerdict devices text findings v
       → v ≡ IsAccepted (before ++ one ∷ after)
       → AreFit devices text findings → LowContext (with_findings (declared_context devices) findings)
-      → nodes (accepted_derived (context_of devices findings before one) one.accepted) ≤ 100000
-      → IsCertified (names_in devices imports before one) (context_of devices findings before one) one.accepted
+      → nodes (accepted_derived (context_behind devices findings before one) one.accepted) ≤ 100000
+      → IsCertified (names_behind devices imports before one) (context_behind devices findings before one) one.accepted
   certified_by text one after v names are (is_no_module reading) e fit low few = cc
   certified_by text one after v names are (import_is_missing reading missing) e fit low few = cc
   certified_by text one after v names are (is_not_elaborated reading found is) e fit low few = cc

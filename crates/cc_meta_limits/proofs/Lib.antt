@@ -7,5 +7,6 @@ pub mod LowComparisons
 pub mod LowDefinitions
 pub mod LowModules
 pub mod LowTerms
+pub mod ProgramContexts
 pub mod SpelledTexts
 pub mod TextDefinitions

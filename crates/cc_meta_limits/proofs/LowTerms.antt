@@ -1,5 +1,5 @@
--- The canonical derivation of what was inferred, with its sets filled, is low: each type that was inferred passed the test of
--- its size, and filling changes sets alone.
+-- The canonical derivation of what was inferred, with its sets filled, is low: each type that was inferred passed the
+-- test of its size, and filling changes sets alone.
 use Rattle.std.proofs.Common.{◌≡◌, ℕ, zero, suc, ◌≤◌, Bool, true, false, cond, List, [], ◌∷◌, length, Option, Some, None, refl, sym, ap, ◌∙◌, subst, arith}
 use Rattle.std.specs.Prelude.{max, nat_eq}
 use Rattle.std.proofs.lemmas.Bool.{leb-true}
@@ -313,7 +313,8 @@ module _ (f : Filling) where
           (
             operand_low h (in_context h v) (BaseShape bases.Int) low (omega arith),
             (
-              operand_low h (in_context h w) (FunctionShape (BaseShape bases.Int) empty (BaseShape bases.Unit) empty) low
+              operand_low h (in_context h w) (FunctionShape (BaseShape bases.Int) empty (BaseShape bases.Unit) empty)
+                  low
                   (omega arith),
               tt,
             ),

@@ -1,4 +1,5 @@
 pub mod LimitLaws
 pub mod ModuleCertificates
+pub mod ModuleExamples
 pub mod ModuleLimits
 pub mod TextLimits

@@ -1,11 +1,14 @@
--- Certificates of modules: for each definition of an accepted module what is written is a certificate, and is read back.
-use Rattle.std.specs.Prelude.{◌≡◌, ℕ, ◌≤◌, List, [], ◌∷◌, ◌++◌, map, Result, Some, if◌then◌else◌}
+-- Certificates of modules: what is written for a definition of an accepted module is a certificate, and is read back.
+use Rattle.std.specs.Prelude.{◌≡◌, ℕ, ◌≤◌, List, [], ◌∷◌, ◌++◌, map, reverse, Result, Ok, Some}
+use Rattle.std.specs.Prelude.{if◌then◌else◌}
 use Rattle.std.specs.List.{AllByRecursion}
 use Rattle.cc_base.specs.Names.{IsName}
 use Rattle.cc_base.specs.declared.device.DeviceDecl.{DeviceDecl}
 use Rattle.cc_core.specs.declared.types.Ty.{Ty}
 use Rattle.cc_core.specs.Contexts.{Context, entry_of}
+use Rattle.cc_core.specs.Programs.{definition_context, own_context}
 use Rattle.cc_core.specs.Terms.{Term}
+use Rattle.cc_core.specs.Views.{type_of}
 use Rattle.cc_grammar.specs.Syntax.{ImportSyntax}
 use Rattle.cc_mnf.specs.CoreModules.{device_names}
 use Rattle.cc_mnf.specs.ElaborationLaws.{import_names}
@@ -15,7 +18,7 @@ use Rattle.cc_meta_checking.specs.CanonicalLaws.{accepted_derived}
 use Rattle.cc_meta_modules.specs.Readings.{imports_of}
 use Rattle.cc_meta_modules.specs.ModuleVerdicts.{Finding, CheckedDefinition, ModuleVerdict, IsAccepted}
 use Rattle.cc_meta_modules.specs.ModuleVerdicts.{HasModuleVerdict, declared_context, with_findings}
-use Rattle.cc_meta_modules.specs.ModuleLaws.{NamesOfDevicesDiffer, AreFit}
+use Rattle.cc_meta_modules.specs.ModuleLaws.{NamesOfDevicesDiffer, AreFit, in_program}
 use Rattle.cc_meta_modules.specs.PresentTexts.{Texts, ArePresent, text_of, findings_for, AreVerdicts}
 use Rattle.cc_certificate.specs.Certificates.{certificate_text}
 use Rattle.cc_certificate_text.specs.Certificates.{Line, CertificateNode, IsCertificate}
@@ -32,17 +35,27 @@ with_definitions context (first ∷ rest) = with_definitions (entry_of first.acc
 
 -- The context of a definition's right side: the devices, what is found for the imports, the definitions before it, and
 -- itself where it is recursive.
-abbrev pub context_of : List DeviceDecl → List Finding → List CheckedDefinition → CheckedDefinition → Context
-context_of devices findings before one =
+abbrev pub context_behind : List DeviceDecl → List Finding → List CheckedDefinition → CheckedDefinition → Context
+context_behind devices findings before one =
     if one.recursive
     then entry_of one.accepted.signature ∷ with_definitions (with_findings (declared_context devices) findings) before
     else with_definitions (with_findings (declared_context devices) findings) before
 
 -- the names of its positions, in order
-abbrev pub names_in : List DeviceDecl → List ImportSyntax → List CheckedDefinition → CheckedDefinition → List (List ℕ)
-names_in devices imports before one =
+abbrev pub names_behind : List DeviceDecl → List ImportSyntax → List CheckedDefinition → CheckedDefinition
+    → List (List ℕ)
+names_behind devices imports before one =
     device_names devices ++ import_names imports ++ map (λ definition. definition.name) before
     ++ (if one.recursive then one.name ∷ [] else [])
+
+-- The context is the one that the definition of a checked program is typed in.
+abbrev pub ContextsAreThoseOfPrograms : Type 0
+ContextsAreThoseOfPrograms =
+    (devices : List DeviceDecl) (findings : List Finding) (before : List CheckedDefinition) (one : CheckedDefinition)
+    → context_behind devices findings before one
+    ≡ own_context
+    (definition_context (with_findings (declared_context devices) findings) (reverse (map in_program before)))
+    (in_program one)
 
 -- the text of the certificate that is written for the accepted definition
 abbrev pub definition_certificate : List (List ℕ) → Context → Accepted → List ℕ
@@ -53,16 +66,23 @@ definition_certificate names context accepted =
 abbrev pub definition_lines : List (List ℕ) → Context → Accepted → List Line
 definition_lines names context accepted = lines_of names context accepted.filled (accepted_derived context accepted)
 
--- The certificate of the definition is right: it is one, with the lines of the canonical derivation and with no others;
--- and what its lines bind, state and list is judged to have the signature's type.
+-- The certificate of the definition is right: it is one, with the lines of its canonical derivation and with no others.
+-- These bind the context, state the filled right side and list nodes, which are judged to have the signature's type;
+-- and so is whatever is read back from the text.
 pub record IsCertified (names : List (List ℕ)) (context : Context) (accepted : Accepted) : Type 0 where
   pub written : IsCertificate (definition_certificate names context accepted) (definition_lines names context accepted)
   pub read_back : (lines : List Line) → IsCertificate (definition_certificate names context accepted) lines
       → lines ≡ definition_lines names context accepted
+  pub binds : List CertificateBind
+  pub listing : List CertificateNode
+  pub parts : definition_lines names context accepted ≡ parts_lines binds accepted.filled listing
+  pub bound : bound_context binds ≡ context
+  pub valid : (type : Ty) → type_of type ≡ accepted.signature → IsJudged context accepted.filled listing (Ok type)
   pub judged :
-      (binds : List CertificateBind) (stated : Term) (listing : List CertificateNode) (answer : Result Ty JudgeError)
-      → IsCertificate (definition_certificate names context accepted) (parts_lines binds stated listing)
-      → IsJudged (bound_context binds) stated listing answer → AnswersType accepted.signature answer
+      (others : List CertificateBind) (stated : Term) (others_listed : List CertificateNode)
+      (answer : Result Ty JudgeError)
+      → IsCertificate (definition_certificate names context accepted) (parts_lines others stated others_listed)
+      → IsJudged (bound_context others) stated others_listed answer → AnswersType accepted.signature answer
 
 -- The definition stands behind these in an accepted module with these imports, for which this is found.
 pub record StandsInModule (devices : List DeviceDecl) (imports : List ImportSyntax) (findings : List Finding)
@@ -85,11 +105,11 @@ DefinitionsOfModulesAreCertified =
     (devices : List DeviceDecl) (imports : List ImportSyntax) (findings : List Finding)
     (before : List CheckedDefinition) (one : CheckedDefinition) → AreNamed devices
     → StandsInModule devices imports findings before one
-    → nodes (accepted_derived (context_of devices findings before one) one.accepted) ≤ 100000
-    → IsCertified (names_in devices imports before one) (context_of devices findings before one) one.accepted
+    → nodes (accepted_derived (context_behind devices findings before one) one.accepted) ≤ 100000
+    → IsCertified (names_behind devices imports before one) (context_behind devices findings before one) one.accepted
 
 -- The definition stands behind these in an accepted present module, where modules have these verdicts.
-pub record StandsInPresent (devices : List DeviceDecl) (texts : Texts) (verdicts : List ℕ → ModuleVerdict)
+pub record StandsInPresentModule (devices : List DeviceDecl) (texts : Texts) (verdicts : List ℕ → ModuleVerdict)
     (imports : List ImportSyntax) (findings : List Finding) (before : List CheckedDefinition)
     (one : CheckedDefinition) :
     Type 0 where
@@ -107,6 +127,6 @@ DefinitionsOfPresentTextsAreCertified =
     (devices : List DeviceDecl) (texts : Texts) (verdicts : List ℕ → ModuleVerdict) (imports : List ImportSyntax)
     (findings : List Finding) (before : List CheckedDefinition) (one : CheckedDefinition) → AreNamed devices
     → ArePresent texts → AreVerdicts devices texts verdicts
-    → StandsInPresent devices texts verdicts imports findings before one
-    → nodes (accepted_derived (context_of devices findings before one) one.accepted) ≤ 100000
-    → IsCertified (names_in devices imports before one) (context_of devices findings before one) one.accepted
+    → StandsInPresentModule devices texts verdicts imports findings before one
+    → nodes (accepted_derived (context_behind devices findings before one) one.accepted) ≤ 100000
+    → IsCertified (names_behind devices imports before one) (context_behind devices findings before one) one.accepted

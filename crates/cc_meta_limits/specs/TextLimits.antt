@@ -9,8 +9,8 @@ use Rattle.cc_meta_modules.specs.Readings.{IsTree, HasReading}
 use Rattle.cc_certificate_text.specs.Heights.{note_height, term_height}
 use Rattle.cc_meta_certificates.specs.DefinitionLaws.{HasWrittenLiterals}
 
--- The definition has a name; what is written for its type has at most the height 100 that the grammar allows a tree, and
--- its right side, in which operands are named, at most twice that; and its literals are those of the grammar.
+-- The definition has a name; what is written for its type has at most the height 100 that the grammar allows a tree,
+-- and its right side, in which operands are named, at most twice that; and its literals are those of the grammar.
 pub record IsOfText (definition : CoreDefinition) : Type 0 where
   pub named : IsName definition.name
   pub note : note_height definition.note ≤ 100

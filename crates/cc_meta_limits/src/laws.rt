@@ -30,4 +30,5 @@ pub fn signatures_of_modules_are_low()
 pub fn modules_have_certificates()
     ensures modules { certificate_law.DefinitionsOfModulesAreCertified }
     ensures present { certificate_law.DefinitionsOfPresentTextsAreCertified }
+    ensures contexts { certificate_law.ContextsAreThoseOfPrograms }
 {}
