@@ -1,7 +1,8 @@
 -- Bytes are one certificate, or have one bad line.
 use Rattle.std.proofs.Common.{◌≡◌, ℕ, zero, suc, ◌+◌, ◌<◌, ◌≤◌, Bool, true, false, List, [], ◌∷◌, ◌++◌, length, refl, sym, ap, subst, ◌∙◌, arith, append_assoc, ◌⊎◌, inl, inr, ⊎_elim}
+use Rattle.std.proofs.lemmas.Bool.{cases_lt}
 use Rattle.std.proofs.lemmas.List.{length-append, append-nil}
-use Rattle.cc_certificate_text.specs.Certificates.{Line, Stage, Start, names_at, behind_line, line_text, Fits, AllFit, behind_lines, lines_text, IsWhole, IsCertificate, Stops, IsBadLine}
+use Rattle.cc_certificate_text.specs.Certificates.{Line, Stage, Start, Binding, Proving, names_at, behind_line, line_text, Fits, AllFit, behind_lines, lines_text, IsWhole, IsCertificate, Stops, IsBadLine}
 use Rattle.cc_certificate_text.specs.Reading.{Found, Got, Wrong, ◌>>=◌, exact_at}
 use Rattle.cc_certificate_text.specs.LineReading.{line_at, next_line}
 use Rattle.cc_certificate_text.proofs.Readers.{got_from_bind, got_parts, exact_at_gives, exact_at-text}
@@ -197,3 +198,56 @@ whole-there bytes lines stage rest come whole nothing =
       whole = subst IsWhole (sym come.ends) whole;
       written = come.written ∙ (ap (λ z. lines_text Start lines ++ z) nothing ∙ append-nil (lines_text Start lines));
     }
+
+-- ONE OF THE TWO
+
+abbrev pub IsCertificateOrBad : List ℕ → Type 0
+IsCertificateOrBad bytes = ((lines : List Line) × IsCertificate bytes lines) ⊎ ((number : ℕ) × IsBadLine bytes number)
+
+one_or_not : (n : ℕ) → (n ≡ 1) ⊎ (n ≡ 1 → ⊥)
+one_or_not n = ⊎_elim (λ low. inr (λ e. omega (arith, low, e))) (one_or_more n) (cases_lt n 1)
+  where
+    one_or_more : (n : ℕ) → 1 ≤ n → (n ≡ 1) ⊎ (n ≡ 1 → ⊥)
+    one_or_more n some = ⊎_elim (λ low. inl (omega (arith, low, some))) (λ high. inr (λ e. omega (arith, high, e))) (cases_lt n 2)
+
+whole_or_not : (stage : Stage) → IsWhole stage ⊎ (IsWhole stage → ⊥)
+whole_or_not Start = inr (λ h. h)
+whole_or_not (Binding names context) = inr (λ h. h)
+whole_or_not (Proving names count unused) = one_or_not (length unused)
+
+shorter : (text behind rest : List ℕ) (room : ℕ) → rest ≡ text ++ 10 ∷ behind → length rest ≤ suc room → length behind ≤ room
+shorter text behind rest room e low =
+    let both : length rest ≡ length text + suc (length behind) = ap length e ∙ length-append text (10 ∷ behind) in
+    omega (arith, both, low)
+
+-- where nothing is left
+at_end : (bytes : List ℕ) (lines : List Line) (stage : Stage) → Come Start bytes lines stage [] → IsCertificateOrBad bytes
+at_end bytes lines stage come =
+    ⊎_elim (λ whole. inl (lines, whole-there bytes lines stage [] come whole refl))
+    (λ missing. inr (suc (length lines), bad-end bytes lines stage [] (suc (length lines)) come missing refl refl))
+    (whole_or_not stage)
+
+-- where something is left: no line is read, or it goes on behind the one that is
+at_line : (bytes : List ℕ) (lines : List Line) (stage : Stage) (rest : List ℕ) → Come Start bytes lines stage rest → StageOk stage
+    → (rest ≡ [] → ⊥) → ((line : Line) (behind : List ℕ) → next_line stage rest ≡ Got line behind → IsCertificateOrBad bytes)
+    → (found : Found Line) → next_line stage rest ≡ found → IsCertificateOrBad bytes
+at_line bytes lines stage rest come ok some further Wrong e =
+    inr (suc (length lines), bad-there bytes lines stage rest (suc (length lines)) come ok e some refl)
+at_line bytes lines stage rest come ok some further (Got line behind) e = further line behind e
+
+from_there : (room : ℕ) (bytes : List ℕ) (lines : List Line) (stage : Stage) (rest : List ℕ) → length rest ≤ room
+    → Come Start bytes lines stage rest → StageOk stage → IsCertificateOrBad bytes
+from_there zero bytes lines stage [] low come ok = at_end bytes lines stage come
+from_there zero bytes lines stage (b ∷ bs) low come ok = absurd (omega (arith, low))
+from_there (suc room) bytes lines stage [] low come ok = at_end bytes lines stage come
+from_there (suc room) bytes lines stage (b ∷ bs) low come ok =
+    at_line bytes lines stage (b ∷ bs) come ok (λ e. cc)
+    (λ line behind h.
+    let given = next_line_gives stage (b ∷ bs) line behind ok h in
+    let more = come-read Start bytes lines stage (b ∷ bs) line behind come ok h in
+    from_there room bytes (lines ++ line ∷ []) (behind_line stage line) behind (shorter (line_text stage line) behind (b ∷ bs) room given.1 low)
+    more.0 more.1)
+    (next_line stage (b ∷ bs)) refl
+
+pub certificate_or_bad_line : (bytes : List ℕ) → IsCertificateOrBad bytes
+certificate_or_bad_line bytes = from_there (length bytes) bytes [] Start bytes (omega arith) (come-nowhere Start bytes) tt

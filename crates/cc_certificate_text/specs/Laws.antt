@@ -1,5 +1,5 @@
 -- The laws of certificates.
-use Rattle.std.specs.Prelude.{◌≡◌, ℕ, List}
+use Rattle.std.specs.Prelude.{◌≡◌, ◌⊎◌, ℕ, List}
 use Rattle.cc_certificate_text.specs.Certificates.{Line, IsCertificate, IsBadLine}
 
 -- bytes are the text of one certificate at most
@@ -14,3 +14,8 @@ NeverACertificateAndABadLine =
 -- one line at most is the bad one
 abbrev pub BytesHaveOneBadLine : Type 0
 BytesHaveOneBadLine = (bytes : List ℕ) (m n : ℕ) → IsBadLine bytes m → IsBadLine bytes n → m ≡ n
+
+-- bytes are a certificate, or one of their lines is the bad one
+abbrev pub BytesAreACertificateOrHaveABadLine : Type 0
+BytesAreACertificateOrHaveABadLine =
+    (bytes : List ℕ) → ((lines : List Line) × IsCertificate bytes lines) ⊎ ((number : ℕ) × IsBadLine bytes number)
