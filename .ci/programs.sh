@@ -1,17 +1,25 @@
 #!/usr/bin/env bash
-# Runs the built program and compares its standard output, its standard error and its exit status with what they must be.
+# Runs the built programs and compares their standard output, their standard error and their exit status with what they
+# must be.
 # It prints a line for each failure and a closing line where there is one, and nothing where all is as it must be.
-# Usage: .ci/programs.sh [PROGRAM ..]; with no program, those that `rt ci` leaves.
+# Usage: .ci/programs.sh [PROGRAM ..]; with no program, those that `rt ci` leaves, and those that judge certificates.
 set -u
 shopt -s lastpipe
 top=$(cd "$(dirname "$0")/.." && pwd)
 built=$top/crates/capc/out/capc
+judge=$top/crates/certify/out/certify
+judges=()
 if [ $# -eq 0 ]; then
     if [ ! -x "$built" ]; then
         (cd "$top/crates/capc" && rt run < stdin > /dev/null 2>&1)
     fi
     set -- "$built"
     [ -x "$built.by-rattle" ] && set -- "$built" "$built.by-rattle"
+    if [ ! -x "$judge" ]; then
+        (cd "$top/crates/certify" && rt run < stdin > /dev/null 2>&1)
+    fi
+    judges=("$judge")
+    [ -x "$judge.by-rattle" ] && judges=("$judge" "$judge.by-rattle")
 fi
 
 work=$(mktemp -d) || exit 1
@@ -78,6 +86,59 @@ signatures() {
 verdict() {
     module "$@"
     echo check
+}
+
+# repeated TEXT COUNT: the text so many times
+repeated() {
+    [ "$2" -gt 0 ] && printf "${1//%/%%}%.0s" $(seq "$2")
+}
+
+# numbered FORMAT COUNT: the format with each of so many numbers from 0 on
+numbered() {
+    [ "$2" -gt 0 ] && printf "$1" $(seq 0 $(($2 - 1)))
+}
+
+# widened OPENING CLOSING LEFT RIGHT: the certificate of a variable that is widened to its own type, whose shape is a unit
+# between the opening and the closing, and stands between the left and the right where it has a set
+widened() {
+    local shape=$1Unit$2 type=$3$1Unit$2$4^{a}
+    printf '%s\n' 'cert 1' "bind a: $shape" 'term a' "1 t-var [] : $type" '2 elem [] {a} <: {a}' \
+        '3 set [2] {a} <: {a}' "4 refl [] $shape <: $shape" "5 capt [3 4] $type <: $type" "6 t-sub [1 5] : $type"
+}
+
+# types NAME OPENING CLOSING LEFT RIGHT: such a certificate of the greatest height is valid
+types() {
+    widened "$2" "$3" "$4" "$5" | run
+    expect "$1" 0 "valid $4$2Unit$3$5^{a}\n" ''
+}
+
+# lets_in_bodies COUNT: the certificate of a unit under so many lets
+lets_in_bodies() {
+    printf 'cert 1\nterm %sunit\n' "$(numbered 'let _%d = unit in ' "$1")"
+    for number in $(seq $(($1 + 1))); do echo "$number t-lit [] : Unit"; done
+    for level in $(seq "$1"); do
+        echo "$(($1 + 1 + level)) t-let [$(($1 + 1 - level)) $(($1 + level))] : Unit"
+    done
+}
+
+# lets_in_right_sides COUNT: that of a unit behind so many lets, each the right side of the next
+lets_in_right_sides() {
+    printf 'cert 1\nterm %sunit%s\n1 t-lit [] : Unit\n' "$(repeated 'let _0 = ' "$1")" "$(repeated ' in unit' "$1")"
+    for level in $(seq "$1"); do
+        printf '%d t-lit [] : Unit\n%d t-let [%d %d] : Unit\n' $((2 * level)) $((2 * level + 1)) \
+            $((2 * level - 1)) $((2 * level))
+    done
+}
+
+# functions_in_bodies COUNT: that of so many functions around a unit, each widened to the greatest shape
+functions_in_bodies() {
+    printf 'cert 1\nterm %sunit\n1 t-lit [] : Unit\n' "$(numbered 'fun (_%d: Unit) => ' "$1")"
+    printf '%s\n' '2 set [] {} <: {}' '3 top [] Unit <: Any' '4 capt [2 3] Unit <: Any' '5 t-sub [1 4] : Any'
+    for level in $(seq "$1"); do
+        local at=$((5 * level)) type="(_$(($1 - level)): Unit) -> Any"
+        printf '%s\n' "$((at + 1)) t-abs [$at] : $type" "$((at + 2)) set [] {} <: {}" "$((at + 3)) top [] $type <: Any" \
+            "$((at + 4)) capt [$((at + 2)) $((at + 3))] $type <: Any" "$((at + 5)) t-sub [$((at + 1)) $((at + 4))] : Any"
+    done
 }
 
 jobs=$top/examples
@@ -216,6 +277,49 @@ for program; do
     timeout 120 "$program" < "$jobs/accepted.job" >&- 2> "$work/err"
     echo $? > "$work/status"
     expect 'no standard output' 4 '' 'capc: write fault\n'
+done
+
+# Depth is tried on a stack of 8 MB.
+ulimit -S -s 8192
+for program in "${judges[@]}"; do
+    if [ ! -x "$program" ]; then
+        failed=$((failed + 1))
+        echo "FAILED $program: there is no such program"
+        continue
+    fi
+
+    # Certificates, whole and changed.
+    identity=$'cert 1\nterm fun (_0: Unit) => _0\n1 t-var [] : Unit^{_0}\n2 t-abs [1] : (_0: Unit) -> Unit^{_0}'
+    echo "$identity" | run
+    expect 'a certificate' 0 'valid (_0: Unit) -> Unit^{_0}\n' ''
+    echo "${identity/Unit^{_0\}/Unit}" | run
+    expect 'a node that breaks its rule' 1 'bad node 1\n' ''
+    echo "${identity/\[1\]/[2]}" | run
+    expect 'a line that does not fit' 1 'bad line 4\n' ''
+    run < /dev/null
+    expect 'no line' 1 'bad line 1\n' ''
+    run < /
+    expect 'a read of a certificate that fails' 2 '' 'certify: read fault\n'
+
+    # Types and terms as high as they may be, and one higher.
+    types 'functions in results' "$(numbered '(_%d: Unit) -> ' 4999)" '' '(' ')'
+    types 'functions in parameters' "$(repeated '(_0: ' 4999)" "$(repeated ') -> Unit' 4999)" '(' ')'
+    types 'boxes' "$(repeated 'Box[' 4999)" "$(repeated ']' 4999)" '' ''
+    types 'exits' "$(repeated 'Exit[' 4999)" "$(repeated ']' 4999)" '' ''
+    types 'type functions in results' "$(numbered '[_T%d <: Any] -> ' 4999)" '' '(' ')'
+    types 'type functions in bounds' "$(repeated '[_T0 <: ' 4999)" "$(repeated '] -> Unit' 4999)" '(' ')'
+    types 'boxes of functions with sets' "$(repeated '(_0: Box[(' 2499)(_0: " ") -> Unit$(repeated ')^{cap}]) -> Unit' 2499)" \
+        '(' ')'
+    widened "$(repeated 'Box[' 5000)" "$(repeated ']' 5000)" '' '' | run
+    expect 'a type that is too high' 1 'bad line 2\n' ''
+    lets_in_bodies 4999 | run
+    expect 'lets in bodies' 0 'valid Unit\n' ''
+    lets_in_bodies 5000 | run
+    expect 'a term that is too high' 1 'bad line 2\n' ''
+    lets_in_right_sides 4999 | run
+    expect 'lets in right sides' 0 'valid Unit\n' ''
+    functions_in_bodies 4999 | run
+    expect 'functions in bodies' 0 'valid Any\n' ''
 done
 
 if [ "$failed" -gt 0 ]; then
