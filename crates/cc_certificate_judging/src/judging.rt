@@ -14,7 +14,7 @@ ghost use Rattle.cc_certificate_judging.specs.Judging.{NodeTree, listed, read_tr
 ghost use Rattle.cc_certificate_judging.specs.PassViews.{kinds_in};
 
 use crate::error::JudgeError;
-use crate::passes::{build, read_nodes};
+use crate::passes::{Held, build, read_nodes};
 use cc_base::name::Name;
 use cc_certificate_reading::{Cert, CertNode};
 use cc_core::{Bind, Ctx, Node, Ty};
@@ -42,13 +42,18 @@ fn context_of_binds(alloc: Global, binds: &[(Name, Ty)]) -> Result<Ctx, AllocErr
     Ok(ctx)
 }
 
-// The derivation that the nodes are, read in the context.
-fn derivation_of(alloc: Global, ctx: &Ctx, nodes: &[CertNode]) -> Result<Rc<Der>, AllocError>
+// The derivation that the nodes are, read in the context. Each node of it is held.
+fn derivation_of(
+    alloc: Global,
+    ctx: &Ctx,
+    nodes: &[CertNode],
+    held: &mut Held,
+) -> Result<Rc<Der>, AllocError>
     requires { (tree : NodeTree) × (listed 0 tree ≡ map node_of nodes.now) }
     ensures { IfOk result (λ der. (tree : NodeTree) → listed 0 tree ≡ map node_of nodes.now → der_of der.value ≡ read_tree (length ctx.now) (kinds_in ctx.now) tree) }
 {
     let reads = read_nodes(alloc, ctx, nodes)?;
-    build(alloc, reads)
+    build(alloc, reads, held)
 }
 
 // The type that a derivation concludes, where no node breaks its rule.
@@ -85,8 +90,8 @@ fn answer_for(alloc: Global, ctx: &Ctx, term: &Rc<Node>, der: &Rc<Der>) -> Resul
 /// from the local names on. Nodes in the trees of the premises of a node that does not fit have no place, and break no
 /// rule. Else it fails only for want of memory.
 ///
-/// Nodes are gone through by loops, so the depth of calls grows with the height of terms and types, and not with the
-/// number of nodes.
+/// Nodes are gone through by loops, and dropped by one, so the depth of calls grows with the height of terms and types and
+/// with the number of elements of a set, and not with the number of nodes.
 pub fn judge(alloc: Global, cert: &Cert) -> Result<Ty, JudgeError>
     requires fit { AllFit Start (lines_of cert.now) }
     requires whole { IsWhole (behind_lines Start (lines_of cert.now)) }
@@ -94,6 +99,7 @@ pub fn judge(alloc: Global, cert: &Cert) -> Result<Ty, JudgeError>
     ensures typed { IfOk result (λ ty. HasType (binds_of cert.now) (term_of cert.now.term.value) (type_of ty)) }
 {
     let ctx = context_of_binds(alloc, cert.binds.as_slice())?;
-    let der = derivation_of(alloc, &ctx, cert.nodes.as_slice())?;
+    let mut held = Held::new(alloc);
+    let der = derivation_of(alloc, &ctx, cert.nodes.as_slice(), &mut held)?;
     answer_for(alloc, &ctx, &cert.term, &der)
 }

@@ -25,6 +25,36 @@ pub(crate) struct ReadNode {
     pub(crate) claim: Claim,
 }
 
+/// The nodes that are built, in the order in which they are. They are dropped from the last one on: each before its
+/// premises, which are still held then, so that dropping takes no stack for each node.
+pub(crate) struct Held {
+    nodes: Vec<Rc<Der>>,
+}
+
+impl Held {
+    pub(crate) fn new(alloc: Global) -> Held {
+        Held {
+            nodes: Vec::new(alloc),
+        }
+    }
+
+    // Holds the node too.
+    fn hold(&mut self, node: &Rc<Der>) -> Result<(), AllocError> {
+        self.nodes.push(node.clone()?)?;
+        Ok(())
+    }
+}
+
+impl Drop for Held {
+    fn drop(self) {
+        let Held { nodes } = self;
+        let mut left = nodes;
+        while let Some(node) = left.pop() {
+            drop(node);
+        }
+    }
+}
+
 // The node, as it is read at the place where the entries are in scope.
 fn read_node(alloc: Global, names: u32, ctx: &Ctx, node: &CertNode) -> Result<ReadNode, AllocError>
     ensures { IfOk result (λ read. plain_read read ≡ read_at names (kinds_in ctx.now) (node_of node.now)) }
@@ -80,8 +110,12 @@ fn take_premises(
     Ok(premises)
 }
 
-/// The derivation that the nodes build, which stand with the last one first.
-pub(crate) fn build(alloc: Global, reads: Vec<ReadNode>) -> Result<Rc<Der>, AllocError>
+/// The derivation that the nodes build, which stand with the last one first. Each node of it is held.
+pub(crate) fn build(
+    alloc: Global,
+    reads: Vec<ReadNode>,
+    held: &mut Held,
+) -> Result<Rc<Der>, AllocError>
     requires { (root : Derivation) × Builds [] (reverse (map plain_read reads.items)) root }
     ensures { IfOk result (λ root. Builds [] (reverse (map plain_read reads.items)) (der_of root.value)) }
 {
@@ -90,14 +124,16 @@ pub(crate) fn build(alloc: Global, reads: Vec<ReadNode>) -> Result<Rc<Der>, Allo
     while let Some(node) = left.pop() {
         let ReadNode { rule, count, claim } = node;
         let premises = take_premises(alloc, count, &mut built)?;
-        built.push(Rc::new(
+        let made = Rc::new(
             alloc,
             Der {
                 rule,
                 claim,
                 premises,
             },
-        )?)?;
+        )?;
+        held.hold(&made)?;
+        built.push(made)?;
     }
     match built.pop() {
         Some(root) => Ok(root),

@@ -314,3 +314,40 @@ fn lets(rt: HostRuntime) -> Result<(), Fail> {
     assert!(rt; stops_at(alloc, lets_in_right_sides(alloc, 5001)?, 2)?);
     Ok(())
 }
+
+// A chain of comparisons, each the first premise of the next, under a node that is not for the term.
+fn first_premises(alloc: Global, count: u32) -> Result<String, AllocError> {
+    let mut text = format!(in alloc; "cert 1\nterm unit\n1 refl [] Unit <: Unit\n")?;
+    for level in 0..count {
+        let first = level.saturating_mul(2).saturating_add(1);
+        let second = first.saturating_add(1);
+        let whole = first.saturating_add(2);
+        let nodes = format!(in alloc; "{second} refl [] Unit <: Unit\n{whole} tran [{first} {second}] Unit <: Unit\n")?;
+        text.push_str(&nodes)?;
+    }
+    let first = count.saturating_mul(2).saturating_add(1);
+    let second = first.saturating_add(1);
+    let whole = first.saturating_add(2);
+    let nodes = format!(in alloc; "{second} t-lit [] : Unit\n{whole} t-let [{first} {second}] : Unit\n")?;
+    text.push_str(&nodes)?;
+    Ok(text)
+}
+
+// So many literals, all premises of one more.
+fn many_premises(alloc: Global, count: u32) -> Result<String, AllocError> {
+    let literals = numbered(alloc, "", 1, count, " t-lit [] : Unit\n")?;
+    let premises = numbered(alloc, "", 1, count.saturating_sub(1), " ")?;
+    let whole = count.saturating_add(1);
+    format!(in alloc; "cert 1\nterm unit\n{literals}{whole} t-lit [{premises}{count}] : Unit\n")
+}
+
+// The number of nodes takes no stack, neither where they are judged nor where they are dropped.
+#[test]
+fn many_nodes(rt: HostRuntime) -> Result<(), Fail> {
+    let alloc = rt.alloc();
+    let chain = first_premises(alloc, 49_990)?;
+    assert_eq!(rt; shown(alloc, &chain)?.as_str(), "bad node 99983");
+    let wide = many_premises(alloc, 99_990)?;
+    assert_eq!(rt; shown(alloc, &wide)?.as_str(), "bad node 99991");
+    Ok(())
+}

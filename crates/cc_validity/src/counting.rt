@@ -13,13 +13,12 @@ use std::rc::Rc;
 fn wait_above(premises: &Premises, waiting: &mut Vec<Rc<Der>>) -> Result<(), AllocError>
     ensures { OnOk result (map (λ d. der_of d.value) waiting.new.items ≡ map (λ d. der_of d.value) waiting.old.items ++ premise_list (premises_of premises.now)) }
 {
-    match premises {
-        Premises::End => Ok(()),
-        Premises::More(first, rest) => {
-            waiting.push(first.clone()?)?;
-            wait_above(rest, &mut *waiting)
-        }
+    let mut left = premises;
+    while let Premises::More(first, rest) = left {
+        waiting.push(first.clone()?)?;
+        left = &**rest;
     }
+    Ok(())
 }
 
 /// How many nodes the derivation has. A part that is shared counts at each of its places. Fails only for want of memory.

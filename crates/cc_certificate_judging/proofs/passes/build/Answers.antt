@@ -21,9 +21,9 @@ loop-node-init c = build_start (λ d. der_of d.value) plain_read c.args.reads.it
 pub loop-node-preserved : goal.loop-node-preserved
 loop-node-preserved c =
     build_step (λ d. der_of d.value) plain_read (reverse (map plain_read c.args.reads.items)) c.loop-node.built.items c.take_premises.new.built.items c.push.new.self.items
-    c.loop-node.left.items c.pop.new.self.items c.in-Some.node (premises_of c.in_ok-premises.premises) c.in_ok-new.field-0
+    c.loop-node.left.items c.pop.new.self.items c.in-Some.node (premises_of c.in_ok-premises.premises) c.in_ok-made.made
     c.in-Some.ensures.items c.in_ok-premises.ensures.taken c.in_ok-premises.ensures.count c.in_ok-push.ensures.items
-    (ap der_of c.in_ok-new.ensures.ok) c.loop-node.invariant
+    (ap der_of c.in_ok-made.ensures.ok) c.loop-node.invariant
 
 pub returns : goal.returns
 returns c =
