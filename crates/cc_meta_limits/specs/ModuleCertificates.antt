@@ -10,6 +10,8 @@ use Rattle.cc_core.specs.Programs.{definition_context, own_context}
 use Rattle.cc_core.specs.Terms.{Term}
 use Rattle.cc_core.specs.Views.{type_of}
 use Rattle.cc_grammar.specs.Syntax.{ImportSyntax}
+use Rattle.cc_job.specs.Jobs.{IsJob}
+use Rattle.cc_job.specs.declared.job.Job.{Job}
 use Rattle.cc_mnf.specs.CoreModules.{device_names}
 use Rattle.cc_mnf.specs.ElaborationLaws.{import_names}
 use Rattle.cc_sets.specs.DerivationSizes.{nodes}
@@ -98,6 +100,10 @@ pub record StandsInModule (devices : List DeviceDecl) (imports : List ImportSynt
 pub record AreNamed (devices : List DeviceDecl) : Type 0 where
   pub named : AllByRecursion IsName (device_names devices)
   pub apart : NamesOfDevicesDiffer devices
+
+-- The devices of a job are so.
+abbrev pub DevicesOfJobsAreNamed : Type 0
+DevicesOfJobsAreNamed = (bytes : List ℕ) (job : Job) → IsJob bytes job → AreNamed job.devices
 
 -- Each definition of an accepted module whose canonical derivation has at most 100,000 nodes has a right certificate.
 abbrev pub DefinitionsOfModulesAreCertified : Type 0

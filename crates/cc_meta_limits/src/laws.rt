@@ -26,9 +26,11 @@ pub fn signatures_of_modules_are_low()
 {}
 
 /// Each definition of an accepted module has a right certificate, where its canonical derivation has few enough nodes:
-/// what is written is a certificate, is read back, and is judged to have the type that others see.
+/// what is written is a certificate, is read back, and is judged to have the type that others see. Its context is that of
+/// the definition in a program, and the devices of a job are named as is asked here.
 pub fn modules_have_certificates()
     ensures modules { certificate_law.DefinitionsOfModulesAreCertified }
     ensures present { certificate_law.DefinitionsOfPresentTextsAreCertified }
     ensures contexts { certificate_law.ContextsAreThoseOfPrograms }
+    ensures devices { certificate_law.DevicesOfJobsAreNamed }
 {}

@@ -1,6 +1,12 @@
 use Rattle.cc_meta_limits.proofs.CertifiedModules.{modules_certified, present_certified}
+use Rattle.cc_meta_limits.proofs.JobDevices.{job_devices_named}
 use Rattle.cc_meta_limits.proofs.ProgramContexts.{contexts_of_programs}
 use Rattle.cc_meta_limits.proofs.laws.modules_have_certificates.Goals as goal
 
 pub returns : goal.returns
-returns c = record { modules = modules_certified; present = present_certified; contexts = contexts_of_programs }
+returns c = record {
+  modules = modules_certified;
+  present = present_certified;
+  contexts = contexts_of_programs;
+  devices = job_devices_named;
+}
