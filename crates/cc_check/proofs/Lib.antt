@@ -1,3 +1,4 @@
+pub mod AvoidedTogether
 pub mod CheckedLogs
 pub mod CheckedTypes
 pub mod JudgedDefinitions

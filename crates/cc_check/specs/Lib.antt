@@ -1,4 +1,4 @@
 pub mod Definitions
 pub mod Judging
 pub mod Rows
-pub mod Signing
+pub mod SignedParts

@@ -8,6 +8,7 @@ mod holes;
 mod plain;
 mod recursive;
 mod signature;
+mod signing;
 
 pub use definition::{check_def, check_next};
 pub use error::CheckError;

@@ -1,14 +1,12 @@
 //! The type that others see.
 
-ghost use Rattle.std.specs.Prelude.{◌≡◌, Some, None, IfOk, MatchOption, option_map};
+ghost use Rattle.std.specs.Prelude.{◌≡◌, IfOk, option_map};
 ghost use Rattle.cc_core.specs.Views.{shape_of, type_of, context_of};
-ghost use Rattle.cc_core.specs.WellFormed.{IsWellFormedContext, IsWellFormedType};
-ghost use Rattle.cc_meta_checking.specs.FillingLaws.{AreGlobals};
+ghost use Rattle.cc_core.specs.WellFormed.{IsWellFormedContext};
 ghost use Rattle.cc_sets.specs.Verdicts.{signature_of};
 ghost use Rattle.cc_type.specs.Signatures as plain;
-ghost use Rattle.cc_check.specs.Signing.{IsNearer};
 
-use cc_avoid::{AvoidError, avoid};
+use crate::signing::sign_whole;
 use cc_capture::{CapSet, Elem, Var};
 use cc_core::{Ctx, Shape, Ty};
 use std::alloc::{AllocError, Global};
@@ -16,52 +14,23 @@ use std::alloc::{AllocError, Global};
 /// The type that others see of a definition of the type: each position from the first definition on is avoided, the
 /// greatest first. There is none where a position is free in a bound or in the shape of an exit.
 ///
-/// Only the positions that occur are avoided. Fails only for want of memory.
+/// The type is gone over once. Fails only for want of memory.
 pub(crate) fn signature(
     alloc: Global,
     ctx: &Ctx,
     devices: u32,
     ty: &Ty,
 ) -> Result<Option<Ty>, AllocError>
-    requires context { IsWellFormedContext (context_of ctx.now) }
-    requires globals { AreGlobals (context_of ctx.now) }
-    requires ty { IsWellFormedType (context_of ctx.now) (type_of ty.now) }
+    requires { IsWellFormedContext (context_of ctx.now) }
     ensures { IfOk result (λ t. option_map type_of t ≡ signature_of devices (context_of ctx.now) (type_of ty.now)) }
 {
-    let mut seen = ty.clone()?;
-    while let Some(position) = greatest_position(devices, &seen) {
-        match avoid_greatest(alloc, ctx, devices, position, &seen)? {
-            Some(next) => seen = next,
-            None => return Ok(None),
-        }
-    }
-    Ok(Some(seen))
+    let signed = sign_whole(alloc, ctx, devices, ty)?;
+    Ok(signed)
 }
 
-// The type in which the greatest position is avoided, if it can be.
-fn avoid_greatest(
-    alloc: Global,
-    ctx: &Ctx,
-    devices: u32,
-    position: u32,
-    ty: &Ty,
-) -> Result<Option<Ty>, AllocError>
-    requires context { IsWellFormedContext (context_of ctx.now) }
-    requires globals { AreGlobals (context_of ctx.now) }
-    requires ty { IsWellFormedType (context_of ctx.now) (type_of ty.now) }
-    requires greatest { plain.greatest_position devices (type_of ty.now) ≡ Some position }
-    ensures { IfOk result (λ t. MatchOption t (signature_of devices (context_of ctx.now) (type_of ty.now) ≡ None) (λ t. IsNearer devices (context_of ctx.now) (type_of ty.now) (type_of t))) }
-{
-    match avoid(alloc, ctx, position, ty) {
-        Ok(next) => Ok(Some(next)),
-        Err(AvoidError::Unavoidable) => Ok(None),
-        Err(AvoidError::NoMemory) => Err(AllocError),
-    }
-}
-
-/// The greatest position that is free in the type, from the first one on. It takes no memory.
+// The greatest position that is free in the type, from the first one on. It takes no memory.
 #[cycle(positions)]
-pub(crate) fn greatest_position(first: u32, ty: &Ty) -> Option<u32>
+fn greatest_position(first: u32, ty: &Ty) -> Option<u32>
     ensures { result ≡ plain.greatest_position first (type_of ty.now) }
 {
     greater_of(
@@ -70,9 +39,9 @@ pub(crate) fn greatest_position(first: u32, ty: &Ty) -> Option<u32>
     )
 }
 
-// The same of a shape.
+/// The same of a shape.
 #[cycle(positions)]
-fn greatest_in(first: u32, shape: &Shape) -> Option<u32>
+pub(crate) fn greatest_in(first: u32, shape: &Shape) -> Option<u32>
     ensures { result ≡ plain.greatest_in first (shape_of shape.now) }
 {
     match shape {
@@ -92,8 +61,8 @@ fn greatest_in(first: u32, shape: &Shape) -> Option<u32>
     }
 }
 
-// The same of a set.
-fn greatest_in_set(first: u32, set: &CapSet) -> Option<u32>
+/// The same of a set.
+pub(crate) fn greatest_in_set(first: u32, set: &CapSet) -> Option<u32>
     ensures { result ≡ plain.greatest_in_set first set.now }
 {
     let mut greatest = None;

@@ -32,7 +32,7 @@ or_no true b e f = cc
 or_no false b e f = f
 
 -- a position that is neither in the declared set nor in what is avoided stays away
-away_set : (sign : Sign) (p q : ℕ) (d c : Set) → has_position q d ≡ false → has_position q c ≡ false
+pub away_set : (sign : Sign) (p q : ℕ) (d c : Set) → has_position q d ≡ false → has_position q c ≡ false
     → has_position q (avoided_set sign p d c) ≡ false
 away_set Negative p q d c no_d no_c =
     not_true (contains (Variable (Free q)) (remove (Variable (Free p)) c))
@@ -93,7 +93,7 @@ away_type p q d apart t r h e =
     (ap (has_position q) (sym parts.1) ∙ away_set Positive p q d t.set apart k.1)
 
 -- the declared set of an entry names older entries alone
-older_alone : (g : Context) (p : ℕ) (s : Shape) (d : Set) → IsKindedContext g → lookup g p ≡ Some (TermEntry s d)
+pub older_alone : (g : Context) (p : ℕ) (s : Shape) (d : Set) → IsKindedContext g → lookup g p ≡ Some (TermEntry s d)
     → (q : ℕ) → p ≤ q → has_position q d ≡ false
 older_alone [] p s d formed there q le = cc
 older_alone (b ∷ g) p s d formed there q le =
@@ -151,7 +151,7 @@ alike_next : {A B : Type 0} (f g : A → Option B) (o : Option A) → ((a : A) �
 alike_next f g None same = refl
 alike_next f g (Some a) same = same a refl
 
-not_below : (n m : ℕ) → m ≤ n → nat_lt n m ≡ false
+pub not_below : (n m : ℕ) → m ≤ n → nat_lt n m ≡ false
 not_below n m le = not_true (nat_lt n m) (λ is. let less : n < m = ltb-true n m is in absurd (omega arith))
 
 avoided_first : (devices : ℕ) (g : Context) (t : CapturingType) (p : ℕ) (s : Shape) (d : Set) → devices ≤ p
@@ -199,7 +199,7 @@ signature_avoids_the_greatest devices g t p s d formed known is there =
     let k = greatest_some devices t p is in
     avoided_first devices g t p s d k.0 k.2 (λ r e. greatest_gone g t r p s d formed known k.2 there e) there
 
-height_below : (first : ℕ) (f : ℕ → Bool) (o : Option ℕ) (p : ℕ) → IsGreatest first f o
+pub height_below : (first : ℕ) (f : ℕ → Bool) (o : Option ℕ) (p : ℕ) → IsGreatest first f o
     → ((q : ℕ) → p ≤ q → f q ≡ false) → height_of o < suc p
 height_below first f None p k none = omega arith
 height_below first f (Some q) p k none =

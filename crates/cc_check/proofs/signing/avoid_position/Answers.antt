@@ -1,0 +1,10 @@
+use Rattle.std.proofs.Common.{sym, ◌∙◌}
+use Rattle.cc_avoid.proofs.AvoidingAnswers.{set_kept}
+use Rattle.cc_check.specs.SignedParts.{sign_of}
+use Rattle.cc_check.proofs.signing.avoid_position.Goals as goal
+
+pub returns-then-not-contains : goal.returns-then-not-contains
+returns-then-not-contains c =
+    c.in_ok-others.ensures.cases
+    ∙ set_kept (sign_of c.args.sign) c.args.position c.args.declared.now c.args.set.now
+    (sym c.contains.ensures ∙ c.if-not-contains.true)
