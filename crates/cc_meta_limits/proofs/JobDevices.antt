@@ -1,5 +1,5 @@
 -- The devices of a job have names, which differ.
-use Rattle.std.proofs.Common.{◌≡◌, ℕ, List, [], ◌∷◌, ◌++◌, map}
+use Rattle.std.proofs.Common.{List, [], ◌∷◌, ◌++◌, map}
 use Rattle.std.specs.List.{AllByRecursion}
 use Rattle.cc_base.specs.Names.{IsName}
 use Rattle.cc_base.specs.declared.device.DeviceDecl.{DeviceDecl}

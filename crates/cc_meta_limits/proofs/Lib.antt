@@ -11,3 +11,4 @@ pub mod LowTerms
 pub mod ProgramContexts
 pub mod SpelledTexts
 pub mod TextDefinitions
+pub mod WorkedModule

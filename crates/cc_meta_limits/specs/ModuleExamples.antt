@@ -9,8 +9,8 @@ use Rattle.cc_grammar.specs.Syntax.{ImportSyntax}
 use Rattle.cc_sets.specs.ExampleChecks.{place}
 use Rattle.cc_sets.specs.Verdicts.{Accepted}
 use Rattle.cc_meta_modules.specs.ExampleModules.{console, named}
-use Rattle.cc_meta_modules.specs.ModuleVerdicts.{FoundDefinition, CheckedDefinition}
-use Rattle.cc_meta_limits.specs.ModuleCertificates.{context_behind, names_behind}
+use Rattle.cc_meta_modules.specs.ModuleVerdicts.{FoundDefinition, CheckedDefinition, IsAccepted, HasModuleVerdict}
+use Rattle.cc_meta_limits.specs.ModuleCertificates.{context_behind, names_behind, IsCertified}
 
 -- import m.d
 abbrev import_of_d : ImportSyntax
@@ -40,3 +40,12 @@ pub context_of_g : (imported : CapturingType) (first own : Accepted)
     → context_behind console (FoundDefinition imported ∷ []) (named (codes "a") first ∷ []) (named (codes "g") own)
     ≡ entry_of first.signature ∷ entry_of imported ∷ device_entry bases.Console ∷ []
 context_of_g imported first own = refl
+
+-- def a = 1
+-- It is accepted, and has a right certificate.
+abbrev pub ANumberIsCertified : Type 0
+ANumberIsCertified =
+    (accepted : Accepted)
+    × HasModuleVerdict console (codes "def a = 1") [] (IsAccepted (named (codes "a") accepted ∷ []))
+    × IsCertified (names_behind console [] [] (named (codes "a") accepted))
+    (context_behind console [] [] (named (codes "a") accepted)) accepted

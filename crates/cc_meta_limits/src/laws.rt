@@ -1,6 +1,7 @@
 //! The functions do nothing. Their contracts are theorems.
 ghost use Rattle.cc_meta_limits.specs.LimitLaws as law;
 ghost use Rattle.cc_meta_limits.specs.ModuleCertificates as certificate_law;
+ghost use Rattle.cc_meta_limits.specs.ModuleExamples as example;
 ghost use Rattle.cc_meta_limits.specs.ModuleLimits as module_law;
 ghost use Rattle.cc_meta_limits.specs.TextLimits as text_law;
 
@@ -26,11 +27,16 @@ pub fn signatures_of_modules_are_low()
 {}
 
 /// Each definition of an accepted module has a right certificate, where its canonical derivation has few enough nodes:
-/// what is written is a certificate, is read back, and is judged to have the type that others see. Its context is that of
-/// the definition in a program, and the devices of a job are named as is asked here.
+/// what is written is a certificate, is read back, and is judged to have the type that others see. Its context is that
+/// of the definition in a program, and the devices of a job are named as is asked here.
 pub fn modules_have_certificates()
     ensures modules { certificate_law.DefinitionsOfModulesAreCertified }
     ensures present { certificate_law.DefinitionsOfPresentTextsAreCertified }
     ensures contexts { certificate_law.ContextsAreThoseOfPrograms }
     ensures devices { certificate_law.DevicesOfJobsAreNamed }
+{}
+
+/// A text whose definition has a right certificate.
+pub fn worked_certificate()
+    ensures { example.ANumberIsCertified }
 {}
