@@ -42,7 +42,7 @@ fn context_of_binds(alloc: Global, binds: &[(Name, Ty)]) -> Result<Ctx, AllocErr
     Ok(ctx)
 }
 
-// The derivation that the nodes are, read in the context. Each node of it is held.
+// The derivation that the nodes are, read in the context. Each part of it is held.
 fn derivation_of(
     alloc: Global,
     ctx: &Ctx,

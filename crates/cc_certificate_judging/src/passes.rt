@@ -25,32 +25,45 @@ pub(crate) struct ReadNode {
     pub(crate) claim: Claim,
 }
 
-/// The nodes that are built, in the order in which they are. They are dropped from the last one on: each before its
-/// premises, which are still held then, so that dropping takes no stack for each node.
+// A node of a derivation, or the list of a node's premises from one of them on.
+#[derive(Drop)]
+enum Part {
+    Node(Rc<Der>),
+    Rest(Rc<Premises>),
+}
+
+/// The parts of a derivation, in the order in which they are built. They are dropped from the last one on: each before the
+/// parts that it has, which are still held then, so that dropping takes no stack for each node.
 pub(crate) struct Held {
-    nodes: Vec<Rc<Der>>,
+    parts: Vec<Part>,
 }
 
 impl Held {
     pub(crate) fn new(alloc: Global) -> Held {
         Held {
-            nodes: Vec::new(alloc),
+            parts: Vec::new(alloc),
         }
     }
 
     // Holds the node too.
     fn hold(&mut self, node: &Rc<Der>) -> Result<(), AllocError> {
-        self.nodes.push(node.clone()?)?;
+        self.parts.push(Part::Node(node.clone()?))?;
+        Ok(())
+    }
+
+    // Holds the rest of a list of premises too.
+    fn hold_rest(&mut self, rest: &Rc<Premises>) -> Result<(), AllocError> {
+        self.parts.push(Part::Rest(rest.clone()?))?;
         Ok(())
     }
 }
 
 impl Drop for Held {
     fn drop(self) {
-        let Held { nodes } = self;
-        let mut left = nodes;
-        while let Some(node) = left.pop() {
-            drop(node);
+        let Held { parts } = self;
+        let mut left = parts;
+        while let Some(part) = left.pop() {
+            drop(part);
         }
     }
 }
@@ -90,11 +103,12 @@ pub(crate) fn read_nodes(
     Ok(reads)
 }
 
-// The last derivations, so many, as premises in their order.
+// The last derivations, so many, as premises in their order. Each list of them is held.
 fn take_premises(
     alloc: Global,
     count: usize,
     built: &mut Vec<Rc<Der>>,
+    held: &mut Held,
 ) -> Result<Premises, AllocError>
     requires { count ≤ length built.old.items }
     ensures count { IfOk result (λ p. length (premise_list (premises_of p)) ≡ count) }
@@ -105,12 +119,14 @@ fn take_premises(
         let Some(last) = built.pop() else {
             unreachable!()
         };
-        premises = Premises::More(last, Rc::new(alloc, premises)?);
+        let rest = Rc::new(alloc, premises)?;
+        held.hold_rest(&rest)?;
+        premises = Premises::More(last, rest);
     }
     Ok(premises)
 }
 
-/// The derivation that the nodes build, which stand with the last one first. Each node of it is held.
+/// The derivation that the nodes build, which stand with the last one first. Each part of it is held.
 pub(crate) fn build(
     alloc: Global,
     reads: Vec<ReadNode>,
@@ -123,7 +139,7 @@ pub(crate) fn build(
     let mut built = Vec::new(alloc);
     while let Some(node) = left.pop() {
         let ReadNode { rule, count, claim } = node;
-        let premises = take_premises(alloc, count, &mut built)?;
+        let premises = take_premises(alloc, count, &mut built, &mut *held)?;
         let made = Rc::new(
             alloc,
             Der {

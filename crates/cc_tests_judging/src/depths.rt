@@ -322,13 +322,17 @@ fn first_premises(alloc: Global, count: u32) -> Result<String, AllocError> {
         let first = level.saturating_mul(2).saturating_add(1);
         let second = first.saturating_add(1);
         let whole = first.saturating_add(2);
-        let nodes = format!(in alloc; "{second} refl [] Unit <: Unit\n{whole} tran [{first} {second}] Unit <: Unit\n")?;
+        let nodes = format!(in alloc;
+            "{second} refl [] Unit <: Unit\n{whole} tran [{first} {second}] Unit <: Unit\n"
+        )?;
         text.push_str(&nodes)?;
     }
     let first = count.saturating_mul(2).saturating_add(1);
     let second = first.saturating_add(1);
     let whole = first.saturating_add(2);
-    let nodes = format!(in alloc; "{second} t-lit [] : Unit\n{whole} t-let [{first} {second}] : Unit\n")?;
+    let nodes = format!(in alloc;
+        "{second} t-lit [] : Unit\n{whole} t-let [{first} {second}] : Unit\n"
+    )?;
     text.push_str(&nodes)?;
     Ok(text)
 }

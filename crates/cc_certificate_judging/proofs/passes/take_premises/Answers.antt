@@ -11,8 +11,8 @@ unreachable-requires c =
 
 pub loop-preserved : goal.loop-preserved
 loop-preserved c =
-    let same = ap (λ p. premise_list (premises_of p)) c.in_ok-new.ensures.ok in
-    let counted : length (premise_list (premises_of c.in_ok-new.field-0.value)) ≡ c.loop.counter = ap length same ∙ c.loop.invariant.count in
+    let same = ap (λ p. premise_list (premises_of p)) c.in_ok-rest.ensures.ok in
+    let counted : length (premise_list (premises_of c.in_ok-rest.rest.value)) ≡ c.loop.counter = ap length same ∙ c.loop.invariant.count in
     record {
       count = omega (arith, counted);
       taken = taken_more (λ d. der_of d.value) c.args.built.now.items c.loop.built.items c.pop.new.self.items c.in-Some.last (premise_list (premises_of c.loop.premises)) _ c.loop.invariant.taken c.in-Some.ensures.items same;

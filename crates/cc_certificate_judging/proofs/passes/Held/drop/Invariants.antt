@@ -1,5 +1,5 @@
 use Rattle.std.proofs.Common.{length}
 use Rattle.cc_certificate_judging.proofs.passes.Held.drop.Given as goal
 
-abbrev pub decreases-loop-node : goal.decreases-loop-node
-decreases-loop-node l = length l.left.items
+abbrev pub decreases-loop-part : goal.decreases-loop-part
+decreases-loop-part l = length l.left.items
