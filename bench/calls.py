@@ -1,10 +1,10 @@
 """Prints how long one call takes, for each of the calls named, at the full and at half the size.
 
 A test makes the call once, another ten, a hundred or a thousand times: one call takes the difference of their times over
-that number less one, so neither the start of the process counts nor what the tests prepare. Times are those of the processor, and of several runs the
-shortest is taken. It fails where a test does not pass.
-Usage: calls.py PROGRAM RUNS SIZE TIMES WORDS=TESTS .. for tests named TESTS_SIZE_once and TESTS_SIZE_a_TIMES_times (_ten_times for ten), where
-TIMES is ten, hundred or thousand
+that number less one, so neither the start of the process counts nor what the tests prepare. Times are those of the
+processor, and of several runs the shortest is taken. It fails where a test does not pass.
+Usage: calls.py PROGRAM RUNS SIZE TIMES WORDS=TESTS .. where TIMES is ten, hundred or thousand, for tests named
+TESTS_SIZE_once and TESTS_SIZE_ten_times, TESTS_SIZE_a_hundred_times or TESTS_SIZE_a_thousand_times
 """
 import resource
 import subprocess
@@ -31,12 +31,14 @@ def shortest(program, runs, test):
 
 
 program, runs, size, times, calls = sys.argv[1], int(sys.argv[2]), int(sys.argv[3]), sys.argv[4], sys.argv[5:]
-more = {'ten': 9, 'hundred': 99, 'thousand': 999}[times]
+more, often_called = {
+    'ten': (9, 'ten_times'), 'hundred': (99, 'a_hundred_times'), 'thousand': (999, 'a_thousand_times')
+}[times]
 for call in calls:
     words, tests = call.split('=')
     took = []
     for count in (size, size // 2):
         once = shortest(program, runs, '%s_%d_once' % (tests, count))
-        often = shortest(program, runs, '%s_%d_%s%s_times' % (tests, count, '' if times == 'ten' else 'a_', times))
+        often = shortest(program, runs, '%s_%d_%s' % (tests, count, often_called))
         took.append((often - once) / more * 1e6)
     print('%s: %.1f microseconds a call for %d, %.1f for %d' % (words, took[0], size, took[1], size // 2))
