@@ -20,6 +20,5 @@ pub mod NewestVariables
 pub mod RememberedInstances
 pub mod RepeatedDemands
 pub mod SettledTests
-pub mod SignatureSteps
 pub mod StandingTerms
 pub mod WalkedParts
