@@ -3,7 +3,7 @@ use Rattle.std.proofs.Common.{◌≡◌, ℕ, suc, ◌<◌, ◌≤◌, Bool, tru
 use Rattle.std.proofs.Common.{refl, sym, ap, ◌∙◌, subst, inl, inr, arith}
 use Rattle.std.specs.Prelude.{nat_lt}
 use Rattle.std.specs.Option.{option_map, option_and_then}
-use Rattle.std.proofs.lemmas.Bool.{cases_lt, cases_eq, ltb-true, ltb-false, both_ways}
+use Rattle.std.proofs.lemmas.Bool.{cases_eq, ltb-false, both_ways}
 use Rattle.cc_capture.specs.declared.var.Var.TheVariants.{Free}
 use Rattle.cc_capture.specs.declared.var.Elem.TheVariants.{Var as Variable}
 use Rattle.cc_capture.specs.Sets.{Set, contains, remove, union}

@@ -4,5 +4,6 @@ pub mod CheckedTypes
 pub mod JudgedDefinitions
 pub mod JudgedResults
 pub mod LoggedSteps
+pub mod NothingFilled
 pub mod SignedTypes
 pub mod StandingDefinitions

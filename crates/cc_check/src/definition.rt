@@ -175,6 +175,16 @@ fn decide(
     }
 }
 
+// The type with its holes filled. Where there is nothing to fill them with it is not gone over.
+fn with_holes_filled(alloc: Global, ty: Ty, sets: &[CapSet]) -> Result<Ty, AllocError>
+    ensures { IfOk result (λ t. type_of t ≡ filled_type (filled_by sets.now) (type_of ty)) }
+{
+    if sets.is_empty() {
+        return Ok(ty);
+    }
+    fill_type(alloc, &ty, sets)
+}
+
 // The verdict where all that was asked is served: the signature decides.
 fn accept(
     alloc: Global,
@@ -197,7 +207,7 @@ fn accept(
     } = found;
     let note = fill_note(alloc, &note, sets)?;
     let filled = fill_term(alloc, &completed, sets)?;
-    let ty = fill_type(alloc, &ty, sets)?;
+    let ty = with_holes_filled(alloc, ty, sets)?;
     match signature_unless(alloc, ctx, devices, &ty, settled)? {
         Some(sig) => Ok(Checked {
             note,

@@ -1,5 +1,6 @@
 pub mod AvoidedGreatest
 pub mod CheckedHoles
+pub mod ClosingWithout
 pub mod FilledAlike
 pub mod FormedParts
 pub mod FoundHoles

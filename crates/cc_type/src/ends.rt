@@ -7,6 +7,7 @@ ghost use Rattle.cc_core.specs.Captured as captured;
 ghost use Rattle.cc_core.specs.Captured.{captured_variables};
 ghost use Rattle.cc_core.specs.Occurrences as occurrences;
 ghost use Rattle.cc_core.specs.Sizes.{type_size};
+ghost use Rattle.cc_core.specs.Substitution.{closed_type};
 ghost use Rattle.cc_core.specs.Terms.{Boundary};
 ghost use Rattle.cc_core.specs.Views.{shape_of, type_of, note_of, form_of, term_of, context_of};
 ghost use Rattle.cc_core.specs.WellFormed.{IsWellFormedContext, IsWellFormedType};
@@ -32,12 +33,24 @@ use cc_base::code::Code;
 use cc_base::place::Place;
 use cc_capture::{CapSet, Elem, Var};
 use cc_core::captured::{is_value, without_binder};
-use cc_core::occurrences::occurs_in_shape;
+use cc_core::occurrences::{occurs_in_shape, occurs_in_type};
 use cc_core::reading::{read_set, read_shape, read_type, write_set};
 use cc_core::substitution::close_type;
 use cc_core::{Ctx, Form, Node, Note, Shape, Ty};
 use std::alloc::{AllocError, Global};
 use std::rc::Rc;
+
+// The type with the newest position under its binder. One that does not name it is shared: to see that takes less than
+// to go over it and build.
+fn closed(alloc: Global, ctx: &Ctx, ty: &Ty) -> Result<Ty, AllocError>
+    ensures { IfOk result (λ t. type_of t ≡ closed_type (length (context_of ctx.now)) (type_of ty.now)) }
+{
+    if occurs_in_type(entries(ctx), ty) {
+        return close_type(alloc, ty, entries(ctx));
+    }
+    let same = ty.clone()?;
+    Ok(same)
+}
 
 // The type of a function: what it takes and gives, and what its body captures.
 fn function_type(
@@ -49,7 +62,7 @@ fn function_type(
 ) -> Result<Ty, AllocError>
     ensures { IfOk result (λ t. type_of t ≡ function_type (context_of ctx.now) (type_of takes) (type_of gives.now) captured.now) }
 {
-    let gives = Rc::new(alloc, close_type(alloc, gives, entries(ctx))?)?;
+    let gives = Rc::new(alloc, closed(alloc, ctx, gives)?)?;
     let shape = Rc::new(alloc, Shape::Fun(Rc::new(alloc, takes)?, gives))?;
     let set = read_set(alloc, captured, entries(ctx))?;
     Ok(Ty { shape, set })
@@ -88,7 +101,7 @@ fn type_function_type(
 ) -> Result<Ty, AllocError>
     ensures { IfOk result (λ t. type_of t ≡ type_function_type (context_of ctx.now) (shape_of bound.value) (type_of gives.now) captured.now) }
 {
-    let gives = Rc::new(alloc, close_type(alloc, gives, entries(ctx))?)?;
+    let gives = Rc::new(alloc, closed(alloc, ctx, gives)?)?;
     let shape = Rc::new(alloc, Shape::TFun(bound, gives))?;
     let set = read_set(alloc, captured, entries(ctx))?;
     Ok(Ty { shape, set })
