@@ -90,9 +90,7 @@ fn is_variable_alike(ctx: &Ctx, other: &Ctx, right: &CapSet, variable: Var) -> b
         return true;
     }
     match variable {
-        Var::Free(position) => {
-            are_declared_alike(right, ctx.get(position), other.get(position))
-        }
+        Var::Free(position) => { are_declared_alike(right, ctx.get(position), other.get(position)) }
         Var::Bound(_) => false,
     }
 }
