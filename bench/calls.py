@@ -3,8 +3,8 @@
 A test makes the call once, another ten, a hundred or a thousand times: one call takes the difference of their times over
 that number less one, so neither the start of the process counts nor what the tests prepare. Times are those of the
 processor, and of several runs the shortest is taken. It fails where a test does not pass.
-Usage: calls.py PROGRAM RUNS SIZE TIMES WORDS=TESTS .. where TIMES is ten, hundred or thousand, for tests named
-TESTS_SIZE_once and TESTS_SIZE_ten_times, TESTS_SIZE_a_hundred_times or TESTS_SIZE_a_thousand_times
+Usage: calls.py PROGRAM RUNS SIZE TIMES WORDS=TESTS .. for tests named TESTS_SIZE_once and TESTS_SIZE_a_TIMES_times, where
+TIMES is hundred or thousand; where it is ten, the second is TESTS_SIZE_ten_times
 """
 import resource
 import subprocess
