@@ -1,0 +1,5 @@
+//! Tests of solving: many omitted sets that flow into each other.
+#![tactic(auto)]
+
+#[cfg(test)]
+mod flows;
