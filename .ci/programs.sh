@@ -289,6 +289,8 @@ for program in "${judges[@]}"; do
     fi
 
     # Certificates, whole and changed.
+    run < "$jobs/identity.cert"
+    expect 'the example of a certificate' 0 'valid (_0: Unit) -> Unit^{_0}\n' ''
     identity=$'cert 1\nterm fun (_0: Unit) => _0\n1 t-var [] : Unit^{_0}\n2 t-abs [1] : (_0: Unit) -> Unit^{_0}'
     echo "$identity" | run
     expect 'a certificate' 0 'valid (_0: Unit) -> Unit^{_0}\n' ''
