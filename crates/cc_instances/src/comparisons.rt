@@ -171,21 +171,24 @@ fn are_below(
 ) -> Result<bool, AllocError>
     ensures { IfOk result (λ b. b ≡ plain.same_claims (claims_of (premises_of premises.now)) (map (λ e. SetBelow (single e) right.now) (drop index left.now.list))) }
 {
-    match element_at(left, index) {
-        None => match premises {
-            Premises::End => Ok(true),
-            Premises::More(_, _) => Ok(false),
-        },
-        Some(elem) => match premises {
-            Premises::End => Ok(false),
-            Premises::More(first, rest) => {
+    let mut at = index;
+    let mut others = premises;
+    while let Premises::More(first, rest) = others {
+        match element_at(left, at) {
+            None => return Ok(false),
+            Some(elem) => {
                 let set = single(alloc, elem)?;
-                let holds = claims_sets(&first.claim, &set, right);
-                let next = index.checked_add(1).ok_or(AllocError)?;
-                let others = are_below(alloc, left, next, right, rest)?;
-                Ok(holds && others)
+                if !claims_sets(&first.claim, &set, right) {
+                    return Ok(false);
+                }
+                at = at.checked_add(1).ok_or(AllocError)?;
+                others = &**rest;
             }
-        },
+        }
+    }
+    match element_at(left, at) {
+        None => Ok(true),
+        Some(_) => Ok(false),
     }
 }
 
