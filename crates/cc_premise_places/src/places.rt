@@ -20,10 +20,27 @@ pub enum Spot {
 
 /// A list of places, in order.
 #[cycle(spots)]
-#[derive(Drop)]
 pub enum Spots {
     /// There is none, or none that is left.
     End,
     /// One, and those behind it.
     More(Spot, Rc<Spots>),
+}
+
+// A long list is dropped by a loop.
+impl Drop for Spots {
+    fn drop(mut self) {
+        loop {
+            match self {
+                Spots::End => return,
+                Spots::More(first, rest) => {
+                    drop(first);
+                    match Rc::into_inner(rest) {
+                        Some(inner) => self = inner,
+                        None => return,
+                    }
+                }
+            }
+        }
+    }
 }

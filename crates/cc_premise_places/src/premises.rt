@@ -355,15 +355,14 @@ pub fn typing_places(
 fn each(alloc: Global, ctx: &Ctx, set: &CapSet, index: usize) -> Result<Spots, AllocError>
     ensures { IfOk result (λ s. places_of s ≡ map (λ e. plain.SetsBelow (context_of ctx.now)) (drop index set.now.list)) }
 {
-    match element_at(set, index) {
-        None => Ok(Spots::End),
-        Some(_) => {
-            let first = sets(ctx)?;
-            let next = index.checked_add(1).ok_or(AllocError)?;
-            let rest = each(alloc, ctx, set, next)?;
-            Ok(Spots::More(first, Rc::new(alloc, rest)?))
-        }
+    let mut spots = Spots::End;
+    let mut at = index;
+    while let Some(_) = element_at(set, at) {
+        let first = sets(ctx)?;
+        spots = Spots::More(first, Rc::new(alloc, spots)?);
+        at = at.checked_add(1).ok_or(AllocError)?;
     }
+    Ok(spots)
 }
 
 // The place of the premise of a variable that stands alone on the left.
