@@ -48,18 +48,21 @@ fn wait_for(
 ) -> Result<(), AllocError>
     ensures { OnOk result (map standing_of waiting.new.items ≡ map standing_of waiting.old.items ++ standing_among (places_of places.now) (premises_of premises.now)) }
 {
-    match premises {
-        Premises::End => Ok(()),
-        Premises::More(first, rest) => match places {
-            Spots::End => Ok(()),
-            Spots::More(place, others) => {
+    let mut spots = places;
+    let mut left = premises;
+    while let Spots::More(place, others) = spots {
+        match left {
+            Premises::End => return Ok(()),
+            Premises::More(first, rest) => {
                 let spot = same_place(place)?;
                 let der = first.clone()?;
                 waiting.push(Waiting { spot, der })?;
-                wait_for(others, rest, &mut *waiting)
+                spots = &**others;
+                left = &**rest;
             }
-        },
+        }
     }
+    Ok(())
 }
 
 // A node is judged by itself. Its premises wait where they have places; else its nodes are passed with it.
