@@ -118,7 +118,7 @@ pub enum Command {
     Derive(Name, Name),
     /// A module's definition is run, for at most so many steps.
     Run(Name, Name, u32),
-    /// Definitions are run together by a schedule, each for at most so many steps.
+    /// Definitions are run together by a schedule, for at most so many steps in all.
     Tasks(u32, Schedule, EntryList),
 }
 
