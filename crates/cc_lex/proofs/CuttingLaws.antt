@@ -102,10 +102,10 @@ cut-is p o text = rw add-zero at (cut-IsCut text 0 p o)
 
 -- a text that is cut is found so
 
-found-none : (p : Place) (o c : ℕ) (cs : List ℕ) → blank_of c cs ≡ None → token_of p o c cs ≡ None → cut 0 p o (c ∷ cs) ≡ stop p
+pub found-none : (p : Place) (o c : ℕ) (cs : List ℕ) → blank_of c cs ≡ None → token_of p o c cs ≡ None → cut 0 p o (c ∷ cs) ≡ stop p
 found-none p o c cs b t = rw (b, t) refl
 
-token_of-none : (p : Place) (o c : ℕ) (cs : List ℕ) → front_of c cs ≡ None → token_of p o c cs ≡ None
+pub token_of-none : (p : Place) (o c : ℕ) (cs : List ℕ) → front_of c cs ≡ None → token_of p o c cs ≡ None
 unfolding token_of
 token_of-none p o c cs e = ap (spelled_front p o c cs) e
 
@@ -144,6 +144,13 @@ only-too_great p o text b = rw b.front (great-at p o b.cs b.after b.longest b.to
 cut-behind : (ds after : List ℕ) (p : Place) (o : ℕ) → cut (length ds) p o (ds ++ after) ≡ cut 0 (place_past p ds) (o + byte_count ds) after
 cut-behind [] after p o = rw add-zero refl
 cut-behind (d ∷ ds) after p o = cut-behind ds after (place_after p d) (o + length (encode_utf8 d)) ∙ ap (λ i. cut 0 (place_past p (d ∷ ds)) i after) (sym (offset-cons o d ds))
+
+-- what is found where n characters more belong to what stands before
+pub cut-jump : (cs : List ℕ) (n : ℕ) (p : Place) (o : ℕ) → cut n p o cs ≡ cut 0 (place_past p (take n cs)) (o + byte_count (take n cs)) (drop n cs)
+cut-jump [] zero p o = refl
+cut-jump [] (suc n) p o = refl
+cut-jump (c ∷ cs) zero p o = rw add-zero refl
+cut-jump (c ∷ cs) (suc n) p o = cut-jump cs n (place_after p c) (o + length (encode_utf8 c)) ∙ ap (λ i. cut 0 (place_past p (c ∷ take n cs)) i (drop n cs)) (sym (offset-cons o c (take n cs)))
 
 -- what is found behind the first character, where all of cs belongs to what begins there
 cut-past : (p : Place) (o c : ℕ) (es after : List ℕ) → cut (length es) (place_after p c) (o + length (encode_utf8 c)) (es ++ after) ≡ cut 0 (place_past p (c ∷ es)) (o + byte_count (c ∷ es)) after

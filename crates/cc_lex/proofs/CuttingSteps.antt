@@ -1,60 +1,90 @@
 -- The loop over a text: the tokens so far, and what is found in the rest.
-use Rattle.std.proofs.Common.{◌≡◌, ℕ, zero, suc, ◌+◌, ◌-◌, ◌<◌, List, [], ◌∷◌, ◌++◌, drop, length, get_or, refl, sym, ap, ◌∙◌, arith, Some, None, encode_utf8, encode_utf8_all, append_assoc, sub-one}
-use Rattle.std.specs.Str.{chars, IsUtf8, all_scalars}
-use Rattle.std.proofs.lemmas.Str.{encodes-chars, scalars-chars}
-use Rattle.std.proofs.lemmas.List.{drop_more, append-nil}
+use Rattle.std.proofs.Common.{◌≡◌, ℕ, zero, suc, ◌+◌, ◌-◌, ◌<◌, ◌≤◌, List, [], ◌∷◌, ◌++◌, take, drop, length, map, refl, sym, ap, ◌∙◌, arith, Option, Some, None, Result, Ok, Err, encode_utf8, append_assoc, append-nil, length-drop, take-append-drop}
+use Rattle.std.specs.Str.{chars, IsUtf8, IsCharBoundary}
+use Rattle.std.proofs.lemmas.Str.{chars_past_char, IsUtf8-past_char}
 use Rattle.cc_base.specs.declared.place.Place.{Place}
-use Rattle.cc_lex.specs.Lexical.{place_after, place_past, start, byte_count, SpannedLexeme}
-use Rattle.cc_lex.specs.Cutting.{blank_of, token_of, Cutting, cut}
-use Rattle.cc_lex.proofs.TextSlices.{GoesOn, goes_on-past}
+use Rattle.cc_lex.specs.declared.error.LexError.{LexError}
+use Rattle.cc_lex.specs.declared.error.LexError.TheVariants.{Refused, NoMemory}
+use Rattle.cc_lex.specs.declared.size.Size.{Size}
+use Rattle.cc_lex.specs.Lexical.{place_after, place_past, start, byte_count, SpannedLexeme, ToTheEnd}
+use Rattle.cc_lex.specs.Cutting.{blank_of, token_of, spanned_front, Cutting, cut, stop, size_of, sized, joined, columns_past, Finds, FindsFront, Gives}
+use Rattle.cc_lex.proofs.CuttingLaws.{cut-jump, found-none}
+use Rattle.cc_lex.proofs.TextFronts.{IsBehind, behind-front, chars-none, length-past}
+use Rattle.cc_lex.proofs.Sizes.{sized-blank, sized-no_blank}
+use Rattle.cc_lex.proofs.InLines.{token-in_line, blank-in_line, place-in_line, place-append}
 
--- tokens, and what is found behind them
-abbrev pub joined : List SpannedLexeme → Cutting → Cutting
-joined ts found = record { tokens = ts ++ found.tokens; extent = found.extent }
+-- what begins with c
 
--- The loop stands before the character at i, of which n more belong to what has begun: the tokens so far and those of the
--- rest are all of them, the rest ends where the text does, and begins at the offset.
-pub record StandsAt (text cs : List ℕ) (ts : List SpannedLexeme) (n : ℕ) (p : Place) (o i : ℕ) : Type 0 where
-  pub found : joined ts (cut n p o (drop i cs)) ≡ cut 0 start 0 cs
-  pub end : place_past p (drop i cs) ≡ place_past start cs
-  pub text_here : GoesOn text o (drop i cs)
+pub front-blank : (p : Place) (o c : ℕ) (cs : List ℕ) (ts : List SpannedLexeme) (blank : Option Size) (more : Size) → blank ≡ sized cs (blank_of c cs) → blank ≡ Some more → FindsFront p o c cs ts (Ok more) ts
+front-blank p o c cs ts blank more e h =
+    let found = sized-blank c cs blank more e h in
+    (found.1, blank-in_line c cs more.characters found.0, rw found.0 refl)
 
-pub here-is : (cs : List ℕ) (i c : ℕ) → i < length cs → c ≡ get_or cs i c → drop i cs ≡ c ∷ drop (i + 1) cs
-here-is cs i c l e = drop_more cs i c l ∙ ap (λ x. x ∷ drop (i + 1) cs) (sym e)
+pub front-token : (p : Place) (o c : ℕ) (cs : List ℕ) (ts us : List SpannedLexeme) (t : SpannedLexeme) (more : Size) → None ≡ sized cs (blank_of c cs) → token_of p o c cs ≡ Some (t, more.characters) → more ≡ size_of (take more.characters cs) → us ≡ ts ++ t ∷ [] → FindsFront p o c cs ts (Ok more) us
+front-token p o c cs ts us t more e found size new =
+    let none = sized-no_blank c cs e in
+    (size, token-in_line p o c cs t more.characters found, rw (none, found, new, append_assoc) refl)
 
--- what the rest is cut into, from the next character on
-abbrev pub Goes : List SpannedLexeme → ℕ → Place → ℕ → ℕ → List ℕ → List SpannedLexeme → ℕ → Type 0
-Goes ts n p o c cs us m = joined ts (cut n p o (c ∷ cs)) ≡ joined us (cut m (place_after p c) (o + length (encode_utf8 c)) cs)
+pub front-none : (p : Place) (o c : ℕ) (cs : List ℕ) (ts us : List SpannedLexeme) (error : LexError) → None ≡ sized cs (blank_of c cs) → Finds spanned_front p (Err error) (token_of p o c cs) → FindsFront p o c cs ts (Err error) us
+front-none p o c cs ts us (Refused diag) e found = (found.1, found-none p o c cs (sized-no_blank c cs e) found.0)
+front-none p o c cs ts us NoMemory e found = tt
 
-pub step : (text cs : List ℕ) (ts us : List SpannedLexeme) (n m : ℕ) (p q : Place) (o k i c : ℕ) → StandsAt text cs ts n p o i → i < length cs → c ≡ get_or cs i c → Goes ts n p o c (drop (i + 1) cs) us m → q ≡ place_after p c → k ≡ o + length (encode_utf8 c) → StandsAt text cs us m q k (i + 1)
-step text cs ts us n m p q o k i c at l e goes places offsets =
-    let here = here-is cs i c l e in
-    let rest : GoesOn text o ((c ∷ []) ++ drop (i + 1) cs) = rw here at at.text_here in
-    let one : byte_count (c ∷ []) ≡ length (encode_utf8 c) = ap length (append-nil (encode_utf8 c)) in
-    let past = goes_on-past text o (c ∷ []) (drop (i + 1) cs) rest in
+-- the loop
+
+-- The rest of the text is left: the tokens so far and those of the rest are all of them, and the rest ends where the text
+-- does.
+pub record StandsAt (text : List ℕ) (ts : List SpannedLexeme) (p : Place) (o : ℕ) (rest : List ℕ) : Type 0 where
+  pub found : joined ts (cut 0 p o (chars rest)) ≡ cut 0 start 0 (chars text)
+  pub end : place_past p (chars rest) ≡ place_past start (chars text)
+  pub text_left : IsUtf8 rest
+
+pub begins : (text : List ℕ) (ts : List SpannedLexeme) → IsUtf8 text → ts ≡ [] → StandsAt text ts start 0 text
+begins text ts u none = record { found = rw none refl; end = refl; text_left = u }
+
+-- the text behind what more of it belongs to what begins with c
+pub behind-more : (rest after : List ℕ) (c : ℕ) (more : Size) → IsUtf8 rest → rest ≡ encode_utf8 c ++ after → more ≡ size_of (take more.characters (chars after)) → IsBehind after more.characters more.bytes
+behind-more rest after c more u e size = behind-front after more.characters more.bytes (IsUtf8-past_char rest after c u e) (ap (λ s. s.bytes) size)
+
+pub step :
+    (text : List ℕ) (ts us : List SpannedLexeme) (p q : Place) (o k c : ℕ) (rest after : List ℕ) (more : Size)
+    → StandsAt text ts p o rest → rest ≡ encode_utf8 c ++ after → FindsFront p o c (chars after) ts (Ok more) us
+    → q ≡ columns_past (place_after p c) more.characters → k ≡ (o + length (encode_utf8 c)) + more.bytes
+    → StandsAt text us q k (drop more.bytes after)
+step text ts us p q o k c rest after more at here finds places offsets =
+    let cs = chars after in
+    let n = more.characters in
+    let next = o + length (encode_utf8 c) in
+    let first : chars rest ≡ c ∷ cs = chars_past_char rest after c at.text_left here in
+    let behind = behind-more rest after c more at.text_left here finds.0 in
+    let count : length (take n cs) ≡ n = sym (ap (λ s. s.characters) finds.0) in
+    let size : more.bytes ≡ byte_count (take n cs) = ap (λ s. s.bytes) finds.0 in
+    let place : place_past (place_after p c) (take n cs) ≡ q = place-in_line (place_after p c) (take n cs) finds.1 ∙ (ap (columns_past (place_after p c)) count ∙ sym places) in
+    let offset : next + byte_count (take n cs) ≡ k = ap (λ m. next + m) (sym size) ∙ sym offsets in
+    let jump : cut n (place_after p c) next cs ≡ cut 0 q k (chars (drop more.bytes after)) = cut-jump cs n (place_after p c) next ∙ (ap (λ r. cut 0 r (next + byte_count (take n cs)) (drop n cs)) place ∙ (ap (λ i. cut 0 q i (drop n cs)) offset ∙ ap (cut 0 q k) (sym behind.behind))) in
+    let ends : place_past q (chars (drop more.bytes after)) ≡ place_past p (c ∷ cs) = ap (place_past q) behind.behind ∙ (ap (λ r. place_past r (drop n cs)) (sym place) ∙ (place-append (place_after p c) (take n cs) (drop n cs) ∙ ap (place_past (place_after p c)) (take-append-drop n cs))) in
     record {
-      found = rw (places, offsets) (sym goes ∙ (ap (λ xs. joined ts (cut n p o xs)) (sym here) ∙ at.found));
-      end = rw places (ap (place_past p) (sym here) ∙ at.end);
-      text_here = rw (offsets, ← one) past;
+      found = ap (joined us) (sym jump) ∙ (sym finds.2 ∙ (ap (λ xs. joined ts (cut 0 p o xs)) (sym first) ∙ at.found));
+      end = ends ∙ (ap (place_past p) (sym first) ∙ at.end);
+      text_left = behind.text_behind;
     }
 
-pub goes-skip : (ts : List SpannedLexeme) (n : ℕ) (p : Place) (o c : ℕ) (cs : List ℕ) → 0 < n → Goes ts n p o c cs ts (n - 1)
-goes-skip ts zero p o c cs l = absurd (omega arith)
-goes-skip ts (suc n) p o c cs l = rw sub-one refl
+pub smaller : (rest after : List ℕ) (c k : ℕ) → rest ≡ encode_utf8 c ++ after → length (drop k after) < length rest
+smaller rest after c k e =
+    let less = length-past rest after c e in
+    let left = length-drop k after in
+    omega arith
 
-pub goes-blank : (ts : List SpannedLexeme) (n : ℕ) (p : Place) (o c m : ℕ) (cs : List ℕ) → n ≡ 0 → Some m ≡ blank_of c cs → Goes ts n p o c cs ts m
-goes-blank ts n p o c m cs e b = rw (e, ← b) refl
+pub gives-end : (text rest : List ℕ) (p : Place) (o : ℕ) (ts : List SpannedLexeme) → StandsAt text ts p o rest → length rest ≡ 0 → cut 0 start 0 (chars text) ≡ record { tokens = ts; extent = ToTheEnd }
+gives-end text rest p o ts at e =
+    let none = chars-none rest e in
+    sym at.found ∙ (ap (λ cs. joined ts (cut 0 p o cs)) none ∙ ap (λ us. record { tokens = us; extent = ToTheEnd }) (append-nil ts))
 
-pub goes-token : (ts : List SpannedLexeme) (n : ℕ) (p : Place) (o c m : ℕ) (cs : List ℕ) (t : SpannedLexeme) → n ≡ 0 → None ≡ blank_of c cs → token_of p o c cs ≡ Some (t, m) → Goes ts n p o c cs (ts ++ t ∷ []) m
-goes-token ts n p o c m cs t e b h = rw (e, ← b, h, append_assoc) refl
+pub ends-there : (text rest : List ℕ) (ts : List SpannedLexeme) (p : Place) (o : ℕ) → StandsAt text ts p o rest → length rest ≡ 0 → p ≡ place_past start (chars text)
+ends-there text rest ts p o at e = ap (place_past p) (sym (chars-none rest e)) ∙ at.end
 
-pub begins : (text cs : List ℕ) (ts : List SpannedLexeme) → IsUtf8 text → cs ≡ chars text → ts ≡ [] → StandsAt text cs ts 0 start 0 0
-begins text cs ts u e none =
-    record {
-      found = rw none refl;
-      end = refl;
-      text_here = (sym (encodes-chars text u) ∙ ap encode_utf8_all (sym e), ap all_scalars e ∙ scalars-chars text u);
-    }
-
-pub goes-to : (ts : List SpannedLexeme) (n : ℕ) (p : Place) (o c : ℕ) (cs : List ℕ) (us vs : List SpannedLexeme) (m k : ℕ) → vs ≡ us → k ≡ m → Goes ts n p o c cs us m → Goes ts n p o c cs vs k
-goes-to ts n p o c cs us vs m k e f h = rw (e, f) h
+pub gives-error : (text rest after : List ℕ) (ts us : List SpannedLexeme) (p : Place) (o c : ℕ) (error : LexError) → StandsAt text ts p o rest → rest ≡ encode_utf8 c ++ after → FindsFront p o c (chars after) ts (Err error) us → Gives (Err error) (cut 0 start 0 (chars text))
+gives-error text rest after ts us p o c (Refused diag) at here finds =
+    let first : chars rest ≡ c ∷ chars after = chars_past_char rest after c at.text_left here in
+    let found : cut 0 start 0 (chars text) ≡ joined ts (stop p) = sym at.found ∙ (ap (λ xs. joined ts (cut 0 p o xs)) first ∙ ap (joined ts) finds.1) in
+    rw finds.0 (refl, ap (λ x. x.extent) found)
+gives-error text rest after ts us p o c NoMemory at here finds = tt

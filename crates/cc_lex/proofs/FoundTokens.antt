@@ -10,9 +10,6 @@ use Rattle.cc_lex.specs.Lexical.{byte_count, spelled_at}
 use Rattle.cc_lex.specs.Cutting.{Front, front_of, spelled_by, spelled_front, token_of, spanned_front, Finds}
 use Rattle.cc_lex.proofs.LongestForms.{front-good}
 
-pub front-within : (c : ℕ) (cs : List ℕ) (o : Option Front) (form : Form) (n : ℕ) → o ≡ front_of c cs → o ≡ Some (form, n) → n ≤ length cs
-front-within c cs o form n e h = (front-good c cs (form, n) (sym e ∙ h)).0
-
 token_of-found : (p : Place) (o c : ℕ) (cs : List ℕ) (form : Form) (n : ℕ) (lexeme : Option Lexeme) → front_of c cs ≡ Some (form, n) → spelled_by form (c ∷ take n cs) ≡ lexeme → token_of p o c cs ≡ option_map (λ x. (spelled_at p o (c ∷ take n cs) x, n)) lexeme
 unfolding token_of
 token_of-found p o c cs form n lexeme e s = ap (spelled_front p o c cs) e ∙ ap (option_map (λ x. (spelled_at p o (c ∷ take n cs) x, n))) s

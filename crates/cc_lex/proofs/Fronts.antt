@@ -26,7 +26,7 @@ run-good p c cs h = both_true (p c) (list_all p (take (prefix_len p cs) cs)) h (
 
 -- strings
 
-cut-at : (cs : List ℕ) (n : ℕ) → first_passes (λ c. c == 34) (drop n cs) ≡ true → (n + 1 ≤ length cs) × (take (n + 1) cs ≡ take n cs ++ 34 ∷ [])
+pub cut-at : (cs : List ℕ) (n : ℕ) → first_passes (λ c. c == 34) (drop n cs) ≡ true → (n + 1 ≤ length cs) × (take (n + 1) cs ≡ take n cs ++ 34 ∷ [])
 cut-at [] zero h = cc
 cut-at [] (suc n) h = cc
 cut-at (c ∷ cs) zero h = (omega arith, ap (λ x. x ∷ []) ((Decides-eqb c 34).0 h))
@@ -90,7 +90,7 @@ first-choice : (c d j : ℕ) (s : Symbol) (here other : Option Symbol) (b : Bool
 first-choice c d j s here other true e now rest h = now ((Decides-eqb c j).0 e) h
 first-choice c d j s here other false e now rest h = rest h
 
-pair-text : (c d : ℕ) (s : Symbol) → pair_symbol c d ≡ Some s → c ∷ d ∷ [] ≡ symbol_text s
+pub pair-text : (c d : ℕ) (s : Symbol) → pair_symbol c d ≡ Some s → c ∷ d ∷ [] ≡ symbol_text s
 unfolding pair_symbol
 pair-text c d s =
     first-choice c d 61 s _ _ (c == 61) refl (λ e. pair-choice c d 61 61 symbols.DoubleEquals s _ (d == 61) e refl refl (pair-choice c d 61 62 symbols.DoubleArrow s _ (d == 62) e refl refl (λ h. cc)))

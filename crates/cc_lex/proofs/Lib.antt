@@ -12,6 +12,10 @@ mod Blanks
 mod Spelling
 pub mod CuttingLaws
 mod TextSlices
+mod AsciiWords
+mod TextFronts
+mod Sizes
+mod InLines
 mod FoundTokens
 mod CuttingSteps
 mod LexAnswers

@@ -1,10 +1,11 @@
 -- A reserved word is ASCII, so its bytes are its code points.
-use Rattle.std.proofs.Common.{◌≡◌, ℕ, zero, suc, Bool, true, ◌&&◌, ltb, List, [], ◌∷◌, refl, sym, ap, ◌∙◌, arith, find}
+use Rattle.std.proofs.Common.{◌≡◌, ℕ, zero, suc, Bool, true, false, cond, ◌&&◌, ◌==◌, ltb, List, [], ◌∷◌, length, refl, sym, ap, ◌∙◌, arith, find, Option, Some}
 use Rattle.std.specs.Str.{bytes_eq, chars, IsUtf8, IsAscii}
 use Rattle.std.proofs.lemmas.Str.{chars-IsAscii, encodes-IsAscii, encodes-chars}
 use Rattle.std.proofs.lemmas.Slice.Eq.{bytes_eq-Decides}
-use Rattle.std.proofs.lemmas.Bool.Decides.{same_from_decides, Decides-ltb}
-use Rattle.cc_lex.proofs.Booleans.{both}
+use Rattle.std.proofs.lemmas.Bool.Decides.{same_from_decides, Decides-ltb, Decides-eqb}
+use Rattle.cc_lex.proofs.Booleans.{both, opposite, if_false}
+use Rattle.cc_lex.specs.declared.token.Word.{Word}
 use Rattle.cc_lex.specs.Forms.{word_text}
 use Rattle.cc_lex.specs.Cutting.{all_words, word_of}
 use lib.Utf8.{encodes}
@@ -40,6 +41,29 @@ module _ {W : Type 0} (text_of : W → List ℕ) where
       let rest = find-chars ws bs each.1 u in
       cc
 
+  -- those with so many letters
+  abbrev pub of_length : ℕ → List W → List W
+  of_length n [] = []
+  of_length n (w ∷ ws) = cond (length (text_of w) == n) (w ∷ of_length n ws) (of_length n ws)
+
+  other-length : (w : W) (bs : List ℕ) (n : ℕ) (b : Bool) → bytes_eq (text_of w) bs ≡ b → length bs ≡ n → length (text_of w) == n ≡ false → b ≡ false
+  other-length w bs n false e l h = refl
+  other-length w bs n true e l h =
+      let same = (bytes_eq-Decides (text_of w) bs).0 e in
+      absurd (opposite (length (text_of w) == n) ((Decides-eqb (length (text_of w)) n).1 (ap length same ∙ l)) h)
+
+  find-with : (w : W) (some all : List W) (bs : List ℕ) (n : ℕ) (b : Bool) → length (text_of w) == n ≡ b → length bs ≡ n → find (λ word. bytes_eq (text_of word) bs) some ≡ find (λ word. bytes_eq (text_of word) bs) all → find (λ word. bytes_eq (text_of word) bs) (cond b (w ∷ some) some) ≡ find (λ word. bytes_eq (text_of word) bs) (w ∷ all)
+  find-with w some all bs n true e l h = ap (λ o. cond (bytes_eq (text_of w) bs) (Some w) o) h
+  find-with w some all bs n false e l h = h ∙ sym (if_false (Some w) (find (λ word. bytes_eq (text_of word) bs) all) (other-length w bs n (bytes_eq (text_of w) bs) refl l e))
+
+  -- a text is none of those with another number of letters
+  pub find-of_length : (ws : List W) (bs : List ℕ) (n : ℕ) → length bs ≡ n → find (λ word. bytes_eq (text_of word) bs) (of_length n ws) ≡ find (λ word. bytes_eq (text_of word) bs) ws
+  find-of_length [] bs n l = refl
+  find-of_length (w ∷ ws) bs n l = find-with w (of_length n ws) ws bs n (length (text_of w) == n) refl l (find-of_length ws bs n l)
+
 pub word_of-chars : (bs : List ℕ) → IsUtf8 bs → find (λ word. bytes_eq (word_text word) bs) all_words ≡ word_of (chars bs)
 unfolding word_of
 word_of-chars bs u = find-chars word_text all_words bs refl u
+
+pub word_of-length : (n : ℕ) (bs : List ℕ) (o : Option Word) → IsUtf8 bs → length bs ≡ n → o ≡ find (λ word. bytes_eq (word_text word) bs) (of_length word_text n all_words) → o ≡ word_of (chars bs)
+word_of-length n bs o u l e = e ∙ (find-of_length word_text all_words bs n l ∙ word_of-chars bs u)

@@ -1,11 +1,11 @@
 -- The tokens of a text, found from its front on, as the program goes. `Forms` and `Lexical` say what they are.
 use Rattle.std.specs.Prelude.{ℕ, zero, suc, ◌+◌, ◌-◌, ◌==◌, ◌&&◌, not, nat_le, ℤ, pos, List, [], ◌∷◌, length, take}
 use Rattle.std.specs.Prelude.{drop, Option, Some, None, find, option_map, Result, Ok, Err, encode_utf8, ◌≡◌}
-use Rattle.std.specs.Prelude.{if◌then◌else◌}
-use Rattle.std.specs.Str.{bytes_eq}
+use Rattle.std.specs.Prelude.{if◌then◌else◌, ◌++◌, Bool, false, IsTrue}
+use Rattle.std.specs.Str.{bytes_eq, chars}
 use Rattle.std.specs.Str.Parse.{digits_value}
 use Rattle.std.specs.Char.{is_ascii_digit}
-use Rattle.std.specs.List.{prefix_len}
+use Rattle.std.specs.List.{prefix_len, list_all}
 use Rattle.unicode_ident.specs.Ident.{is_xid_start, is_xid_continue}
 use Rattle.cc_base.specs.declared.place.Place.{Place}
 use Rattle.cc_base.specs.declared.code.Code.TheVariants.{E02}
@@ -17,14 +17,17 @@ use Rattle.cc_lex.specs.declared.token.Symbol.{Symbol}
 use Rattle.cc_lex.specs.declared.token.Symbol.TheVariants as symbols
 use Rattle.cc_lex.specs.declared.form.Form.{Form}
 use Rattle.cc_lex.specs.declared.form.Form.TheVariants as forms
+use Rattle.cc_lex.specs.declared.size.Size.{Size}
+use Rattle.cc_lex.specs.declared.size.Class.{Class}
+use Rattle.cc_lex.specs.declared.size.Class.TheVariants as classes
 use Rattle.cc_lex.specs.declared.token.Token.{Token}
 use Rattle.cc_lex.specs.declared.token.Tokens.{Tokens}
 use Rattle.cc_lex.specs.declared.error.LexError.{LexError}
 use Rattle.cc_lex.specs.declared.error.LexError.TheVariants.{Refused, NoMemory}
 use Rattle.cc_lex.specs.Lexemes.{Lexeme, NameLexeme, NumberLexeme, TextLexeme, WordLexeme, SymbolLexeme}
 use Rattle.cc_lex.specs.Forms.{word_text, stands_in_string, greatest_number}
-use Rattle.cc_lex.specs.Lexical.{place_after, is_white, SpannedLexeme, spanned_of, spanned_all, spelled_at, Extent}
-use Rattle.cc_lex.specs.Lexical.{ToTheEnd, UpTo}
+use Rattle.cc_lex.specs.Lexical.{place_after, byte_count, is_white, SpannedLexeme, spanned_of, spanned_all, spelled_at}
+use Rattle.cc_lex.specs.Lexical.{Extent, ToTheEnd, UpTo}
 
 -- all reserved words
 abbrev pub all_words : List Word
@@ -176,9 +179,61 @@ Finds view p (Ok x) o = o ≡ Some (view x)
 Finds view p (Err (Refused diag)) o = (o ≡ None) × (diag ≡ no_token p)
 Finds view p (Err NoMemory) o = Unit {0}
 
+-- how the program goes over the bytes of a text
+
+-- the size of a text with these characters
+abbrev pub size_of : List ℕ → Size
+size_of cs = record { characters = length cs; bytes = byte_count cs }
+
+-- the size of so many characters at the front of cs, where there is a count
+abbrev pub sized : List ℕ → Option ℕ → Option Size
+sized cs = option_map (λ n. size_of (take n cs))
+
+-- the same of a form at the front
+abbrev pub sized_front : List ℕ → Option Front → Option (Form × Size)
+sized_front cs = option_map (λ front. (front.0, size_of (take front.1 cs)))
+
+-- the character does not end a line
+abbrev pub stays_in_line : ℕ → Bool
+stays_in_line c = not (c == 10)
+
+-- the characters of a class
+abbrev pub is_in : Class → ℕ → Bool
+is_in classes.Digits = is_ascii_digit
+is_in classes.Words = is_xid_continue
+is_in classes.Strings = stands_in_string
+is_in classes.Lines = stays_in_line
+
+-- the longest front of cs with characters of the class alone
+abbrev pub front_in : Class → List ℕ → List ℕ
+front_in class cs = take (prefix_len (is_in class) cs) cs
+
+-- The answer is what follows the first character of the text, if that is one of the class.
+abbrev pub IsPastOne : Class → List ℕ → Option (List ℕ) → Type 0
+IsPastOne class text (Some rest) = (c : ℕ) × (text ≡ encode_utf8 c ++ rest) × IsTrue (is_in class c)
+IsPastOne class text None = first_passes (is_in class) (chars text) ≡ false
+
+-- the place so many columns further
+abbrev pub columns_past : Place → ℕ → Place
+columns_past p n = record { line = p.line; col = p.col + n }
+
 -- what the program holds of a token, with the count of its characters behind the first
-abbrev pub spanned_front : Token × ℕ → SpannedLexeme × ℕ
-spanned_front front = (spanned_of front.0, front.1)
+abbrev pub spanned_front : Token × Size → SpannedLexeme × ℕ
+spanned_front front = (spanned_of front.0, front.1.characters)
+
+-- tokens, and what is found behind them
+abbrev pub joined : List SpannedLexeme → Cutting → Cutting
+joined ts found = record { tokens = ts ++ found.tokens; extent = found.extent }
+
+-- What begins with c is found at this place and offset, where the tokens ts were found before it. The answer is the size
+-- of what more of cs belongs to it, all in one line, and us are the tokens with it; or no token begins here. Of an answer
+-- for want of memory nothing is said.
+abbrev pub FindsFront : Place → ℕ → ℕ → List ℕ → List SpannedLexeme → Result Size LexError → List SpannedLexeme → Type 0
+FindsFront p o c cs ts (Ok more) us =
+    (more ≡ size_of (take more.characters cs)) × IsTrue (list_all stays_in_line (take more.characters cs))
+    × (joined ts (cut 0 p o (c ∷ cs)) ≡ joined us (cut more.characters (place_after p c) (o + length (encode_utf8 c)) cs))
+FindsFront p o c cs ts (Err (Refused diag)) us = (diag ≡ no_token p) × (cut 0 p o (c ∷ cs) ≡ stop p)
+FindsFront p o c cs ts (Err NoMemory) us = Unit {0}
 
 -- The answer has what is found. Of an answer for want of memory nothing is said.
 abbrev pub Gives : Result Tokens LexError → Cutting → Type 0

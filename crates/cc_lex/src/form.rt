@@ -1,11 +1,10 @@
-ghost use Rattle.std.specs.Prelude.{◌≡◌, ◌==◌, not};
-ghost use Rattle.std.specs.Char.{is_ascii_digit};
-ghost use Rattle.std.specs.List.{prefix_len};
-ghost use Rattle.unicode_ident.specs.Ident.{is_xid_continue};
-ghost use Rattle.cc_lex.specs.Forms.{stands_in_string};
+ghost use Rattle.std.specs.Prelude.{◌≡◌};
+ghost use Rattle.std.specs.Str.{chars};
+ghost use Rattle.unicode_ident.specs.Ident.{is_xid_start};
 ghost use Rattle.cc_lex.specs.Lexical.{is_white};
-ghost use Rattle.cc_lex.specs.Cutting.{short_symbol, pair_symbol, long_symbol, symbol_front, string_front, front_of, blank_of};
+ghost use Rattle.cc_lex.specs.Cutting.{short_symbol, pair_symbol, long_symbol, symbol_front, string_front, front_of, blank_of, sized, sized_front};
 
+use crate::size::{Class, Size, begins_with, size_in};
 use crate::token::Symbol;
 
 /// What a token is cut from, before it is asked which token it is.
@@ -21,78 +20,58 @@ pub enum Form {
     Symbol(Symbol),
 }
 
+#[inline]
 fn is_white(character: char) -> bool
     ensures { result ≡ is_white character }
 {
     character == ' ' || character == '\t' || character == '\r' || character == '\n'
 }
 
-fn line_prefix_len(characters: &[char]) -> usize
-    ensures { result ≡ prefix_len (λ c. not (c == 10)) characters.now }
-{
-    characters
-        .iter()
-        .take_while(|character| **character != '\n')
-        .count()
-}
-
-/// The count of characters behind the first of the white space or the comment at the front of a text, if there is one.
+/// The size of what follows the first character of the white space or the comment at the front of a text, if there is one.
 #[tactic(auto, unfolding(crate::specs::Cutting::blank_of))]
-pub fn blank_of(first: char, after: &[char]) -> Option<usize>
-    ensures { result ≡ blank_of first after.now }
+#[inline]
+pub fn blank_of(first: char, after: &str) -> Option<Size>
+    ensures { result ≡ sized (chars after.now) (blank_of first (chars after.now)) }
 {
     if is_white(first) {
-        Some(0)
-    } else if first == '/' && after.first() == Some(&'/') {
-        Some(line_prefix_len(after))
+        Some(Size {
+            characters: 0,
+            bytes: 0,
+        })
+    } else if first == '/' && begins_with(after, '/') {
+        Some(size_in(Class::Lines, after))
     } else {
         None
     }
 }
 
-fn digit_prefix_len(characters: &[char]) -> usize
-    ensures { result ≡ prefix_len is_ascii_digit characters.now }
+#[inline]
+fn starts_word(character: char) -> bool
+    ensures { result ≡ is_xid_start character }
 {
-    characters
-        .iter()
-        .take_while(|character| character.is_ascii_digit())
-        .count()
-}
-
-fn word_prefix_len(characters: &[char]) -> usize
-    ensures { result ≡ prefix_len is_xid_continue characters.now }
-{
-    characters
-        .iter()
-        .take_while(|character| unicode_ident::is_xid_continue(**character))
-        .count()
-}
-
-fn stands_in_string(character: char) -> bool
-    ensures { result ≡ stands_in_string character }
-{
-    character >= ' ' && !(character == '"' || character == '\\' || character == '\u{7f}')
-}
-
-fn string_prefix_len(characters: &[char]) -> usize
-    ensures { result ≡ prefix_len stands_in_string characters.now }
-{
-    characters
-        .iter()
-        .take_while(|character| stands_in_string(**character))
-        .count()
-}
-
-#[tactic(auto, using(crate::proofs::Prefixes::prefix_within))]
-fn string_front(after: &[char]) -> Option<(Form, usize)>
-    ensures { result ≡ string_front after.now }
-{
-    let more = string_prefix_len(after);
-    if more <= 200 && after[more..].first() == Some(&'"') {
-        Some((Form::Text, more + 1))
+    if character.is_ascii() {
+        character.is_ascii_alphabetic()
     } else {
-        None
+        unicode_ident::is_xid_start(character)
     }
+}
+
+fn string_front(after: &str) -> Option<(Form, Size)>
+    ensures { result ≡ sized_front (chars after.now) (string_front (chars after.now)) }
+{
+    let inside = size_in(Class::Strings, after);
+    if inside.characters > 200 {
+        return None;
+    }
+    let behind = &after[inside.bytes..];
+    if !begins_with(behind, '"') {
+        return None;
+    }
+    let size = Size {
+        characters: inside.characters + 1,
+        bytes: after.len() - behind.len() + 1,
+    };
+    Some((Form::Text, size))
 }
 
 #[tactic(auto, unfolding(crate::specs::Cutting::short_symbol))]
@@ -134,36 +113,49 @@ fn pair_symbol(first: char, second: char) -> Option<Symbol>
     }
 }
 
-fn long_symbol(first: char, after: &[char]) -> Option<Symbol>
-    ensures { result ≡ long_symbol first after.now }
+#[inline]
+fn long_symbol(first: char, after: &str) -> Option<Symbol>
+    ensures { result ≡ long_symbol first (chars after.now) }
 {
-    match after.first() {
-        Some(second) => pair_symbol(first, *second),
+    match after.chars().next() {
+        Some(second) => pair_symbol(first, second),
         None => None,
     }
 }
 
-fn symbol_front(first: char, after: &[char]) -> Option<(Form, usize)>
-    ensures { result ≡ symbol_front (long_symbol first after.now) (short_symbol first) }
+fn symbol_front(first: char, after: &str) -> Option<(Form, Size)>
+    ensures { result ≡ sized_front (chars after.now) (symbol_front (long_symbol first (chars after.now)) (short_symbol first)) }
 {
     match long_symbol(first, after) {
-        Some(symbol) => Some((Form::Symbol(symbol), 1)),
+        Some(symbol) => Some((
+            Form::Symbol(symbol),
+            Size {
+                characters: 1,
+                bytes: 1,
+            },
+        )),
         None => match short_symbol(first) {
-            Some(symbol) => Some((Form::Symbol(symbol), 0)),
+            Some(symbol) => Some((
+                Form::Symbol(symbol),
+                Size {
+                    characters: 0,
+                    bytes: 0,
+                },
+            )),
             None => None,
         },
     }
 }
 
-/// The longest form at the front of a text, with the count of its characters behind the first, if there is one.
+/// The longest form at the front of a text, with the size of what follows its first character, if there is one.
 #[tactic(auto, unfolding(crate::specs::Cutting::front_of))]
-pub fn front_of(first: char, after: &[char]) -> Option<(Form, usize)>
-    ensures { result ≡ front_of first after.now }
+pub fn front_of(first: char, after: &str) -> Option<(Form, Size)>
+    ensures { result ≡ sized_front (chars after.now) (front_of first (chars after.now)) }
 {
     if first.is_ascii_digit() {
-        Some((Form::Digits, digit_prefix_len(after)))
-    } else if unicode_ident::is_xid_start(first) {
-        Some((Form::Word, word_prefix_len(after)))
+        Some((Form::Digits, size_in(Class::Digits, after)))
+    } else if starts_word(first) {
+        Some((Form::Word, size_in(Class::Words, after)))
     } else if first == '"' {
         string_front(after)
     } else {

@@ -1,12 +1,13 @@
-ghost use Rattle.std.specs.Prelude.{◌≡◌, ◌+◌, ◌∷◌, drop, take, length, IfOk, IsTrue, IsUtf8, encode_utf8, encode_utf8_all};
-ghost use Rattle.std.specs.Str.{chars, all_scalars};
+ghost use Rattle.std.specs.Prelude.{◌≡◌, ◌+◌, ◌++◌, take, length, map, IfOk, encode_utf8};
+ghost use Rattle.std.specs.Str.{chars};
 ghost use Rattle.std.specs.Str.Lossy.{utf8_valid_len};
-ghost use Rattle.cc_lex.specs.Lexical.{place_after, place_past, start, byte_count, Lexes};
-ghost use Rattle.cc_lex.specs.Cutting.{token_of, spanned_front, Finds, Gives, cut};
+ghost use Rattle.cc_lex.specs.Lexical.{place_after, place_past, start, spanned_of, Lexes};
+ghost use Rattle.cc_lex.specs.Cutting.{token_of, spanned_front, size_of, columns_past, Finds, FindsFront, Gives, cut};
 
 use crate::error::LexError;
 use crate::form::{blank_of, front_of};
 use crate::kind::{kind_of, no_token};
+use crate::size::{Size, first_and_rest};
 use crate::token::{Token, Tokens};
 use cc_base::code::{Code, Diag};
 use cc_base::place::Place;
@@ -27,22 +28,31 @@ fn next_place(place: Place, character: char) -> Result<Place, AllocError>
     }
 }
 
-fn next_offset(offset: u32, character: char) -> Result<u32, AllocError>
-    ensures { IfOk result (λ next. next ≡ offset + length (encode_utf8 character)) }
+fn sum(number: u32, count: usize) -> Result<u32, AllocError>
+    ensures { IfOk result (λ sum. sum ≡ number + count) }
 {
-    offset
-        .checked_add(character.len_utf8() as u32)
-        .ok_or(AllocError)
+    if count > u32::MAX as usize {
+        return Err(AllocError);
+    }
+    number.checked_add(count as u32).ok_or(AllocError)
 }
 
-fn offset_past(offset: u32, characters: &[char]) -> Result<u32, AllocError>
-    ensures { IfOk result (λ end. end ≡ offset + byte_count characters.now) }
+fn offset_past(offset: u32, first: char, bytes: usize) -> Result<u32, AllocError>
+    ensures { IfOk result (λ end. end ≡ (offset + length (encode_utf8 first)) + bytes) }
 {
-    let mut end = offset;
-    for character in characters {
-        end = next_offset(end, *character)?;
-    }
-    Ok(end)
+    let behind = sum(offset, first.len_utf8())?;
+    sum(behind, bytes)
+}
+
+fn place_past(place: Place, first: char, characters: usize) -> Result<Place, AllocError>
+    ensures { IfOk result (λ end. end ≡ columns_past (place_after place first) characters) }
+{
+    let next = next_place(place, first)?;
+    let col = sum(next.col, characters)?;
+    Ok(Place {
+        line: next.line,
+        col,
+    })
 }
 
 #[tactic(auto, unfolding(crate::specs::Cutting::token_of))]
@@ -50,19 +60,19 @@ fn token_of(
     alloc: Global,
     text: &str,
     first: char,
-    after: &[char],
+    after: &str,
     at: Place,
     start: u32,
-) -> Result<(Token, usize), LexError>
-    requires here { drop start text.now ≡ encode_utf8_all (first ∷ after.now) }
-    requires characters { IsTrue (all_scalars (first ∷ after.now)) }
-    ensures { Finds spanned_front at result (token_of at start first after.now) }
+) -> Result<(Token, Size), LexError>
+    requires { text.now ≡ encode_utf8 first ++ after.now }
+    ensures found { Finds spanned_front at result (token_of at start first (chars after.now)) }
+    ensures size { IfOk result (λ front. front.1 ≡ size_of (take front.1.characters (chars after.now))) }
 {
     let Some((form, more)) = front_of(first, after) else {
         return Err(LexError::Refused(no_token(at)));
     };
-    let end = offset_past(next_offset(start, first)?, &after[..more])?;
-    match kind_of(alloc, form, &text[start as usize..end as usize], at) {
+    let end = offset_past(start, first, more.bytes)?;
+    match kind_of(alloc, form, &text[..(end - start) as usize], at) {
         Ok(kind) => {
             let token = Token {
                 kind,
@@ -76,39 +86,50 @@ fn token_of(
     }
 }
 
-fn cut(alloc: Global, text: &str, characters: &[char]) -> Result<Tokens, LexError>
-    requires { characters.now ≡ chars text.now }
-    ensures found { Gives result (cut 0 start 0 characters.now) }
-    ensures end { IfOk result (λ tokens. tokens.end ≡ place_past start characters.now) }
+// Finds what begins with the first character, and adds its token, if it is one. The size of what more belongs to it.
+fn find_front(
+    alloc: Global,
+    tokens: &mut Vec<Token>,
+    text: &str,
+    first: char,
+    after: &str,
+    at: Place,
+    start: u32,
+) -> Result<Size, LexError>
+    requires { text.now ≡ encode_utf8 first ++ after.now }
+    ensures { FindsFront at start first (chars after.now) (map spanned_of tokens.old.items) result (map spanned_of tokens.new.items) }
+{
+    if let Some(more) = blank_of(first, after) {
+        return Ok(more);
+    }
+    match token_of(alloc, text, first, after, at, start) {
+        Ok(front) => {
+            let (token, more) = front;
+            tokens.push(token)?;
+            Ok(more)
+        }
+        Err(error) => Err(error),
+    }
+}
+
+fn cut(alloc: Global, text: &str) -> Result<Tokens, LexError>
+    ensures found { Gives result (cut 0 start 0 (chars text.now)) }
+    ensures end { IfOk result (λ tokens. tokens.end ≡ place_past start (chars text.now)) }
 {
     let mut tokens = Vec::new(alloc);
     let mut place = Place { line: 1, col: 1 };
     let mut offset: u32 = 0;
-    let mut skip: usize = 0;
-    for (index, character) in characters.iter().enumerate() {
-        if skip > 0 {
-            skip -= 1;
-        } else {
-            let after = &characters[index + 1..];
-            match blank_of(*character, after) {
-                Some(more) => skip = more,
-                None => {
-                    let (token, more) = token_of(alloc, text, *character, after, place, offset)?;
-                    tokens.push(token)?;
-                    skip = more;
-                }
-            }
-        }
-        place = next_place(place, *character)?;
-        offset = next_offset(offset, *character)?;
+    let mut rest = text;
+    while let Some((first, after)) = first_and_rest(rest) {
+        let more = match find_front(alloc, &mut tokens, rest, first, after, place, offset) {
+            Ok(more) => more,
+            Err(error) => return Err(error),
+        };
+        place = place_past(place, first, more.characters)?;
+        offset = offset_past(offset, first, more.bytes)?;
+        rest = &after[more.bytes..];
     }
     Ok(Tokens { tokens, end: place })
-}
-
-fn characters_of(alloc: Global, text: &str) -> Result<Vec<char>, AllocError>
-    ensures { IfOk result (λ characters. characters.items ≡ chars text.now) }
-{
-    text.chars().collect(alloc)
 }
 
 fn valid_front(bytes: &[u8]) -> &str
@@ -120,12 +141,12 @@ fn valid_front(bytes: &[u8]) -> &str
     }
 }
 
-fn end_of(characters: &[char]) -> Result<Place, AllocError>
-    ensures { IfOk result (λ end. end ≡ place_past start characters.now) }
+fn end_of(text: &str) -> Result<Place, AllocError>
+    ensures { IfOk result (λ end. end ≡ place_past start (chars text.now)) }
 {
     let mut place = Place { line: 1, col: 1 };
-    for character in characters {
-        place = next_place(place, *character)?;
+    for character in text.chars() {
+        place = next_place(place, character)?;
     }
     Ok(place)
 }
@@ -137,13 +158,9 @@ pub fn lex(alloc: Global, bytes: &[u8]) -> Result<Tokens, LexError>
     ensures { Lexes bytes.now result }
 {
     match str::from_utf8(bytes) {
-        Ok(text) => {
-            let characters = characters_of(alloc, text)?;
-            cut(alloc, text, &characters)
-        }
+        Ok(text) => cut(alloc, text),
         Err(_) => {
-            let front = characters_of(alloc, valid_front(bytes))?;
-            let place = end_of(&front)?;
+            let place = end_of(valid_front(bytes))?;
             Err(LexError::Refused(Diag {
                 code: Code::E01,
                 place,

@@ -6,5 +6,6 @@ mod form;
 mod kind;
 pub mod laws;
 pub mod lexer;
+mod size;
 pub mod token;
 mod words;

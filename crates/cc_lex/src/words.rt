@@ -79,5 +79,42 @@ fn find_word(words: &[Word], text: &str) -> Option<Word>
 pub fn word_of(text: &str) -> Option<Word>
     ensures { result ≡ word_of (chars text.now) }
 {
-    find_word(&WORDS, text)
+    match text.len() {
+        1 => None,
+        2 => find_word(&[Word::If], text),
+        3 => find_word(
+            &[
+                Word::Def,
+                Word::Rec,
+                Word::Fun,
+                Word::Val,
+                Word::Box,
+                Word::Cap,
+                Word::IntType,
+                Word::StrType,
+                Word::AnyType,
+                Word::BoxType,
+            ],
+            text,
+        ),
+        4 => find_word(
+            &[
+                Word::Then,
+                Word::Else,
+                Word::Exit,
+                Word::True,
+                Word::Unit,
+                Word::UnitType,
+                Word::BoolType,
+                Word::FileType,
+                Word::ExitType,
+            ],
+            text,
+        ),
+        5 => find_word(&[Word::Unbox, Word::False], text),
+        6 => find_word(&[Word::Import, Word::Repeat], text),
+        7 => find_word(&[Word::ConsoleType, Word::CounterType], text),
+        8 => find_word(&[Word::Boundary], text),
+        _ => find_word(&WORDS, text),
+    }
 }

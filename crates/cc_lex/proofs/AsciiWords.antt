@@ -1,0 +1,15 @@
+-- What an ASCII character is in a word.
+use Rattle.std.proofs.Common.{◌≡◌, ℕ, ◌<◌, Bool, true, ◌||◌, ◌==◌, sym, ◌∙◌, arith}
+use Rattle.std.specs.Char.{is_ascii, is_ascii_alphabetic, is_ascii_alphanumeric}
+use Rattle.std.proofs.lemmas.Bool.Decides.{nat_tests}
+use Rattle.unicode_ident.specs.Ident.{is_xid_start, is_xid_continue}
+use Rattle.unicode_ident.proofs.IdentLemmas.{is_xid_start-ascii, is_xid_continue-ascii}
+
+ascii-below : (c : ℕ) → is_ascii c ≡ true → c < 128
+ascii-below c h = grind (arith, nat_tests)
+
+pub ascii_continues : (c : ℕ) (ascii result : Bool) → ascii ≡ is_ascii c → ascii ≡ true → result ≡ (is_ascii_alphanumeric c || (c == 95)) → result ≡ is_xid_continue c
+ascii_continues c ascii result e h k = k ∙ sym (is_xid_continue-ascii c (ascii-below c (sym e ∙ h)))
+
+pub ascii_starts : (c : ℕ) (ascii result : Bool) → ascii ≡ is_ascii c → ascii ≡ true → result ≡ is_ascii_alphabetic c → result ≡ is_xid_start c
+ascii_starts c ascii result e h k = k ∙ sym (is_xid_start-ascii c (ascii-below c (sym e ∙ h)))
