@@ -523,15 +523,20 @@ pub fn type_places(alloc: Global, ctx: &Ctx, rule: Rule) -> Result<Option<Spots>
 pub fn are_as_many(spots: &Spots, premises: &Premises) -> bool
     ensures { result ≡ are_as_many (places_of spots.now) (claims_of (premises_of premises.now)) }
 {
-    match spots {
-        Spots::End => match premises {
-            Premises::End => true,
-            Premises::More(_, _) => false,
-        },
-        Spots::More(_, others) => match premises {
-            Premises::End => false,
-            Premises::More(_, rest) => are_as_many(others, rest),
-        },
+    let mut places = spots;
+    let mut left = premises;
+    while let Spots::More(_, others) = places {
+        match left {
+            Premises::End => return false,
+            Premises::More(_, rest) => {
+                places = &**others;
+                left = &**rest;
+            }
+        }
+    }
+    match left {
+        Premises::End => true,
+        Premises::More(_, _) => false,
     }
 }
 
