@@ -4,6 +4,7 @@ ghost use Rattle.std.specs.Prelude.{◌≡◌, IfOk, MatchOption, option_map};
 ghost use Rattle.cc_base.specs.declared.code.Code.TheVariants as codes;
 ghost use Rattle.cc_core.specs.Actions.{filled_by};
 ghost use Rattle.cc_core.specs.Occurrences.{HasNoHoleInType, HasNoHoleInTerm};
+ghost use Rattle.cc_core.specs.Places.{places_of};
 ghost use Rattle.cc_core.specs.Substitution.{filled_type};
 ghost use Rattle.cc_core.specs.Typing.{HasType};
 ghost use Rattle.cc_core.specs.Views.{shape_of, type_of, note_of, term_of, context_of};
@@ -52,6 +53,7 @@ pub fn check_def(
     ensures over_devices { IfOk result (λ c. IsWellFormedType (oldest devices (context_of ctx.now)) (type_of c.sig) × HasNoHoleInType (type_of c.sig)) }
     ensures no_hole { IfOk result (λ c. HasNoHoleInTerm (term_of c.filled.value) × HasNoHoleInType (type_of c.ty)) }
     ensures no_type { HasNoTypeIfRefused devices (context_of ctx.now) (definition_of def.now) result }
+    ensures places { IfOk result (λ c. places_of c.filled.value ≡ places_of def.now.right.value) }
 {
     check_next(alloc, ctx, devices, def, &mut Instances::new(alloc))
 }
@@ -73,6 +75,7 @@ pub fn check_next(
     ensures over_devices { IfOk result (λ c. IsWellFormedType (oldest devices (context_of ctx.now)) (type_of c.sig) × HasNoHoleInType (type_of c.sig)) }
     ensures no_hole { IfOk result (λ c. HasNoHoleInTerm (term_of c.filled.value) × HasNoHoleInType (type_of c.ty)) }
     ensures no_type { HasNoTypeIfRefused devices (context_of ctx.now) (definition_of def.now) result }
+    ensures places { IfOk result (λ c. places_of c.filled.value ≡ places_of def.now.right.value) }
 {
     judge(alloc, ctx, devices, def, instances)
 }
@@ -87,7 +90,8 @@ fn judge(
 ) -> Result<Checked, CheckError>
     requires fits { Fits (context_of ctx.now) (definition_of def.now) }
     requires holes { HolesAreOfParameters (term_of def.now.right.value) }
-    ensures { Judges devices (context_of ctx.now) (definition_of def.now) result }
+    ensures verdict { Judges devices (context_of ctx.now) (definition_of def.now) result }
+    ensures places { IfOk result (λ c. places_of c.filled.value ≡ places_of def.now.right.value) }
 {
     let mut log = Log::new(alloc);
     match find(alloc, ctx, devices, def, instances, &mut log) {
@@ -106,7 +110,8 @@ fn find(
     log: &mut Log,
 ) -> Result<Checking, Stop>
     requires { Fits (context_of ctx.now) (definition_of def.now) }
-    ensures { Meets checking_of result (asked_of log.new.demands) (checked_log devices (context_of ctx.now) (definition_of def.now) (asked_of log.old.demands)) }
+    ensures exact { Meets checking_of result (asked_of log.new.demands) (checked_log devices (context_of ctx.now) (definition_of def.now) (asked_of log.old.demands)) }
+    ensures places { IfOk result (λ c. places_of c.completed.value ≡ places_of def.now.right.value) }
 {
     exchange(log, instances);
     let found = find_by_form(alloc, ctx, devices, def, log);
@@ -123,7 +128,8 @@ fn find_by_form(
     log: &mut Log,
 ) -> Result<Checking, Stop>
     requires { Fits (context_of ctx.now) (definition_of def.now) }
-    ensures { Meets checking_of result (asked_of log.new.demands) (checked_log devices (context_of ctx.now) (definition_of def.now) (asked_of log.old.demands)) }
+    ensures exact { Meets checking_of result (asked_of log.new.demands) (checked_log devices (context_of ctx.now) (definition_of def.now) (asked_of log.old.demands)) }
+    ensures places { IfOk result (λ c. places_of c.completed.value ≡ places_of def.now.right.value) }
 {
     if def.recursive {
         check_recursive(alloc, ctx, devices, def, log)
@@ -144,7 +150,8 @@ fn judge_found(
     requires fits { Fits (context_of ctx.now) (definition_of def.now) }
     requires holes { HolesAreOfParameters (term_of def.now.right.value) }
     requires keeps { KeepsOf devices (context_of ctx.now) (definition_of def.now) (checking_of found) (asked_of demands.now) }
-    ensures { Judges devices (context_of ctx.now) (definition_of def.now) result }
+    ensures verdict { Judges devices (context_of ctx.now) (definition_of def.now) result }
+    ensures places { IfOk result (λ c. places_of c.filled.value ≡ places_of found.completed.value) }
 {
     let holes = hole_count(&def.right)?;
     let filling = solve(alloc, demands, ctx.len(), holes)?;
@@ -165,9 +172,10 @@ fn decide(
     requires context { IsWellFormedContext (context_of ctx.now) }
     requires globals { AreGlobals (context_of ctx.now) }
     requires ty { IsWellFormedType (context_of ctx.now) (filled_type (filled_by sets.now) (type_of found.ty)) }
-    ensures { MatchOption failed
+    ensures verdict { MatchOption failed
         (Answers result (signature_verdict (filled_by sets.now) (definition_of def.now) (checking_of found) (signature_under (filled_by sets.now) devices (context_of ctx.now) (checking_of found))))
         (λ diag. Answers result (IsRefused diag.code diag.place)) }
+    ensures places { IfOk result (λ c. places_of c.filled.value ≡ places_of found.completed.value) }
 {
     match failed {
         Some(diag) => Err(CheckError::Refused(diag)),
@@ -197,7 +205,8 @@ fn accept(
     requires context { IsWellFormedContext (context_of ctx.now) }
     requires globals { AreGlobals (context_of ctx.now) }
     requires ty { IsWellFormedType (context_of ctx.now) (filled_type (filled_by sets.now) (type_of found.ty)) }
-    ensures { Answers result (signature_verdict (filled_by sets.now) (definition_of def.now) (checking_of found) (signature_under (filled_by sets.now) devices (context_of ctx.now) (checking_of found))) }
+    ensures verdict { Answers result (signature_verdict (filled_by sets.now) (definition_of def.now) (checking_of found) (signature_under (filled_by sets.now) devices (context_of ctx.now) (checking_of found))) }
+    ensures places { IfOk result (λ c. places_of c.filled.value ≡ places_of found.completed.value) }
 {
     let Checking {
         note,

@@ -32,6 +32,7 @@ pub(crate) fn infer_right(
     requires term { IsWellFormedTerm (context_of ctx.now) (term_of node.now.value) }
     ensures exact { Meets found_of result (asked_of log.new.demands) (after (asked_of log.old.demands) (inferred ways (length (context_of ctx.now)) (context_of ctx.now) (term_of node.now.value) (places_of node.now.value))) }
     ensures formed { IfOk result (λ f. IsWellFormedType (context_of ctx.now) (type_of f.ty)) }
+    ensures places { IfOk result (λ f. places_of f.node.value ≡ places_of node.now.value) }
 {
     infer_term(alloc, ctx, ctx.len(), node, log)
 }
@@ -70,7 +71,8 @@ pub(crate) fn check_plain(
     requires context { IsWellFormedContext (context_of ctx.now) }
     requires note { IsWellFormedNote (context_of ctx.now) (note_of def.now.note) }
     requires right { IsWellFormedTerm (context_of ctx.now) (term_of def.now.right.value) }
-    ensures { Meets checking_of result (asked_of log.new.demands) (plain_log (context_of ctx.now) (definition_of def.now) (asked_of log.old.demands)) }
+    ensures exact { Meets checking_of result (asked_of log.new.demands) (plain_log (context_of ctx.now) (definition_of def.now) (asked_of log.old.demands)) }
+    ensures places { IfOk result (λ c. places_of c.completed.value ≡ places_of def.now.right.value) }
 {
     let found = infer_right(alloc, ctx, &def.right, log)?;
     let named = name_right(alloc, ctx, &def.note, &found.ty, place_of(&def.right), log)?;

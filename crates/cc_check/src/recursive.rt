@@ -2,6 +2,7 @@
 
 ghost use Rattle.std.specs.Prelude.{◌≡◌, [], ◌∷◌, Some, IsTrue, IfOk};
 ghost use Rattle.cc_base.specs.declared.code.Code.TheVariants as codes;
+ghost use Rattle.cc_core.specs.Places.{places_of};
 ghost use Rattle.cc_core.specs.Terms.{Written};
 ghost use Rattle.cc_core.specs.Views.{type_of, note_of, term_of, context_of};
 ghost use Rattle.cc_core.specs.WellFormed.{TermKind, kinds_of, is_well_formed_term, IsWellFormedContext, IsWellFormedNote, IsWellFormedTerm, IsWellFormedType};
@@ -39,7 +40,8 @@ pub(crate) fn check_recursive(
     requires globals { AreGlobals (context_of ctx.now) }
     requires note { IsWellFormedNote (context_of ctx.now) (note_of def.now.note) }
     requires right { IsTrue (is_well_formed_term (TermKind ∷ kinds_of (context_of ctx.now)) [] (term_of def.now.right.value)) }
-    ensures { Meets checking_of result (asked_of log.new.demands) (recursive_log devices (context_of ctx.now) (definition_of def.now) (note_of def.now.note) (asked_of log.old.demands)) }
+    ensures exact { Meets checking_of result (asked_of log.new.demands) (recursive_log devices (context_of ctx.now) (definition_of def.now) (note_of def.now.note) (asked_of log.old.demands)) }
+    ensures places { IfOk result (λ c. places_of c.completed.value ≡ places_of def.now.right.value) }
 {
     match &def.note {
         Note::Written(written) => {
@@ -76,7 +78,8 @@ fn check_below(
     requires context { IsWellFormedContext (context_of ctx.now) }
     requires ty { IsWellFormedType (context_of ctx.now) (type_of sig) }
     requires right { IsTrue (is_well_formed_term (TermKind ∷ kinds_of (context_of ctx.now)) [] (term_of def.now.right.value)) }
-    ensures { Meets checking_of result (asked_of log.new.demands) (recursion_log (context_of ctx.now) (definition_of def.now) (type_of sig) (asked_of log.old.demands)) }
+    ensures exact { Meets checking_of result (asked_of log.new.demands) (recursion_log (context_of ctx.now) (definition_of def.now) (type_of sig) (asked_of log.old.demands)) }
+    ensures places { IfOk result (λ c. places_of c.completed.value ≡ places_of def.now.right.value) }
 {
     let inner = with_variable(alloc, ctx, &sig)?;
     check_inside(alloc, &inner, sig, def, log)
@@ -93,7 +96,8 @@ fn check_inside(
     requires context { IsWellFormedContext (context_of inner.now) }
     requires ty { IsWellFormedType (context_of inner.now) (type_of sig) }
     requires right { IsWellFormedTerm (context_of inner.now) (term_of def.now.right.value) }
-    ensures { Meets checking_of result (asked_of log.new.demands) (below_log (context_of inner.now) (definition_of def.now) (type_of sig) (asked_of log.old.demands)) }
+    ensures exact { Meets checking_of result (asked_of log.new.demands) (below_log (context_of inner.now) (definition_of def.now) (type_of sig) (asked_of log.old.demands)) }
+    ensures places { IfOk result (λ c. places_of c.completed.value ≡ places_of def.now.right.value) }
 {
     let found = infer_right(alloc, inner, &def.right, log)?;
     below(alloc, inner, &found.ty, &sig, place_of(&def.right), log)?;
@@ -102,7 +106,8 @@ fn check_inside(
 
 // What is found where the signature is the type.
 fn settled(alloc: Global, found: Found, sig: Ty) -> Result<Checking, AllocError>
-    ensures { IfOk result (λ c. checking_of c ≡ checking (Written (type_of sig).shape (type_of sig).set) (term_of found.node.value) (type_of sig) (Some (type_of sig))) }
+    ensures is { IfOk result (λ c. checking_of c ≡ checking (Written (type_of sig).shape (type_of sig).set) (term_of found.node.value) (type_of sig) (Some (type_of sig))) }
+    ensures places { IfOk result (λ c. places_of c.completed.value ≡ places_of found.node.value) }
 {
     let Found {
         ty: _,

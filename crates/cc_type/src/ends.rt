@@ -6,6 +6,7 @@ ghost use Rattle.cc_capture.specs.Sets.{union};
 ghost use Rattle.cc_core.specs.Captured as captured;
 ghost use Rattle.cc_core.specs.Captured.{captured_variables};
 ghost use Rattle.cc_core.specs.Occurrences as occurrences;
+ghost use Rattle.cc_core.specs.Places.{Around, Between, spots_at, places_around, places_of};
 ghost use Rattle.cc_core.specs.Sizes.{type_size};
 ghost use Rattle.cc_core.specs.Substitution.{closed_type};
 ghost use Rattle.cc_core.specs.Terms.{Boundary};
@@ -78,7 +79,8 @@ pub(crate) fn function_end(
     part: Found,
 ) -> Result<Found, Stop>
     requires { type_of read ≡ plain.type_in (context_of ctx.now) (type_of takes.now.value) }
-    ensures { Answers found_of result (tested ways node.now.at (plain.function_found (context_of ctx.now) (shape_of takes.now.value.shape.value) takes.now.value.set (found_of part))) }
+    ensures exact { Answers found_of result (tested ways node.now.at (plain.function_found (context_of ctx.now) (shape_of takes.now.value.shape.value) takes.now.value.set (found_of part))) }
+    ensures places { IfOk result (λ f. places_of f.node.value ≡ Around (spots_at node.now.at node.now.first node.now.second) (places_of part.node.value)) }
 {
     let Found {
         ty: gives,
@@ -117,7 +119,8 @@ pub(crate) fn type_function_end(
     part: Found,
 ) -> Result<Found, Stop>
     requires { shape_of read.value ≡ plain.shape_in (context_of ctx.now) (shape_of bound.now.value) }
-    ensures { Answers found_of result (tested ways node.now.at (plain.type_function_found (context_of ctx.now) (shape_of bound.now.value) (found_of part))) }
+    ensures exact { Answers found_of result (tested ways node.now.at (plain.type_function_found (context_of ctx.now) (shape_of bound.now.value) (found_of part))) }
+    ensures places { IfOk result (λ f. places_of f.node.value ≡ Around (spots_at node.now.at node.now.first node.now.second) (places_of part.node.value)) }
 {
     let Found {
         ty: gives,
@@ -138,7 +141,8 @@ pub(crate) fn boundary_end(
     ty: Ty,
     part: Found,
 ) -> Result<Found, Stop>
-    ensures { Answers found_of result (tested ways node.now.at (plain_result (type_of ty) (Boundary (shape_of gives.now.value) (term_of part.node.value)))) }
+    ensures exact { Answers found_of result (tested ways node.now.at (plain_result (type_of ty) (Boundary (shape_of gives.now.value) (term_of part.node.value)))) }
+    ensures places { IfOk result (λ f. places_of f.node.value ≡ Around (spots_at node.now.at node.now.first node.now.second) (places_of part.node.value)) }
 {
     let Found {
         ty: _,
@@ -248,8 +252,9 @@ fn let_of(
 ) -> Result<Found, Stop>
     requires captured { captured ≡ captured_variables (form_of form) }
     requires fits { nat_le (type_size (type_of inner)) plain.greatest_size ≡ true }
-    ensures { Answers found_of result (directly (plain.left_behind node.now.first (context_of ctx.now) declared.now (type_of inner))
+    ensures exact { Answers found_of result (directly (plain.left_behind node.now.first (context_of ctx.now) declared.now (type_of inner))
         (λ type. tested ways node.now.at (plain_result type (form_of form)))) }
+    ensures places { IfOk result (λ f. places_of f.node.value ≡ places_around (spots_at node.now.at node.now.first node.now.second) form) }
 {
     if names_newest(ctx, &inner.shape) {
         let ty = left_behind(alloc, ctx, declared, &inner, node.first)?;
@@ -275,7 +280,8 @@ pub(crate) fn let_end(
     one: Found,
     two: Found,
 ) -> Result<Found, Stop>
-    ensures { Answers found_of result (let_end (context_of ctx.now) node.now.at node.now.first (named_of named) (found_of one) (found_of two)) }
+    ensures exact { Answers found_of result (let_end (context_of ctx.now) node.now.at node.now.first (named_of named) (found_of one) (found_of two)) }
+    ensures places { IfOk result (λ f. places_of f.node.value ≡ Between (spots_at node.now.at node.now.first node.now.second) (places_of one.node.value) (places_of two.node.value)) }
 {
     let Named { ty: declared, note } = named;
     let Found {
@@ -365,7 +371,8 @@ fn choice_end(
     one: Found,
     two: Found,
 ) -> Result<Found, Stop>
-    ensures { Answers found_of result (choice_end root (context_of ctx.now) node.now.at (note_of note.now) test (found_of one) (found_of two)) }
+    ensures exact { Answers found_of result (choice_end root (context_of ctx.now) node.now.at (note_of note.now) test (found_of one) (found_of two)) }
+    ensures places { IfOk result (λ f. places_of f.node.value ≡ Between (spots_at node.now.at node.now.first node.now.second) (places_of one.node.value) (places_of two.node.value)) }
 {
     let Named { ty, note } = named_choice(alloc, root, ctx, note, &one.ty.set, &two.ty.set)?;
     let captured = choice_captured(alloc, test, &one.captured, &two.captured)?;
@@ -405,7 +412,8 @@ pub(crate) fn choice_rest(
     requires context { IsWellFormedContext (context_of ctx.now) }
     requires ty { IsWellFormedType (context_of ctx.now) (type_of two.ty) }
     requires note { NoteReadsWell (context_of ctx.now) (note_of note.now) }
-    ensures { Meets found_of result (asked_of log.new.demands) (choice_log root (context_of ctx.now) node.now.at (note_of note.now) test (found_of one) (found_of two) at (asked_of log.old.demands)) }
+    ensures exact { Meets found_of result (asked_of log.new.demands) (choice_log root (context_of ctx.now) node.now.at (note_of note.now) test (found_of one) (found_of two) at (asked_of log.old.demands)) }
+    ensures places { IfOk result (λ f. places_of f.node.value ≡ Between (spots_at node.now.at node.now.first node.now.second) (places_of one.node.value) (places_of two.node.value)) }
 {
     branch(alloc, ctx, note, &two.ty, at, log)?;
     let found = choice_end(alloc, root, ctx, node, note, test, one, two)?;

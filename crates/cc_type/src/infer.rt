@@ -47,6 +47,7 @@ pub fn infer_term(
     requires term { StandsIn root (context_of ctx.now) (term_of node.now.value) }
     ensures exact { Meets found_of result (asked_of log.new.demands) (after (asked_of log.old.demands) (inferred ways root (context_of ctx.now) (term_of node.now.value) (places_of node.now.value))) }
     ensures formed { IfOk result (λ f. IsWellFormedType (context_of ctx.now) (type_of f.ty)) }
+    ensures places { IfOk result (λ f. places_of f.node.value ≡ places_of node.now.value) }
 {
     infer(alloc, ctx, root, node, log)
 }
@@ -58,6 +59,7 @@ fn infer(alloc: Global, ctx: &Ctx, root: u32, node: &Rc<Node>, log: &mut Log) ->
     requires term { StandsWell root (context_of ctx.now) (term_of node.now.value) }
     ensures exact { Meets found_of result (asked_of log.new.demands) (inferred_log root (context_of ctx.now) (term_of node.now.value) (places_of node.now.value) (asked_of log.old.demands)) }
     ensures formed { IfOk result (λ f. IsWellFormedType (context_of ctx.now) (type_of f.ty)) }
+    ensures places { IfOk result (λ f. places_of f.node.value ≡ places_of node.now.value) }
 {
     let found = infer_form(alloc, ctx, root, node, log)?;
     Ok(found)
@@ -156,7 +158,8 @@ fn infer_form(
 ) -> Result<Found, Stop>
     requires context { IsWellFormedContext (context_of ctx.now) }
     requires term { StandsWell root (context_of ctx.now) (term_of node.now.value) }
-    ensures { Meets found_of result (asked_of log.new.demands) (inferred_log root (context_of ctx.now) (term_of node.now.value) (places_of node.now.value) (asked_of log.old.demands)) }
+    ensures exact { Meets found_of result (asked_of log.new.demands) (inferred_log root (context_of ctx.now) (term_of node.now.value) (places_of node.now.value) (asked_of log.old.demands)) }
+    ensures places { IfOk result (λ f. places_of f.node.value ≡ places_of node.now.value) }
 {
     match &node.form {
         Form::Var(variable) => {

@@ -4,7 +4,7 @@ ghost use Rattle.std.specs.Prelude.{◌≡◌, IfOk};
 ghost use Rattle.cc_base.specs.declared.literal.Base.TheVariants as bases;
 ghost use Rattle.cc_base.specs.Literals.{literal_of};
 ghost use Rattle.cc_capture.specs.Sets.{empty};
-ghost use Rattle.cc_core.specs.Places.{spots_at};
+ghost use Rattle.cc_core.specs.Places.{Alone, spots_at, places_of};
 ghost use Rattle.cc_core.specs.Shapes.{BaseShape, FunctionShape};
 ghost use Rattle.cc_core.specs.Typing as typing;
 ghost use Rattle.cc_core.specs.Views.{shape_of, type_of, context_of};
@@ -114,7 +114,8 @@ fn base_answered(operation: Op) -> Base
 /// A variable has the shape of its entry, and captures itself.
 pub(crate) fn variable(alloc: Global, ctx: &Ctx, node: &Node, variable: Var) -> Result<Found, Stop>
     requires { IsWellFormedContext (context_of ctx.now) }
-    ensures { Answers found_of result (variable_row (context_of ctx.now) variable node.now.at) }
+    ensures exact { Answers found_of result (variable_row (context_of ctx.now) variable node.now.at) }
+    ensures places { IfOk result (λ f. places_of f.node.value ≡ Alone (spots_at node.now.at node.now.first node.now.second)) }
 {
     let ty = type_of_variable(alloc, ctx, variable)?;
     let found = leaf(alloc, node, Form::Var(variable), ty)?;
@@ -123,7 +124,8 @@ pub(crate) fn variable(alloc: Global, ctx: &Ctx, node: &Node, variable: Var) -> 
 
 /// A literal has its base shape.
 pub(crate) fn literal(alloc: Global, node: &Node, literal: &Lit) -> Result<Found, Stop>
-    ensures { Answers found_of result (literal_row (literal_of literal.now) node.now.at) }
+    ensures exact { Answers found_of result (literal_row (literal_of literal.now) node.now.at) }
+    ensures places { IfOk result (λ f. places_of f.node.value ≡ Alone (spots_at node.now.at node.now.first node.now.second)) }
 {
     let ty = base_type(alloc, base_of(literal))?;
     let found = leaf(alloc, node, Form::Lit(copy_literal(literal)?), ty)?;
@@ -133,7 +135,8 @@ pub(crate) fn literal(alloc: Global, node: &Node, literal: &Lit) -> Result<Found
 /// A box has the type of its content in its shape, and captures nothing.
 pub(crate) fn boxed(alloc: Global, ctx: &Ctx, node: &Node, content: Var) -> Result<Found, Stop>
     requires { IsWellFormedContext (context_of ctx.now) }
-    ensures { Answers found_of result (box_row (context_of ctx.now) content node.now.at) }
+    ensures exact { Answers found_of result (box_row (context_of ctx.now) content node.now.at) }
+    ensures places { IfOk result (λ f. places_of f.node.value ≡ Alone (spots_at node.now.at node.now.first node.now.second)) }
 {
     let inside = type_of_variable(alloc, ctx, content)?;
     let shape = Rc::new(alloc, Shape::Boxed(Rc::new(alloc, inside)?))?;
@@ -151,7 +154,8 @@ pub(crate) fn application(
     log: &mut Log,
 ) -> Result<Found, Stop>
     requires { IsWellFormedContext (context_of ctx.now) }
-    ensures { Meets found_of result (asked_of log.new.demands) (application_row (context_of ctx.now) function argument (spots_at node.now.at node.now.first node.now.second) (asked_of log.old.demands)) }
+    ensures exact { Meets found_of result (asked_of log.new.demands) (application_row (context_of ctx.now) function argument (spots_at node.now.at node.now.first node.now.second) (asked_of log.old.demands)) }
+    ensures places { IfOk result (λ f. places_of f.node.value ≡ Alone (spots_at node.now.at node.now.first node.now.second)) }
 {
     let (takes, gives) = function_part(alloc, ctx, node.first, function)?;
     let given = type_of_variable(alloc, ctx, argument)?;
@@ -171,7 +175,8 @@ fn type_application_end(
     gives: &Rc<Ty>,
     instances: &mut Instances,
 ) -> Result<Found, Stop>
-    ensures { Answers found_of result (type_application_end node.now.at function (shape_of argument.now.value) (shape_of read.now.value) (type_of gives.now.value)) }
+    ensures exact { Answers found_of result (type_application_end node.now.at function (shape_of argument.now.value) (shape_of read.now.value) (type_of gives.now.value)) }
+    ensures places { IfOk result (λ f. places_of f.node.value ≡ Alone (spots_at node.now.at node.now.first node.now.second)) }
 {
     match instantiated(alloc, gives, read, instances)? {
         Some(ty) => {
@@ -194,7 +199,8 @@ pub(crate) fn type_application(
 ) -> Result<Found, Stop>
     requires context { IsWellFormedContext (context_of ctx.now) }
     requires argument { IsWellFormedShape (context_of ctx.now) (plain.shape_in (context_of ctx.now) (shape_of argument.now.value)) }
-    ensures { Meets found_of result (asked_of log.new.demands) (type_application_row (context_of ctx.now) function (shape_of argument.now.value) (spots_at node.now.at node.now.first node.now.second) (asked_of log.old.demands)) }
+    ensures exact { Meets found_of result (asked_of log.new.demands) (type_application_row (context_of ctx.now) function (shape_of argument.now.value) (spots_at node.now.at node.now.first node.now.second) (asked_of log.old.demands)) }
+    ensures places { IfOk result (λ f. places_of f.node.value ≡ Alone (spots_at node.now.at node.now.first node.now.second)) }
 {
     let (bound, gives) = type_function_part(alloc, ctx, node.first, function)?;
     let read = read_shape(alloc, argument, entries(ctx))?;
@@ -238,7 +244,8 @@ fn unboxing_end(
     inside: &Ty,
     under: CapSet,
 ) -> Result<Found, Stop>
-    ensures { Answers found_of result (unboxing_end root (context_of ctx.now) node.now.at set.now content (type_of inside.now) under) }
+    ensures exact { Answers found_of result (unboxing_end root (context_of ctx.now) node.now.at set.now content (type_of inside.now) under) }
+    ensures places { IfOk result (λ f. places_of f.node.value ≡ Alone (spots_at node.now.at node.now.first node.now.second)) }
 {
     let completed = completed_set(alloc, root, ctx, &under, set)?;
     let shape = inside.shape.clone()?;
@@ -258,7 +265,8 @@ pub(crate) fn unboxing(
     log: &mut Log,
 ) -> Result<Found, Stop>
     requires { IsWellFormedContext (context_of ctx.now) }
-    ensures { Meets found_of result (asked_of log.new.demands) (unboxing_row root (context_of ctx.now) set.now content (spots_at node.now.at node.now.first node.now.second) (asked_of log.old.demands)) }
+    ensures exact { Meets found_of result (asked_of log.new.demands) (unboxing_row root (context_of ctx.now) set.now content (spots_at node.now.at node.now.first node.now.second) (asked_of log.old.demands)) }
+    ensures places { IfOk result (λ f. places_of f.node.value ≡ Alone (spots_at node.now.at node.now.first node.now.second)) }
 {
     let inside = box_part(alloc, ctx, node.first, content)?;
     let under = opening_set(alloc, ctx, &inside.set, set, node.first, log)?;
@@ -278,7 +286,8 @@ pub(crate) fn primitive(
     log: &mut Log,
 ) -> Result<Found, Stop>
     requires { IsWellFormedContext (context_of ctx.now) }
-    ensures { Meets found_of result (asked_of log.new.demands) (primitive_row (context_of ctx.now) operator left right (spots_at node.now.at node.now.first node.now.second) (asked_of log.old.demands)) }
+    ensures exact { Meets found_of result (asked_of log.new.demands) (primitive_row (context_of ctx.now) operator left right (spots_at node.now.at node.now.first node.now.second) (asked_of log.old.demands)) }
+    ensures places { IfOk result (λ f. places_of f.node.value ≡ Alone (spots_at node.now.at node.now.first node.now.second)) }
 {
     base_operand(alloc, ctx, left, Base::Int, node.first, log)?;
     base_operand(alloc, ctx, right, Base::Int, node.second, log)?;
@@ -316,7 +325,8 @@ pub(crate) fn repetition(
     log: &mut Log,
 ) -> Result<Found, Stop>
     requires { IsWellFormedContext (context_of ctx.now) }
-    ensures { Meets found_of result (asked_of log.new.demands) (repetition_row (context_of ctx.now) count function (spots_at node.now.at node.now.first node.now.second) (asked_of log.old.demands)) }
+    ensures exact { Meets found_of result (asked_of log.new.demands) (repetition_row (context_of ctx.now) count function (spots_at node.now.at node.now.first node.now.second) (asked_of log.old.demands)) }
+    ensures places { IfOk result (λ f. places_of f.node.value ≡ Alone (spots_at node.now.at node.now.first node.now.second)) }
 {
     base_operand(alloc, ctx, count, Base::Int, node.first, log)?;
     repeated(alloc, ctx, function, node.second, log)?;
@@ -336,7 +346,8 @@ pub(crate) fn operation(
     log: &mut Log,
 ) -> Result<Found, Stop>
     requires { IsWellFormedContext (context_of ctx.now) }
-    ensures { Meets found_of result (asked_of log.new.demands) (operation_row (context_of ctx.now) operation receiver argument (spots_at node.now.at node.now.first node.now.second) (asked_of log.old.demands)) }
+    ensures exact { Meets found_of result (asked_of log.new.demands) (operation_row (context_of ctx.now) operation receiver argument (spots_at node.now.at node.now.first node.now.second) (asked_of log.old.demands)) }
+    ensures places { IfOk result (λ f. places_of f.node.value ≡ Alone (spots_at node.now.at node.now.first node.now.second)) }
 {
     device_part(alloc, ctx, node.first, base_operated(operation), receiver)?;
     operation_argument(
@@ -368,7 +379,8 @@ pub(crate) fn leave(
     log: &mut Log,
 ) -> Result<Found, Stop>
     requires { IsWellFormedContext (context_of ctx.now) }
-    ensures { Meets found_of result (asked_of log.new.demands) (leave_row (context_of ctx.now) (shape_of gives.now.value.shape.value) gives.now.value.set exit value (spots_at node.now.at node.now.first node.now.second) (asked_of log.old.demands)) }
+    ensures exact { Meets found_of result (asked_of log.new.demands) (leave_row (context_of ctx.now) (shape_of gives.now.value.shape.value) gives.now.value.set exit value (spots_at node.now.at node.now.first node.now.second) (asked_of log.old.demands)) }
+    ensures places { IfOk result (λ f. places_of f.node.value ≡ Alone (spots_at node.now.at node.now.first node.now.second)) }
 {
     let takes = exit_part(alloc, ctx, node.first, exit)?;
     let given = type_of_variable(alloc, ctx, value)?;

@@ -2,6 +2,7 @@
 
 ghost use Rattle.std.specs.Prelude.{◌≡◌, true, nat_le, IfOk};
 ghost use Rattle.cc_core.specs.Captured.{captured_variables};
+ghost use Rattle.cc_core.specs.Places.{spots_at, places_around, places_of};
 ghost use Rattle.cc_core.specs.Sizes.{type_size, size_with};
 ghost use Rattle.cc_core.specs.Views.{shape_of, type_of, form_of, term_of};
 ghost use Rattle.cc_sets.specs.Inference.{result as plain_result, tested, greatest_size};
@@ -38,7 +39,8 @@ pub(crate) fn fits_with(ty: &Ty, by: &Shape) -> bool
 
 // The form at the places of the node.
 fn at_places_of(alloc: Global, node: &Node, form: Form) -> Result<Rc<Node>, AllocError>
-    ensures { IfOk result (λ n. term_of n.value ≡ form_of form) }
+    ensures term { IfOk result (λ n. term_of n.value ≡ form_of form) }
+    ensures places { IfOk result (λ n. places_of n.value ≡ places_around (spots_at node.now.at node.now.first node.now.second) form) }
 {
     let node = Node {
         form,
@@ -52,7 +54,8 @@ fn at_places_of(alloc: Global, node: &Node, form: Form) -> Result<Rc<Node>, Allo
 /// What is found for a form without parts, at the places of the node, where the type is not too large.
 pub(crate) fn fitting_leaf(alloc: Global, node: &Node, form: Form, ty: Ty) -> Result<Found, Stop>
     requires { nat_le (type_size (type_of ty)) greatest_size ≡ true }
-    ensures { Answers found_of result (tested ways node.now.at (plain_result (type_of ty) (form_of form))) }
+    ensures exact { Answers found_of result (tested ways node.now.at (plain_result (type_of ty) (form_of form))) }
+    ensures places { IfOk result (λ f. places_of f.node.value ≡ places_around (spots_at node.now.at node.now.first node.now.second) form) }
 {
     let node = at_places_of(alloc, node, form)?;
     let captured = cv(alloc, &node)?;
@@ -61,7 +64,8 @@ pub(crate) fn fitting_leaf(alloc: Global, node: &Node, form: Form, ty: Ty) -> Re
 
 /// The same of any type. One that is too large is refused.
 pub(crate) fn leaf(alloc: Global, node: &Node, form: Form, ty: Ty) -> Result<Found, Stop>
-    ensures { Answers found_of result (tested ways node.now.at (plain_result (type_of ty) (form_of form))) }
+    ensures exact { Answers found_of result (tested ways node.now.at (plain_result (type_of ty) (form_of form))) }
+    ensures places { IfOk result (λ f. places_of f.node.value ≡ places_around (spots_at node.now.at node.now.first node.now.second) form) }
 {
     if !fits(&ty) {
         return Err(refused(Code::E18, node.at));
@@ -79,7 +83,8 @@ pub(crate) fn fitting_parts(
 ) -> Result<Found, Stop>
     requires captured { captured ≡ captured_variables (form_of form) }
     requires fits { nat_le (type_size (type_of ty)) greatest_size ≡ true }
-    ensures { Answers found_of result (tested ways node.now.at (plain_result (type_of ty) (form_of form))) }
+    ensures exact { Answers found_of result (tested ways node.now.at (plain_result (type_of ty) (form_of form))) }
+    ensures places { IfOk result (λ f. places_of f.node.value ≡ places_around (spots_at node.now.at node.now.first node.now.second) form) }
 {
     let node = at_places_of(alloc, node, form)?;
     Ok(Found { ty, node, captured })
@@ -94,7 +99,8 @@ pub(crate) fn with_parts(
     captured: CapSet,
 ) -> Result<Found, Stop>
     requires { captured ≡ captured_variables (form_of form) }
-    ensures { Answers found_of result (tested ways node.now.at (plain_result (type_of ty) (form_of form))) }
+    ensures exact { Answers found_of result (tested ways node.now.at (plain_result (type_of ty) (form_of form))) }
+    ensures places { IfOk result (λ f. places_of f.node.value ≡ places_around (spots_at node.now.at node.now.first node.now.second) form) }
 {
     if !fits(&ty) {
         return Err(refused(Code::E18, node.at));

@@ -15,13 +15,13 @@ judge_found-requires-clause-keeps c =
     subst (λ ds. KeepsOf c.args.devices g d (checking_of c.in-Ok.found) (asked_of ds)) (sym c.demands.ensures)
     (keeps_of c.args.devices g d (checking_of c.in-Ok.found) (asked_of c.find.new.log.demands)
     (subst (λ ds. checked_log c.args.devices g d (asked_of ds)
-    ≡ Got (checking_of c.in-Ok.found) (asked_of c.find.new.log.demands)) c.new-log.ensures c.in-Ok.ensures))
+    ≡ Got (checking_of c.in-Ok.found) (asked_of c.find.new.log.demands)) c.new-log.ensures c.in-Ok.ensures.exact))
 
-pub returns : goal.returns
-returns c =
+pub returns-clause-verdict : goal.returns-clause-verdict
+returns-clause-verdict c =
     let g = context_of c.args.ctx.now in
     let d = definition_of c.args.def.now in
     subst (λ e. Judges c.args.devices g d (Err e)) (sym c.error_of.ensures)
     (judged_by_stop c.args.devices g d (asked_of c.find.new.log.demands) c.in-Err.stop
     (subst (λ ds. Meets checking_of (Err c.in-Err.stop) (asked_of c.find.new.log.demands)
-    (checked_log c.args.devices g d (asked_of ds))) c.new-log.ensures c.in-Err.ensures))
+    (checked_log c.args.devices g d (asked_of ds))) c.new-log.ensures c.in-Err.ensures.exact))

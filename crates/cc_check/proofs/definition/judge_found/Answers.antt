@@ -36,8 +36,8 @@ decide-requires-clause-ty c =
     (c.in_ok-filling.ensures.count ∙ c.in_ok-holes.ensures ∙ ap (λ n. holes_of (term_of n)) c.deref.ensures)
     c.in_ok-filling.ensures.over)
 
-pub returns : goal.returns
-returns c =
+pub returns-clause-verdict : goal.returns-clause-verdict
+returns-clause-verdict c =
     decided_by_failure c.args.devices (context_of c.args.ctx.now) (definition_of c.args.def.now)
     (checking_of c.args.found) (asked_of c.args.demands.now) c.requires.fits c.requires.holes c.requires.keeps
     c.len.result (c.len.ensures ∙ sym (length-map c.args.ctx.now bind_of)) c.in_ok-filling.filling
@@ -47,4 +47,4 @@ returns c =
     (Answers c.decide.result
     (signature_verdict (filled_by sets) (definition_of c.args.def.now) (checking_of c.args.found)
     (signature_under (filled_by sets) c.args.devices (context_of c.args.ctx.now) (checking_of c.args.found))))
-    (λ diag. Answers c.decide.result (IsRefused diag.code diag.place))) c.as_slice.ensures c.decide.ensures)
+    (λ diag. Answers c.decide.result (IsRefused diag.code diag.place))) c.as_slice.ensures c.decide.ensures.verdict)

@@ -17,8 +17,8 @@ pub check_inside-requires-clause-right : goal.check_inside-requires-clause-right
 check_inside-requires-clause-right c =
     subst (λ g. IsWellFormedTerm g (term_of c.args.def.now.right.value)) (sym c.in_ok-inner.ensures.is) c.requires.right
 
-pub returns : goal.returns
-returns c =
+pub returns-clause-exact : goal.returns-clause-exact
+returns-clause-exact c =
     subst (λ g. Meets checking_of c.check_inside.result (asked_of c.check_inside.new.log.demands)
     (below_log g (definition_of c.args.def.now) (type_of c.args.sig) (asked_of c.args.log.now.demands)))
-    c.in_ok-inner.ensures.is c.check_inside.ensures
+    c.in_ok-inner.ensures.is c.check_inside.ensures.exact

@@ -17,7 +17,7 @@ pub infer-returns-clause-formed : goal.infer-returns-clause-formed
 infer-returns-clause-formed t c =
     type_of_found c.args.root (context_of c.args.ctx.now) (term_of c.args.node.now.value)
     (places_of c.args.node.now.value) _ _ (found_of c.in_ok-found.found)
-    c.requires.context c.requires.term c.in_ok-found.ensures
+    c.requires.context c.requires.term c.in_ok-found.ensures.exact
 
 pub infer_form-body_context-requires-clause-body : goal.infer_form-body_context-requires-clause-body
 infer_form-body_context-requires-clause-body t c =
@@ -38,8 +38,8 @@ infer_form-bounded-requires-clause-gives t c =
     subst (λ h. IsWellFormedShape h shape) (sym c.in_ok-inner-in-Boundary.ensures.is)
     (shape_with_entry g (exit_entry shape) shape formed)
 
-pub infer_form-returns-in_ok-two-in-Let : goal.infer_form-returns-in_ok-two-in-Let
-infer_form-returns-in_ok-two-in-Let t c =
+pub infer_form-returns-in_ok-two-in-Let-clause-exact : goal.infer_form-returns-in_ok-two-in-Let-clause-exact
+infer_form-returns-in_ok-two-in-Let-clause-exact t c =
     let node = c.args.node.now.value in
     let g = context_of c.args.ctx.now in
     let own = spots_at node.at node.first node.second in
@@ -58,5 +58,5 @@ infer_form-returns-in_ok-two-in-Let t c =
     let end = λ (m : Node). let_end g m.at m.first (named_of c.in_ok-named-in-Let.named)
     (found_of c.in_ok-one-in-Let.one) (found_of c.in_ok-two-in-Let.two) in
     let met = subst (λ (m : Node). Meets found_of c.let_end.result last (ends (end m) last)) c.deref-in-Let.ensures
-    (ends_met found_of c.let_end.result (end c.deref-in-Let.result.now) last c.let_end.ensures) in
+    (ends_met found_of c.let_end.result (end c.deref-in-Let.result.now) last c.let_end.ensures.exact) in
     subst (Meets found_of c.let_end.result last) (sym (start ∙ steps)) met
