@@ -1,6 +1,7 @@
 //! Terms.
 
-ghost use Rattle.std.specs.Prelude.{◌≡◌, ◌≤◌, nat_lt, length};
+ghost use Rattle.std.specs.Prelude.{◌≡◌, ◌≤◌, nat_lt, length, IfOk};
+ghost use Rattle.cc_core.specs.Places.{places_around, places_of};
 ghost use Rattle.cc_core.specs.Views.{form_of, term_of, note_of};
 ghost use Rattle.cc_certificate_text.specs.Reading.{
   Counted,
@@ -34,6 +35,7 @@ ghost use Rattle.cc_certificate_text.specs.Reading.{
   Tells,
   Asks,
 };
+ghost use Rattle.cc_certificate_terms.specs.FirstPlaces.{first_spots, AreFirst};
 ghost use Rattle.cc_certificate_types.specs.Agreement.{Agrees};
 
 use crate::literals::{literal_of, text_of};
@@ -52,7 +54,8 @@ use std::rc::Rc;
 
 // The term at the first place of all.
 fn node(form: Form) -> Node
-    ensures { term_of result ≡ form_of form }
+    ensures form { term_of result ≡ form_of form }
+    ensures placed { AreFirst (places_around first_spots form) → AreFirst (places_of result) }
 {
     let at = Place { line: 1, col: 1 };
     Node {
@@ -124,7 +127,8 @@ fn read_function<'a>(
 ) -> Reading<'a, Node>
     requires names { length names.now ≤ 4294967296 }
     requires depth { depth ≤ 4294967296 }
-    ensures { Agrees term_of result (term_rule_at (term_parts names.now room (shape_at Counted names.now room) (term_at names.now room)) FunRule depth bytes.now) }
+    ensures read { Agrees term_of result (term_rule_at (term_parts names.now room (shape_at Counted names.now room) (term_at names.now room)) FunRule depth bytes.now) }
+    ensures placed { IfOk result (λ read. AreFirst (places_of read.0)) }
 {
     let (_, rest) = read_same(depth, bytes)?;
     let (_, rest) = read_exact(": ", rest)?;
@@ -148,7 +152,8 @@ fn read_type_function<'a>(
 ) -> Reading<'a, Node>
     requires names { length names.now ≤ 4294967296 }
     requires depth { depth ≤ 4294967296 }
-    ensures { Agrees term_of result (term_rule_at (term_parts names.now room (shape_at Counted names.now room) (term_at names.now room)) TypeFunRule depth bytes.now) }
+    ensures read { Agrees term_of result (term_rule_at (term_parts names.now room (shape_at Counted names.now room) (term_at names.now room)) TypeFunRule depth bytes.now) }
+    ensures placed { IfOk result (λ read. AreFirst (places_of read.0)) }
 {
     let (_, rest) = read_same(depth, bytes)?;
     let (_, rest) = read_exact(" <: ", rest)?;
@@ -172,7 +177,8 @@ fn read_let<'a>(
 ) -> Reading<'a, Node>
     requires names { length names.now ≤ 4294967296 }
     requires depth { depth ≤ 4294967296 }
-    ensures { Agrees term_of result (term_rule_at (term_parts names.now room (shape_at Counted names.now room) (term_at names.now room)) LetRule depth bytes.now) }
+    ensures read { Agrees term_of result (term_rule_at (term_parts names.now room (shape_at Counted names.now room) (term_at names.now room)) LetRule depth bytes.now) }
+    ensures placed { IfOk result (λ read. AreFirst (places_of read.0)) }
 {
     let (_, rest) = read_same(depth, bytes)?;
     let (note, rest) = read_note(alloc, names, room, depth, rest)?;
@@ -197,7 +203,8 @@ fn read_choice<'a>(
 ) -> Reading<'a, Node>
     requires names { length names.now ≤ 4294967296 }
     requires depth { depth ≤ 4294967296 }
-    ensures { Agrees term_of result (term_rule_at (term_parts names.now room (shape_at Counted names.now room) (term_at names.now room)) IfRule depth bytes.now) }
+    ensures read { Agrees term_of result (term_rule_at (term_parts names.now room (shape_at Counted names.now room) (term_at names.now room)) IfRule depth bytes.now) }
+    ensures placed { IfOk result (λ read. AreFirst (places_of read.0)) }
 {
     let (ty, rest) = read_type(alloc, Locals::Counted, names, room, depth, bytes)?;
     let (_, rest) = read_exact("] ", rest)?;
@@ -227,7 +234,8 @@ fn read_boundary<'a>(
 ) -> Reading<'a, Node>
     requires names { length names.now ≤ 4294967296 }
     requires depth { depth ≤ 4294967296 }
-    ensures { Agrees term_of result (term_rule_at (term_parts names.now room (shape_at Counted names.now room) (term_at names.now room)) BoundaryRule depth bytes.now) }
+    ensures read { Agrees term_of result (term_rule_at (term_parts names.now room (shape_at Counted names.now room) (term_at names.now room)) BoundaryRule depth bytes.now) }
+    ensures placed { IfOk result (λ read. AreFirst (places_of read.0)) }
 {
     let (gives, rest) = read_shape(alloc, Locals::Counted, names, room, depth, bytes)?;
     let (_, rest) = read_exact("] _", rest)?;
@@ -244,7 +252,8 @@ fn read_boundary<'a>(
 fn read_boxing<'a>(names: &[Name], room: u32, depth: u64, bytes: &'a [u8]) -> Reading<'a, Node>
     requires names { length names.now ≤ 4294967296 }
     requires depth { depth ≤ 4294967296 }
-    ensures { Agrees term_of result (term_rule_at (term_parts names.now room (shape_at Counted names.now room) (term_at names.now room)) BoxingRule depth bytes.now) }
+    ensures read { Agrees term_of result (term_rule_at (term_parts names.now room (shape_at Counted names.now room) (term_at names.now room)) BoxingRule depth bytes.now) }
+    ensures placed { IfOk result (λ read. AreFirst (places_of read.0)) }
 {
     let (content, rest) = read_operand(names, room, depth, bytes)?;
     Ok((node(Form::Boxed(content)), rest))
@@ -261,7 +270,8 @@ fn read_unboxing<'a>(
 ) -> Reading<'a, Node>
     requires names { length names.now ≤ 4294967296 }
     requires depth { depth ≤ 4294967296 }
-    ensures { Agrees term_of result (term_rule_at (term_parts names.now room (shape_at Counted names.now room) (term_at names.now room)) UnboxRule depth bytes.now) }
+    ensures read { Agrees term_of result (term_rule_at (term_parts names.now room (shape_at Counted names.now room) (term_at names.now room)) UnboxRule depth bytes.now) }
+    ensures placed { IfOk result (λ read. AreFirst (places_of read.0)) }
 {
     let (set, rest) = read_set(alloc, Locals::Counted, names, depth, bytes)?;
     let (_, rest) = read_exact(" ", rest)?;
@@ -274,7 +284,8 @@ fn read_unboxing<'a>(
 fn read_repetition<'a>(names: &[Name], room: u32, depth: u64, bytes: &'a [u8]) -> Reading<'a, Node>
     requires names { length names.now ≤ 4294967296 }
     requires depth { depth ≤ 4294967296 }
-    ensures { Agrees term_of result (term_rule_at (term_parts names.now room (shape_at Counted names.now room) (term_at names.now room)) RepeatRule depth bytes.now) }
+    ensures read { Agrees term_of result (term_rule_at (term_parts names.now room (shape_at Counted names.now room) (term_at names.now room)) RepeatRule depth bytes.now) }
+    ensures placed { IfOk result (λ read. AreFirst (places_of read.0)) }
 {
     let (count, rest) = read_operand(names, room, depth, bytes)?;
     let (_, rest) = read_exact(", ", rest)?;
@@ -294,7 +305,8 @@ fn read_leaving<'a>(
 ) -> Reading<'a, Node>
     requires names { length names.now ≤ 4294967296 }
     requires depth { depth ≤ 4294967296 }
-    ensures { Agrees term_of result (term_rule_at (term_parts names.now room (shape_at Counted names.now room) (term_at names.now room)) LeaveRule depth bytes.now) }
+    ensures read { Agrees term_of result (term_rule_at (term_parts names.now room (shape_at Counted names.now room) (term_at names.now room)) LeaveRule depth bytes.now) }
+    ensures placed { IfOk result (λ read. AreFirst (places_of read.0)) }
 {
     let (ty, rest) = read_type(alloc, Locals::Counted, names, room, depth, bytes)?;
     let (_, rest) = read_exact("] (", rest)?;
@@ -317,7 +329,8 @@ fn read_call<'a>(
 ) -> Reading<'a, Node>
     requires names { length names.now ≤ 4294967296 }
     requires depth { depth ≤ 4294967296 }
-    ensures { Agrees term_of result (head_rule_at (term_parts names.now room (shape_at Counted names.now room) (term_at names.now room)) room head Calls depth bytes.now) }
+    ensures read { Agrees term_of result (head_rule_at (term_parts names.now room (shape_at Counted names.now room) (term_at names.now room)) room head Calls depth bytes.now) }
+    ensures placed { IfOk result (λ read. AreFirst (places_of read.0)) }
 {
     if room == 0 {
         return Err(Stop::Misfit);
@@ -339,7 +352,8 @@ fn read_type_call<'a>(
 ) -> Reading<'a, Node>
     requires names { length names.now ≤ 4294967296 }
     requires depth { depth ≤ 4294967296 }
-    ensures { Agrees term_of result (head_rule_at (term_parts names.now room (shape_at Counted names.now room) (term_at names.now room)) room head TypeCalls depth bytes.now) }
+    ensures read { Agrees term_of result (head_rule_at (term_parts names.now room (shape_at Counted names.now room) (term_at names.now room)) room head TypeCalls depth bytes.now) }
+    ensures placed { IfOk result (λ read. AreFirst (places_of read.0)) }
 {
     if room == 0 {
         return Err(Stop::Misfit);
@@ -362,7 +376,8 @@ fn read_right<'a>(
 ) -> Reading<'a, Node>
     requires names { length names.now ≤ 4294967296 }
     requires depth { depth ≤ 4294967296 }
-    ensures { Agrees term_of result (head_rule_at (term_parts names.now room (shape_at Counted names.now room) (term_at names.now room)) room head (Computes operator) depth bytes.now) }
+    ensures read { Agrees term_of result (head_rule_at (term_parts names.now room (shape_at Counted names.now room) (term_at names.now room)) room head (Computes operator) depth bytes.now) }
+    ensures placed { IfOk result (λ read. AreFirst (places_of read.0)) }
 {
     if room == 0 {
         return Err(Stop::Misfit);
@@ -383,7 +398,8 @@ fn read_told<'a>(
 ) -> Reading<'a, Node>
     requires names { length names.now ≤ 4294967296 }
     requires depth { depth ≤ 4294967296 }
-    ensures { Agrees term_of result (head_rule_at (term_parts names.now room (shape_at Counted names.now room) (term_at names.now room)) room head (Tells operation) depth bytes.now) }
+    ensures read { Agrees term_of result (head_rule_at (term_parts names.now room (shape_at Counted names.now room) (term_at names.now room)) room head (Tells operation) depth bytes.now) }
+    ensures placed { IfOk result (λ read. AreFirst (places_of read.0)) }
 {
     if room == 0 {
         return Err(Stop::Misfit);
@@ -405,7 +421,8 @@ fn read_asked<'a>(
 ) -> Reading<'a, Node>
     requires names { length names.now ≤ 4294967296 }
     requires depth { depth ≤ 4294967296 }
-    ensures { Agrees term_of result (head_rule_at (term_parts names.now room (shape_at Counted names.now room) (term_at names.now room)) room head (Asks operation) depth bytes.now) }
+    ensures read { Agrees term_of result (head_rule_at (term_parts names.now room (shape_at Counted names.now room) (term_at names.now room)) room head (Asks operation) depth bytes.now) }
+    ensures placed { IfOk result (λ read. AreFirst (places_of read.0)) }
 {
     if room == 0 {
         return Err(Stop::Misfit);
@@ -425,7 +442,8 @@ fn read_computed<'a>(
 ) -> Reading<'a, Node>
     requires names { length names.now ≤ 4294967296 }
     requires depth { depth ≤ 4294967296 }
-    ensures { Agrees term_of result (computed_at (term_parts names.now room (shape_at Counted names.now room) (term_at names.now room)) room head depth bytes.now) }
+    ensures read { Agrees term_of result (computed_at (term_parts names.now room (shape_at Counted names.now room) (term_at names.now room)) room head depth bytes.now) }
+    ensures placed { IfOk result (λ read. AreFirst (places_of read.0)) }
 {
     if let Some(rest) = behind(bytes, " + ") {
         return read_right(names, room, depth, head, Operator::Add, rest);
@@ -456,7 +474,8 @@ fn read_operated<'a>(
 ) -> Reading<'a, Node>
     requires names { length names.now ≤ 4294967296 }
     requires depth { depth ≤ 4294967296 }
-    ensures { Agrees term_of result (operated_at (term_parts names.now room (shape_at Counted names.now room) (term_at names.now room)) room head depth bytes.now (computed_at (term_parts names.now room (shape_at Counted names.now room) (term_at names.now room)) room head depth bytes.now)) }
+    ensures read { Agrees term_of result (operated_at (term_parts names.now room (shape_at Counted names.now room) (term_at names.now room)) room head depth bytes.now (computed_at (term_parts names.now room (shape_at Counted names.now room) (term_at names.now room)) room head depth bytes.now)) }
+    ensures placed { IfOk result (λ read. AreFirst (places_of read.0)) }
 {
     if let Some(rest) = behind(bytes, ".print(") {
         return read_told(names, room, depth, head, Op::Print, rest);
@@ -488,7 +507,8 @@ fn read_headed<'a>(
 ) -> Reading<'a, Node>
     requires names { length names.now ≤ 4294967296 }
     requires depth { depth ≤ 4294967296 }
-    ensures { Agrees term_of result (headed_at (term_parts names.now room (shape_at Counted names.now room) (term_at names.now room)) room head depth bytes.now) }
+    ensures read { Agrees term_of result (headed_at (term_parts names.now room (shape_at Counted names.now room) (term_at names.now room)) room head depth bytes.now) }
+    ensures placed { IfOk result (λ read. AreFirst (places_of read.0)) }
 {
     if let Some(rest) = behind(bytes, "(") {
         return read_call(names, room, depth, head, rest);
@@ -502,7 +522,8 @@ fn read_headed<'a>(
 // A text, behind its first quote.
 #[tactic(auto, unfolding(cc_certificate_text::specs::Reading::text_at))]
 fn read_text<'a>(alloc: Global, bytes: &'a [u8]) -> Reading<'a, Node>
-    ensures { Agrees term_of result (text_at bytes.now) }
+    ensures read { Agrees term_of result (text_at bytes.now) }
+    ensures placed { IfOk result (λ read. AreFirst (places_of read.0)) }
 {
     let Some((word, rest)) = cut_at(bytes, b'"') else {
         return Err(Stop::Misfit);
@@ -524,7 +545,8 @@ fn read_word_term<'a>(
 ) -> Reading<'a, Node>
     requires names { length names.now ≤ 4294967296 }
     requires depth { depth ≤ 4294967296 }
-    ensures { Agrees term_of result (word_term_at names.now (term_parts names.now room (shape_at Counted names.now room) (term_at names.now room)) room depth bytes.now) }
+    ensures read { Agrees term_of result (word_term_at names.now (term_parts names.now room (shape_at Counted names.now room) (term_at names.now room)) room depth bytes.now) }
+    ensures placed { IfOk result (λ read. AreFirst (places_of read.0)) }
 {
     let (word, rest) = word_at(bytes);
     match variable_of(Locals::Counted, names, depth, word) {
@@ -547,7 +569,8 @@ fn read_plain_term<'a>(
 ) -> Reading<'a, Node>
     requires names { length names.now ≤ 4294967296 }
     requires depth { depth ≤ 4294967296 }
-    ensures { Agrees term_of result (plain_term_at names.now (term_parts names.now room (shape_at Counted names.now room) (term_at names.now room)) room depth bytes.now) }
+    ensures read { Agrees term_of result (plain_term_at names.now (term_parts names.now room (shape_at Counted names.now room) (term_at names.now room)) room depth bytes.now) }
+    ensures placed { IfOk result (λ read. AreFirst (places_of read.0)) }
 {
     if let Some(rest) = behind(bytes, "box ") {
         return read_boxing(names, room, depth, rest);
@@ -579,7 +602,8 @@ fn read_term_over<'a>(
 ) -> Reading<'a, Node>
     requires names { length names.now ≤ 4294967296 }
     requires depth { depth ≤ 4294967296 }
-    ensures { Agrees term_of result (term_over names.now (term_parts names.now room (shape_at Counted names.now room) (term_at names.now room)) room depth bytes.now) }
+    ensures read { Agrees term_of result (term_over names.now (term_parts names.now room (shape_at Counted names.now room) (term_at names.now room)) room depth bytes.now) }
+    ensures placed { IfOk result (λ read. AreFirst (places_of read.0)) }
 {
     if let Some(rest) = behind(bytes, "fun (_") {
         return read_function(alloc, names, room, depth, rest);
@@ -599,7 +623,7 @@ fn read_term_over<'a>(
     read_plain_term(alloc, names, room, depth, bytes)
 }
 
-/// A term that is no higher than the room, under so many binders.
+/// A term that is no higher than the room, under so many binders. All its places are the first one of a text.
 #[cycle(terms)]
 #[tactic(auto, using(crate::proofs::Rooms::term_above, crate::proofs::Rooms::term_nowhere))]
 pub fn read_term<'a>(
@@ -611,7 +635,8 @@ pub fn read_term<'a>(
 ) -> Reading<'a, Node>
     requires names { length names.now ≤ 4294967296 }
     requires depth { depth ≤ 4294967296 }
-    ensures { Agrees term_of result (term_at names.now room depth bytes.now) }
+    ensures read { Agrees term_of result (term_at names.now room depth bytes.now) }
+    ensures placed { IfOk result (λ read. AreFirst (places_of read.0)) }
 {
     if room == 0 {
         return Err(Stop::Misfit);
