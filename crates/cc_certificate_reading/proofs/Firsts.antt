@@ -1,6 +1,6 @@
 -- The first number in some room, and in none.
 use Rattle.std.proofs.Common.{◌≡◌, ℕ, zero, suc, ◌-◌, ◌<◌, List, refl, arith}
-use Rattle.cc_certificate_text.specs.Reading.{Found, Wrong}
+use Rattle.cc_certificate_text.specs.Reading.{Wrong}
 use Rattle.cc_certificate_text.specs.LineReading.{first_over, first_at}
 
 pub first_nowhere : (room : ℕ) (bytes : List ℕ) → room ≡ 0 → first_at room bytes ≡ Wrong

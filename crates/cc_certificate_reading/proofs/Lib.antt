@@ -1,3 +1,4 @@
 pub mod Firsts
+pub mod Limits
 pub mod Progress
 pub mod WorkedCertificates

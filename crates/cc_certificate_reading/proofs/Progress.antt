@@ -1,13 +1,12 @@
 -- How far reading has come, and each step of it.
-use Rattle.std.proofs.Common.{◌≡◌, ℕ, zero, suc, ◌+◌, ◌<◌, ◌≤◌, List, [], ◌∷◌, ◌++◌, ◌-◌, take, map, length, bytes_eq, refl, sym, ap, subst, ◌∙◌, arith, append_assoc}
+use Rattle.std.proofs.Common.{◌≡◌, ℕ, suc, ◌+◌, ◌<◌, ◌≤◌, List, [], ◌∷◌, ◌++◌, ◌-◌, take, map, length, bytes_eq, refl, sym, ap, subst, ◌∙◌, arith, append_assoc}
 use Rattle.std.specs.List.{AllByRecursion, IsDistinct}
 use Rattle.std.proofs.lemmas.List.{length-append, append-nil}
 use Rattle.cc_base.specs.Names.{IsName}
 use Rattle.cc_core.specs.declared.types.Ty.{Ty}
-use Rattle.cc_core.specs.declared.terms.Node.{Node}
 use Rattle.cc_core.specs.Contexts.{Context, entry_of}
 use Rattle.cc_core.specs.Views.{type_of, term_of}
-use Rattle.cc_certificate_text.specs.Certificates.{Line, Opens, Binds, States, Concludes, Stage, Start, Binding, Proving, behind_line, line_text, Stops, IsCertificate, IsBadLine}
+use Rattle.cc_certificate_text.specs.Certificates.{Line, Opens, Binds, States, Start, Binding, Proving, line_text, IsCertificate, IsBadLine}
 use Rattle.cc_certificate_text.specs.Reading.{Got, Wrong}
 use Rattle.cc_certificate_text.specs.LineReading.{next_line}
 use Rattle.cc_certificate_text.proofs.LinesRead.{StageOk}
@@ -16,7 +15,7 @@ use Rattle.cc_certificate_reading.specs.Views.{bind_line_of, node_line_of}
 use Rattle.cc_certificate_reading.specs.declared.certificate.CertNode.{CertNode}
 use Rattle.cc_certificate_reading.specs.declared.read.Heading.{Heading}
 use Rattle.cc_certificate_reading.specs.Progress.{heading_lines, IsHeading, StopsAs, ReadsHeading, ReadsNodes}
-use Rattle.std.specs.Prelude.{Result, Err, ⊤}
+use Rattle.std.specs.Prelude.{Err, ⊤}
 use Rattle.cc_certificate_types.specs.declared.stop.Stop.{Stop}
 use Rattle.cc_certificate_types.specs.declared.stop.Stop.TheVariants as stops
 use Rattle.cc_certificate_reading.specs.declared.certificate.ReadCertError.{ReadCertError}

@@ -1,28 +1,27 @@
 -- Worked certificates, and bytes that are none, by computation.
-use Rattle.std.proofs.Common.{◌≡◌, ℕ, suc, List, [], ◌∷◌, ◌++◌, codes, Some, None, bytes_eq, refl, arith}
+use Rattle.std.proofs.Common.{◌≡◌, ℕ, List, [], ◌∷◌, ◌++◌, codes, None, bytes_eq, refl, arith}
 use Rattle.std.specs.Fmt.{digits}
 use Rattle.cc_capture.specs.Elements.{element_order}
 use Rattle.cc_capture.specs.Rising.{placed}
-use Rattle.cc_capture.specs.Sets.{Set, Member, from_list, insert, empty, image}
+use Rattle.cc_capture.specs.Sets.{from_list, insert, empty, image}
 use Rattle.cc_capture.proofs.Membership.{Member-empty}
 use Rattle.cc_core.specs.Derivations.{t-var, OfType}
 use Rattle.cc_core.specs.Shapes.{capturing}
 use Rattle.cc_core.specs.Occurrences.{HasNoHoleInSet}
-use Rattle.cc_certificate_text.specs.Certificates.{Line, Stage, Start, Binding, Proving, Opens, States, Concludes, Fits, IsCertificate, IsBadLine}
+use Rattle.cc_certificate_text.specs.Certificates.{Binding, Proving, Opens, States, Concludes, Fits, IsBadLine}
 use Rattle.std.specs.List.{IsDistinct}
 use Rattle.cc_job.specs.Reading.{number_of}
 use Rattle.cc_certificate_text.specs.Reading.{Wrong, begun, word_at, exact_at, number_at, same_number_at}
 use Rattle.cc_certificate_text.specs.LineReading.{next_line, line_at, node_at, numbered_node_at, rule_at, rule_of, numbers_at, numbers_of, ends_with}
 use Rattle.cc_certificate_text.proofs.Certified.{stops_there}
-use Rattle.cc_certificate_text.proofs.LinesRead.{StageOk}
-use Rattle.cc_certificate_reading.specs.Examples.{text, opening, statement, body_node, none, parameter, nothing, identity, body_line, function_line, IdentityIsCertified, WrongTypeIsRead, WrongPremiseIsBad, NoNodeIsBad, TwoRootsAreBad, LeadingZeroIsBad, NothingIsBad}
+use Rattle.cc_certificate_reading.specs.Examples.{text, opening, statement, none, nothing, identity, body_line, function_line, IdentityIsCertified, WrongTypeIsRead, WrongPremiseIsBad, NoNodeIsBad, TwoRootsAreBad, LeadingZeroIsBad, NothingIsBad}
 use lib.Utf8.{encode}
 
-no_holes : HasNoHoleInSet none
+pub no_holes : HasNoHoleInSet none
 unfolding from_list
 no_holes e m = absurd (Member-empty e m)
 
-identity_fits : Fits (Binding [] []) (States identity)
+pub identity_fits : Fits (Binding [] []) (States identity)
 unfolding from_list insert empty placed element_order
 identity_fits = (refl, (tt, no_holes, tt), omega arith)
 
@@ -83,16 +82,16 @@ two_roots = record {
 pub nothing_there : NothingIsBad
 nothing_there = record { lines = []; fit = tt; rest = []; written = refl; stops = λ whole. whole; place = refl }
 
-no_names : IsDistinct bytes_eq []
+pub no_names : IsDistinct bytes_eq []
 unfolding IsDistinct
 no_names = tt
 
-some_bytes : (b : ℕ) (bs : List ℕ) → b ∷ bs ≡ [] → ⊥
+pub some_bytes : (b : ℕ) (bs : List ℕ) → b ∷ bs ≡ [] → ⊥
 some_bytes b bs e = cc
 
 -- behind the term no line begins with these bytes
 module _ (rest : List ℕ) (wrong : next_line (Proving [] 0 []) rest ≡ Wrong) (some : rest ≡ [] → ⊥) where
-  bad_first_node : IsBadLine (text (opening ∷ statement ∷ []) ++ rest) 3
+  pub bad_first_node : IsBadLine (text (opening ∷ statement ∷ []) ++ rest) 3
   unfolding from_list insert empty placed element_order image digits encode
   bad_first_node = record {
     lines = Opens ∷ States identity ∷ [];

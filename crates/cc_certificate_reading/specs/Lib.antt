@@ -1,4 +1,5 @@
 pub mod Examples
+pub mod LimitExamples
 pub mod Progress
 pub mod RuleLists
 pub mod Views

@@ -4,9 +4,11 @@ use Rattle.std.specs.Borrow.{Bor}
 use Rattle.std.specs.List.{AllByRecursion, IsDistinct}
 use Rattle.std.specs.Str.{bytes_eq}
 use Rattle.cc_base.specs.Names.{IsName}
+use Rattle.cc_core.specs.Places.{places_of}
 use Rattle.cc_core.specs.Views.{type_of, term_of}
 use Rattle.cc_certificate_text.specs.Certificates.{Line, Opens, Binds, States, Start, Proving, AllFit, behind_lines}
 use Rattle.cc_certificate_text.specs.Certificates.{lines_text, IsCertificate, IsBadLine}
+use Rattle.cc_certificate_terms.specs.FirstPlaces.{AreFirst}
 use Rattle.cc_certificate_types.specs.declared.stop.Stop.{Stop}
 use Rattle.cc_certificate_types.specs.declared.stop.Stop.TheVariants as stops
 use Rattle.cc_certificate_reading.specs.Views.{bind_line_of, node_line_of}
@@ -21,6 +23,11 @@ use Rattle.cc_certificate_reading.specs.declared.read.Heading.{Heading}
 abbrev pub entry_line_of : Entry → Line
 entry_line_of (entries.Bind name type) = Binds name (type_of type)
 entry_line_of (entries.Term term) = States (term_of term)
+
+-- where it is the term, all its places are the first one of a text
+abbrev pub IsPlacedEntry : Entry → Type 0
+IsPlacedEntry (entries.Bind name type) = Unit {0}
+IsPlacedEntry (entries.Term term) = AreFirst (places_of term)
 
 -- the number behind, unless it is too great
 abbrev pub IsNextLine : ℕ → Result ℕ ReadCertError → Type 0

@@ -1,6 +1,5 @@
 -- The plain values that the program's values stand for.
-use Rattle.std.specs.Prelude.{ℕ, Bool, true, false, List, [], ◌∷◌, ◌++◌, map, Option, Result, Ok, Err}
-use Rattle.cc_base.specs.Names.{IsName}
+use Rattle.std.specs.Prelude.{ℕ, List, ◌∷◌, ◌++◌, map, Option, Result, Ok, Err}
 use Rattle.cc_core.specs.declared.types.Ty.{Ty}
 use Rattle.cc_core.specs.Views.{type_of, term_of}
 use Rattle.cc_derivation.specs.declared.derivation.Claim.{Claim as DeclaredClaim}

@@ -3,10 +3,12 @@
 ghost use Rattle.std.specs.Prelude.{◌≡◌, ◌≤◌, length, IfOk};
 ghost use Rattle.std.specs.Str.{bytes_eq};
 ghost use Rattle.std.specs.List.{list_any};
+ghost use Rattle.cc_core.specs.Places.{places_of};
 ghost use Rattle.cc_core.specs.Views.{term_of, context_of};
 ghost use Rattle.cc_job.specs.Reading.{name_of};
 ghost use Rattle.cc_certificate_text.specs.Certificates.{States};
 ghost use Rattle.cc_certificate_text.specs.LineReading.{name_at, bind_at, statement_at};
+ghost use Rattle.cc_certificate_terms.specs.FirstPlaces.{AreFirst};
 ghost use Rattle.cc_certificate_types.specs.Agreement.{Agrees};
 ghost use Rattle.cc_certificate_reading.specs.Views.{bind_line_of};
 
@@ -79,7 +81,7 @@ pub fn read_bind<'a>(
     Ok(((name, ty), rest))
 }
 
-/// The term over the binds.
+/// The term over the binds. All its places are the first one of a text.
 #[tactic(auto, unfolding(cc_certificate_text::specs::LineReading::statement_at))]
 pub fn read_statement<'a>(
     alloc: Global,
@@ -88,7 +90,8 @@ pub fn read_statement<'a>(
     bytes: &'a [u8],
 ) -> Reading<'a, Node>
     requires { length names.now ≤ 4294967296 }
-    ensures { Agrees (λ node. States (term_of node)) result (statement_at names.now (context_of ctx.now) bytes.now) }
+    ensures read { Agrees (λ node. States (term_of node)) result (statement_at names.now (context_of ctx.now) bytes.now) }
+    ensures placed { IfOk result (λ read. AreFirst (places_of read.0)) }
 {
     let (node, rest) = read_term(alloc, names, 5000, 0, bytes)?;
     if !wf_term(ctx, &node) {

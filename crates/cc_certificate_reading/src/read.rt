@@ -2,12 +2,14 @@
 
 ghost use Rattle.std.specs.Prelude.{◌≡◌, ◌≤◌, ◌-◌, ◌++◌, ◌∷◌, [], length, take, OnOk, IfOk};
 ghost use Rattle.cc_core.specs.Contexts.{entry_of};
+ghost use Rattle.cc_core.specs.Places.{places_of};
 ghost use Rattle.cc_core.specs.Views.{type_of, context_of};
 ghost use Rattle.cc_certificate_text.specs.Certificates.{Opens, Start, Binding, Proving};
 ghost use Rattle.cc_certificate_text.specs.LineReading.{next_line};
+ghost use Rattle.cc_certificate_terms.specs.FirstPlaces.{AreFirst};
 ghost use Rattle.cc_certificate_types.specs.Agreement.{Agrees};
 ghost use Rattle.cc_certificate_reading.specs.Views.{node_line_of, ReadsCertificate};
-ghost use Rattle.cc_certificate_reading.specs.Progress.{entry_line_of, IsNextLine, StopsAs, IsHeading, ReadsHeading, ReadsNodes};
+ghost use Rattle.cc_certificate_reading.specs.Progress.{entry_line_of, IsPlacedEntry, IsNextLine, StopsAs, IsHeading, ReadsHeading, ReadsNodes};
 
 use crate::binds::{read_bind, read_statement};
 use crate::certificate::{Cert, CertNode, ReadCertError};
@@ -57,7 +59,8 @@ fn read_opening(bytes: &[u8]) -> Reading<'_, ()>
 #[tactic(auto, unfolding(cc_certificate_text::specs::LineReading::next_line, cc_certificate_text::specs::LineReading::line_at, cc_certificate_text::specs::Reading::begun))]
 fn read_entry<'a>(alloc: Global, names: &[Name], ctx: &Ctx, bytes: &'a [u8]) -> Reading<'a, Entry>
     requires { length names.now ≤ 4294967296 }
-    ensures { Agrees entry_line_of result (next_line (Binding names.now (context_of ctx.now)) bytes.now) }
+    ensures read { Agrees entry_line_of result (next_line (Binding names.now (context_of ctx.now)) bytes.now) }
+    ensures placed { IfOk result (λ read. IsPlacedEntry read.0) }
 {
     if let Some(rest) = behind(bytes, "bind ") {
         let ((name, ty), rest) = read_bind(alloc, names, ctx, rest)?;
@@ -151,7 +154,8 @@ pub fn read_heading<'a>(
     alloc: Global,
     bytes: &'a [u8],
 ) -> Result<(Heading, &'a [u8]), ReadCertError>
-    ensures { ReadsHeading bytes.now result }
+    ensures heading { ReadsHeading bytes.now result }
+    ensures placed { IfOk result (λ read. AreFirst (places_of read.0.term)) }
 {
     let opening = match read_opening(bytes) {
         Ok(read) => read,
@@ -228,12 +232,13 @@ pub fn read_nodes(
     }
 }
 
-/// The certificate whose text the bytes are.
+/// The certificate whose text the bytes are. All places of its term are the first one of a text.
 ///
 /// Fails with `BadCert` exactly where they are none, and names the first line that does not fit, or the one behind the
 /// last where all fit. Fails with `NoMemory` for want of memory, as which more than 2^32 - 1 lines count.
 pub fn read_cert(alloc: Global, bytes: &[u8]) -> Result<Cert, ReadCertError>
-    ensures { ReadsCertificate bytes.now result }
+    ensures read { ReadsCertificate bytes.now result }
+    ensures placed { IfOk result (λ cert. AreFirst (places_of cert.term.value)) }
 {
     let (heading, rest) = match read_heading(alloc, bytes) {
         Ok(read) => read,

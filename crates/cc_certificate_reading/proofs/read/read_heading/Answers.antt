@@ -1,15 +1,14 @@
-use Rattle.std.proofs.Common.{◌≡◌, ◌<◌, ◌≤◌, Err, length, refl, sym, ap, subst, arith}
+use Rattle.std.proofs.Common.{◌≡◌, ◌<◌, ◌≤◌, length, refl, sym, ap, subst, arith}
 use Rattle.cc_core.specs.Views.{context_of}
 use Rattle.cc_certificate_text.specs.Certificates.{Binding}
 use Rattle.cc_certificate_text.specs.Reading.{Got}
 use Rattle.cc_certificate_text.specs.LineReading.{next_line}
-use Rattle.cc_certificate_types.specs.Agreement.{Agrees}
-use Rattle.cc_certificate_reading.specs.Progress.{entry_line_of}
+use Rattle.cc_certificate_reading.specs.Progress.{entry_line_of, IsPlacedEntry}
 use Rattle.cc_certificate_reading.proofs.Progress.{RefusedAs, opening_refused, begin_with, entry_refused, end_refused, further, shorter, few_names, heading_there}
 use Rattle.cc_certificate_reading.proofs.read.read_heading.Goals as goal
 
-pub returns-in-Err : goal.returns-in-Err
-returns-in-Err c = opening_refused c.args.bytes.now c.in-Err.stop c.stopped.result c.in-Err.ensures c.stopped.ensures
+pub returns-in-Err-clause-heading : goal.returns-in-Err-clause-heading
+returns-in-Err-clause-heading c = opening_refused c.args.bytes.now c.in-Err.stop c.stopped.result c.in-Err.ensures c.stopped.ensures
 
 pub loop-rest-init : goal.loop-rest-init
 loop-rest-init c =
@@ -20,41 +19,44 @@ pub read_entry-requires : goal.read_entry-requires
 read_entry-requires c =
     subst (λ n. length n ≤ 4294967296) (sym c.as_slice.ensures.value) (few_names _ _ _ _ _ _ c.loop-rest.invariant)
 
-pub returns-in-Err-read_entry : goal.returns-in-Err-read_entry
-returns-in-Err-read_entry c =
+pub returns-in-Err-read_entry-clause-heading : goal.returns-in-Err-read_entry-clause-heading
+returns-in-Err-read_entry-clause-heading c =
     let some : 0 < length c.loop-rest.rest.now = omega arith in
     entry_refused _ _ _ _ _ _ c.loop-rest.invariant c.in-Err-read_entry.stop c.stopped-in-Err-read_entry.result some
     (subst (λ n. RefusedAs c.in-Err-read_entry.stop (next_line (Binding n (context_of c.loop-rest.bound.ctx)) c.loop-rest.rest.now))
-    c.as_slice.ensures.value c.in-Err-read_entry.ensures)
+    c.as_slice.ensures.value c.in-Err-read_entry.ensures.read)
     c.stopped-in-Err-read_entry.ensures
 
 pub loop-rest-smaller : goal.loop-rest-smaller
 loop-rest-smaller c =
     shorter _ _ _ _ _ _ c.loop-rest.invariant (entry_line_of c.in-Ok-read_entry.read.0) c.in-Ok-read_entry.read.1.now
     (subst (λ n. next_line (Binding n (context_of c.loop-rest.bound.ctx)) c.loop-rest.rest.now ≡ Got (entry_line_of c.in-Ok-read_entry.read.0) c.in-Ok-read_entry.read.1.now)
-    c.as_slice.ensures.value c.in-Ok-read_entry.ensures)
+    c.as_slice.ensures.value c.in-Ok-read_entry.ensures.read)
 
 pub loop-rest-preserved : goal.loop-rest-preserved
 loop-rest-preserved c =
     let read = subst (λ n. next_line (Binding n (context_of c.loop-rest.bound.ctx)) c.loop-rest.rest.now ≡ Got (entry_line_of c.in-Ok-read_entry.read.0) c.in-Ok-read_entry.read.1.now)
-    c.as_slice.ensures.value c.in-Ok-read_entry.ensures in
+    c.as_slice.ensures.value c.in-Ok-read_entry.ensures.read in
     let bind = subst (λ e. next_line (Binding c.loop-rest.bound.names.items (context_of c.loop-rest.bound.ctx)) c.loop-rest.rest.now ≡ Got (entry_line_of e) c.in-Ok-read_entry.read.1.now)
     c.in-Bind.is read in
     further _ _ _ _ _ _ c.loop-rest.invariant c.add_bind.new.bound.names.items c.add_bind.new.bound.binds.items (context_of c.add_bind.new.bound.ctx)
     c.in_ok-lines.lines c.in-Bind.name c.in-Bind.ty c.in-Ok-read_entry.read.1.now bind
     c.in_ok-add_bind-in-Bind.ensures.names c.in_ok-add_bind-in-Bind.ensures.binds c.in_ok-add_bind-in-Bind.ensures.context c.in_ok-lines.ensures.next c.in_ok-lines.ensures.low
 
-pub returns-in-Term : goal.returns-in-Term
-returns-in-Term c =
+pub returns-in-Term-clause-heading : goal.returns-in-Term-clause-heading
+returns-in-Term-clause-heading c =
     let read = subst (λ n. next_line (Binding n (context_of c.loop-rest.bound.ctx)) c.loop-rest.rest.now ≡ Got (entry_line_of c.in-Ok-read_entry.read.0) c.in-Ok-read_entry.read.1.now)
-    c.as_slice.ensures.value c.in-Ok-read_entry.ensures in
+    c.as_slice.ensures.value c.in-Ok-read_entry.ensures.read in
     let term = subst (λ e. next_line (Binding c.loop-rest.bound.names.items (context_of c.loop-rest.bound.ctx)) c.loop-rest.rest.now ≡ Got (entry_line_of e) c.in-Ok-read_entry.read.1.now)
     c.in-Term.is read in
     heading_there _ _ _ _ _ _ c.loop-rest.invariant
     (record { names = c.loop-rest.bound.names; binds = c.loop-rest.bound.binds; term = c.in-Term.term; lines = c.in_ok-lines.lines })
     c.in-Ok-read_entry.read.1.now refl refl c.in_ok-lines.ensures.next term
 
-pub returns : goal.returns
-returns c =
+pub returns-in-Term-clause-placed : goal.returns-in-Term-clause-placed
+returns-in-Term-clause-placed c = subst IsPlacedEntry c.in-Term.is c.in-Ok-read_entry.ensures.placed
+
+pub returns-clause-heading : goal.returns-clause-heading
+returns-clause-heading c =
     let none : length c.loop-rest.rest.now ≡ 0 = omega arith in
     end_refused _ _ _ _ _ _ c.loop-rest.invariant c.stopped-2.result none c.stopped-2.ensures

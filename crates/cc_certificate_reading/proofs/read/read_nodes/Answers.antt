@@ -1,4 +1,4 @@
-use Rattle.std.proofs.Common.{◌≡◌, ℕ, ◌-◌, ◌<◌, ◌≤◌, ◌++◌, [], ◌∷◌, Err, length, take, refl, sym, ap, subst, arith}
+use Rattle.std.proofs.Common.{◌≡◌, ℕ, ◌-◌, ◌<◌, ◌++◌, [], ◌∷◌, length, take, subst, arith}
 use Rattle.cc_certificate_text.specs.Certificates.{Proving}
 use Rattle.cc_certificate_text.specs.Reading.{Got}
 use Rattle.cc_certificate_text.specs.LineReading.{next_line}
