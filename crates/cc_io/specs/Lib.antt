@@ -2,3 +2,4 @@ pub mod CallPlans
 pub mod Calls
 pub mod Wholes
 pub mod HandedOn
+pub mod Messages

@@ -17,6 +17,6 @@ mod whole;
 pub use memory::{MemSink, MemSource};
 pub use never::{NeverSink, NeverSource};
 pub use standard::{StdSink, StdSource};
-pub use streams::{Reader, Writer};
+pub use streams::{Messages, Reader, Writer};
 pub use traits::{Failed, Sink, Source, WriteError};
 pub use whole::{ReadAll, WriteAll, read_all, write_all};

@@ -1,10 +1,12 @@
 //! The readers and the writers of std, with a word for each call that one of them has answered.
-ghost use Rattle.std.specs.Prelude.{◌≡◌, ℕ, List, Option, Result};
+ghost use Rattle.std.specs.Prelude.{◌≡◌, ℕ, List, Option, Result, IfSome};
+ghost use Rattle.std.specs.Fmt.{with_newline};
 ghost use Rattle.std.specs.Io.{ReadsAtMost, WritesAtMost};
 ghost use Rattle.std.specs.Io.KnownBytes.{Keeps, ReadConsumes, WriteAppends};
 ghost use Rattle.std.specs.declared.io.Error.{Error};
 
-use std::io::{Read, Result, Write};
+use std::fmt::Display;
+use std::io::{Eprint, Read, Result, Write};
 
 /// A reader whose calls contracts can name. Each reader of std is one.
 pub trait Reader {
@@ -69,5 +71,25 @@ impl<W: Write> Writer for W {
 
     fn flush_once(&mut self) -> Result<()> {
         self.flush()
+    }
+}
+
+/// A writer of messages whose calls contracts can name. Each handle of std that prints to standard error is one.
+pub trait Messages {
+    // These bytes were given to the writer in the one state, which answered so and was left in the other state. All of
+    // them are written, or a front of them where the answer is an error.
+    ghost gives: { Self → List ℕ → Result (Unit {0}) Error → Self → Type 0 };
+
+    /// Writes the text and a line feed, in one call.
+    fn give_line<D: Display + Drop>(&mut self, text: D) -> Result<()>
+        ensures call { IfSome (with_newline (D.output text)) (λ bytes. gives self.old bytes result self.new) };
+}
+
+impl<E: Eprint> Messages for E {
+    // std says no more of a call
+    ghost gives = { λ _ _ _ _. Unit {0} };
+
+    fn give_line<D: Display + Drop>(&mut self, text: D) -> Result<()> {
+        self.eprintln(text)
     }
 }

@@ -1,9 +1,11 @@
 use crate::{
-    Failed, MemSink, MemSource, NeverSink, NeverSource, ReadAll, Sink, Source, StdSink, StdSource,
-    WriteAll, WriteError, read_all, write_all,
+    Failed, MemSink, MemSource, Messages, NeverSink, NeverSource, ReadAll, Sink, Source, StdSink,
+    StdSource, WriteAll, WriteError, read_all, write_all,
 };
 use std::alloc::{AllocError, Global};
-use std::io::{self, Read, Write};
+use std::cell::RefCell;
+use std::fmt::Display;
+use std::io::{self, Eprint, Read, Write};
 use std::test::Fail;
 
 /// How many bytes there are, how many a call moves at most, and how many calls that moves bytes it takes to move all.
@@ -315,6 +317,47 @@ fn a_sink_goes_on_behind_a_failed_write(rt: HostRuntime) -> Result<(), Fail> {
         let mut all = Vec::from_slice(alloc, calls)?;
         all.extend_from_slice(&[Call::Wrote(0), Call::Flushed])?;
         assert_eq!(rt; writer.calls, all);
+    }
+    Ok(())
+}
+
+/// A printer that records what it is given, and fails behind the first thing that it prints where it is set to.
+#[derive(Drop)]
+struct FakePrinter {
+    printed: RefCell<String>,
+    fails: bool,
+}
+
+impl Eprint for FakePrinter {
+    fn eprint<D: Display + Drop>(&self, value: D) -> io::Result<()> {
+        let Ok(mut printed) = self.printed.try_borrow_mut() else {
+            return Err(io::Error::other("in use"));
+        };
+        let text: &mut String = &mut printed;
+        write!(text, "{value}")?;
+        if self.fails {
+            Err(io::Error::other("no print"))
+        } else {
+            Ok(())
+        }
+    }
+
+    fn eprintln<D: Display + Drop>(&self, value: D) -> io::Result<()> {
+        self.eprint(value)?;
+        self.eprint("\n")
+    }
+}
+
+#[test]
+fn a_writer_of_messages_writes_one_line(rt: HostRuntime) -> Result<(), Fail> {
+    for (fails, text) in [(false, "out of memory\n"), (true, "out of memory")] {
+        let mut printer = FakePrinter {
+            printed: RefCell::new(String::new(rt.alloc())),
+            fails,
+        };
+        assert!(rt; printer.give_line("out of memory").is_err() == fails);
+        let FakePrinter { printed, fails: _ } = printer;
+        assert_eq!(rt; printed.into_inner().as_str(), text);
     }
     Ok(())
 }

@@ -1,5 +1,5 @@
 -- What is answered for bytes, and its text.
-use Rattle.std.specs.Prelude.{◌≡◌, ℕ, ◌++◌, List, map, codes, Result, Ok, Err}
+use Rattle.std.specs.Prelude.{◌≡◌, ℕ, ◌++◌, List, map, codes, Ok, Err}
 use Rattle.std.specs.Fmt.{decimal}
 use Rattle.std.specs.String.{string_bytes}
 use Rattle.cc_core.specs.declared.types.Ty.{Ty}

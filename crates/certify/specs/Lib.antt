@@ -1,1 +1,4 @@
 pub mod Answers
+pub mod Status
+pub mod Outcome
+pub mod StatusTable

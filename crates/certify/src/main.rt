@@ -6,40 +6,18 @@
 #![tactic(auto)]
 
 mod answer;
+pub mod laws;
+mod program;
+mod run;
 mod status;
 
-use crate::answer::answer_to;
-use crate::status::Fault;
-use cc_io::{ReadAll, StdSource, read_all};
-use std::process::ExitCode;
+use crate::program::{Ending, program};
+use cc_io::{StdSink, StdSource};
+use std::io;
 
-/// The greatest number of bytes of a certificate.
-const LIMIT: usize = 268_435_456;
-
-// Answers what stands on standard input. Whether the certificate is valid.
-fn run(rt: &HostRuntime) -> Result<bool, Fault> {
+/// Hands over the streams of the system.
+fn main(rt: HostRuntime) -> Ending {
     let mut source = StdSource::new(rt.reader());
-    let bytes = match read_all(rt.alloc(), &mut source, LIMIT) {
-        Ok(bytes) => bytes,
-        Err(ReadAll::ReadFault) => return Err(Fault::Read),
-        Err(ReadAll::TooLong) => return Err(Fault::TooLong),
-        Err(ReadAll::NoMemory) => return Err(Fault::NoMemory),
-    };
-    let answer = answer_to(rt.alloc(), bytes.as_slice())?;
-    match println!(rt; "{answer}") {
-        Ok(()) => Ok(answer.is_valid()),
-        Err(_) => Err(Fault::Write),
-    }
-}
-
-fn main(rt: HostRuntime) -> ExitCode {
-    match run(&rt) {
-        Ok(true) => ExitCode::from(0),
-        Ok(false) => ExitCode::from(1),
-        Err(fault) => {
-            // A word that cannot be written changes nothing.
-            let _ = eprintln!(rt; "{fault}");
-            ExitCode::from(2)
-        }
-    }
+    let mut sink = StdSink::new(io::writer(&rt));
+    program(rt.alloc(), &mut source, &mut sink, &mut rt.stderr())
 }

@@ -1,37 +1,59 @@
-use std::alloc::AllocError;
+//! How the program ends.
+ghost use Rattle.std.specs.Prelude.{◌≡◌, ◌↔◌, IsTrue, IsSome};
+ghost use Rattle.certify.specs.Status.{number_of, message_of};
+
 use std::fmt;
 
-/// Why there is no answer.
+/// How a call of the program ended.
 #[derive(Clone, Copy, Debug, PartialEq, Eq)]
-pub enum Fault {
+pub enum Status {
+    /// The certificate is valid, and this was written.
+    Valid,
+    /// The bytes are no certificate or one that is not valid, and this was written.
+    Invalid,
     /// A read failed.
-    Read,
+    ReadFault,
     /// There are more bytes than the limit.
     TooLong,
     /// There is no memory.
     NoMemory,
     /// The answer could not be written.
-    Write,
+    WriteFault,
 }
 
-impl From<AllocError> for Fault {
-    ghost use Rattle.std.specs.Prelude.{◌≡◌};
-    ghost use Rattle.certify.specs.declared.status.Fault.TheVariants.{NoMemory};
+impl Status {
+    /// The number with which the program ends.
+    pub fn number(self) -> u8
+        ensures { result ≡ number_of self }
+    {
+        match self {
+            Status::Valid => 0,
+            Status::Invalid => 1,
+            Status::ReadFault | Status::TooLong | Status::NoMemory | Status::WriteFault => 2,
+        }
+    }
 
-    ghost from_gives = { λ _ fault. fault ≡ NoMemory };
-
-    fn from(_error: AllocError) -> Fault {
-        Fault::NoMemory
+    /// Whether the program says something on standard error: the text of `Display`.
+    pub fn has_message(self) -> bool
+        ensures { IsTrue result ↔ IsSome (message_of self) }
+    {
+        !matches!(self, Status::Valid | Status::Invalid)
     }
 }
 
-impl fmt::Display for Fault {
+/// Why there is no answer.
+impl fmt::Display for Status {
+    ghost use Rattle.certify.specs.Status.{message_of};
+
+    ghost output = { message_of };
+
     fn fmt<W: fmt::Write>(&self, f: &mut fmt::Formatter<W>) -> fmt::Result {
         match self {
-            Fault::Read => f.write_str("certify: read fault"),
-            Fault::TooLong => f.write_str("certify: certificate too long"),
-            Fault::NoMemory => f.write_str("certify: out of memory"),
-            Fault::Write => f.write_str("certify: write fault"),
+            Status::Valid | Status::Invalid => Ok(()),
+            Status::ReadFault => f.write_str("certify: read fault"),
+            Status::TooLong => f.write_str("certify: certificate too long"),
+            Status::NoMemory => f.write_str("certify: out of memory"),
+            Status::WriteFault => f.write_str("certify: write fault"),
         }
     }
 }
