@@ -25,9 +25,12 @@ pub mod StoreTheorems
 pub mod StoreTyping
 pub mod TasksApart
 pub mod TermRows
+pub mod Turns
 pub mod WorkedApart
 pub mod WorkedAuthorities
 pub mod WorkedEntry
+pub mod WorkedLinks
 pub mod WorkedOperators
 pub mod WorkedRuns
+pub mod WorkedStops
 pub mod WorkedTasks

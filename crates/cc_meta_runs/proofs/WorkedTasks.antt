@@ -4,6 +4,7 @@ use Rattle.std.specs.Int.{int_wrap}
 use Rattle.cc_capture.specs.Rising.{placed}
 use Rattle.cc_capture.specs.Sets.{empty, insert, from_list, flat_image}
 use Rattle.cc_meta_runs.specs.ExampleEntries.{MainIsLinked, MainRuns, ModulesStandInOrder}
+use Rattle.cc_meta_runs.specs.ExampleTurns.{SchedulesAreTurned}
 use Rattle.cc_meta_runs.specs.ExampleTasks.{SharedCounterRuns, TasksApartRun, FuelIsShared, BoundariesAreTheirOwn}
 
 pub main_is_linked : MainIsLinked
@@ -33,3 +34,6 @@ fuel_is_shared = (refl, refl, refl)
 pub boundaries_are_their_own : BoundariesAreTheirOwn
 unfolding int_wrap
 boundaries_are_their_own = refl
+
+pub schedules_are_turned : SchedulesAreTurned
+schedules_are_turned = (refl, refl, refl, refl, refl, refl, refl)

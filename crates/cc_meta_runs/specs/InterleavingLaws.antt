@@ -1,6 +1,7 @@
 -- What holds of tasks that run interleaved.
-use Rattle.std.specs.Prelude.{◌≡◌, ◌≢◌, ◌⊎◌, ℕ, zero, suc, List, [], ◌∷◌, ◌++◌, length, Option, Some, None, slice_get}
-use Rattle.std.specs.Prelude.{nat_eq, if◌then◌else◌}
+use Rattle.std.specs.Prelude.{◌≡◌, ◌≢◌, ◌≤◌, ◌⊎◌, ℕ, zero, suc, List, [], ◌∷◌, ◌++◌, length, Option, Some, None}
+use Rattle.std.specs.Prelude.{slice_get, nat_eq, if◌then◌else◌}
+use Rattle.std.specs.List.{sum_by}
 use Rattle.cc_base.specs.declared.literal.Base.{Base}
 use Rattle.cc_base.specs.declared.literal.Op.{Op}
 use Rattle.cc_base.specs.Literals.{Literal}
@@ -14,7 +15,7 @@ use Rattle.cc_meta_runs.specs.Runs.{State, Move, IsStuck, IsFinal, Moves, move, 
 use Rattle.cc_meta_runs.specs.Soundness.{scopes_of, IsListed, IsSound, ReachesNoNewDevice}
 use Rattle.cc_meta_runs.specs.SoundRuns.{IsSoundState, IsAmong}
 use Rattle.cc_meta_runs.specs.Interleavings.{World, state_of, move_of, after_turn, Turn, interleave, trace_of}
-use Rattle.cc_meta_runs.specs.Interleavings.{all_events, own_events, own_steps, ending_at}
+use Rattle.cc_meta_runs.specs.Interleavings.{all_events, own_events, own_steps, ending_at, Report, report_of}
 
 -- turns that are taken, in whatever order, lead from a world to another
 pub data Takes : World → List Turn → World → Type 0 where
@@ -41,6 +42,19 @@ abbrev pub InterleavingsAreTurns : Type 0
 InterleavingsAreTurns =
     (fuel : ℕ) (schedule : List ℕ) (world : World)
     → Takes world (interleave fuel schedule world).turns (interleave fuel schedule world).last
+
+-- how many steps the report tells of all tasks together
+abbrev pub all_steps : Report → ℕ
+all_steps report = sum_by (λ told. told.1) report.ends
+
+-- An interleaved run has at most as many turns as it has fuel. Each of them is one step of one of its tasks: the steps
+-- of all tasks together are as many as the turns, and so at most the fuel too.
+abbrev pub TurnsAreWithinFuel : Type 0
+TurnsAreWithinFuel =
+    (fuel : ℕ) (schedule : List ℕ) (world : World)
+    → (length (interleave fuel schedule world).turns ≤ fuel)
+    × (all_steps (report_of (interleave fuel schedule world)) ≡ length (interleave fuel schedule world).turns)
+    × (all_steps (report_of (interleave fuel schedule world)) ≤ fuel)
 
 -- It ends only where all its turns are taken, or each task of the schedule has come to its end.
 abbrev pub SchedulesGoOn : Type 0

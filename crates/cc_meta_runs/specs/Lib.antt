@@ -2,10 +2,13 @@ pub mod Alike
 pub mod Answers
 pub mod ExampleAuthorities
 pub mod ExampleEntries
+pub mod ExampleLinks
 pub mod ExampleOperators
 pub mod ExamplePrograms
 pub mod ExampleRuns
+pub mod ExampleStops
 pub mod ExampleTasks
+pub mod ExampleTurns
 pub mod InterleavingLaws
 pub mod Interleavings
 pub mod LinkLaws

@@ -2,6 +2,7 @@
 ghost use Rattle.cc_meta_runs.specs.ExampleAuthorities as authorities;
 ghost use Rattle.cc_meta_runs.specs.ExampleOperators as operators;
 ghost use Rattle.cc_meta_runs.specs.ExampleRuns as example;
+ghost use Rattle.cc_meta_runs.specs.ExampleStops as stops;
 
 /// What operators give, at the ends of the type of numbers too.
 pub fn worked_operators()
@@ -28,6 +29,17 @@ pub fn worked_runs()
     ensures recursion { example.RecursionRuns }
     ensures shown { example.AnswersAreShown }
     ensures typed { example.LeavingAtOnceIsTyped }
+{}
+
+/// What is stuck where no text comes to it: variables without cells, operations without their arguments, exits without
+/// their scopes, devices that do not answer, and an end with nothing to show.
+pub fn worked_stops()
+    ensures cells { stops.CellsAreNeeded }
+    ensures arguments { stops.ArgumentsAreAsWanted }
+    ensures scopes { stops.ScopesAreFound }
+    ensures exits { stops.ExitsNeedTheirScopes }
+    ensures answers { stops.AnswersAreNeeded }
+    ensures shown { stops.ShownCellsAreNeeded }
 {}
 
 /// The authority of sets by example, and entries that start soundly: what they operate at any fuel.

@@ -2,6 +2,7 @@
 ghost use Rattle.cc_meta_runs.specs.InterleavingLaws as law;
 ghost use Rattle.cc_meta_runs.specs.TaskLaws as tasks;
 ghost use Rattle.cc_meta_runs.specs.ExampleTasks as example;
+ghost use Rattle.cc_meta_runs.specs.ExampleTurns as turns;
 
 /// A step depends only on the devices that its configuration reaches, and changes no other.
 pub fn steps_are_local()
@@ -19,6 +20,11 @@ pub fn tasks_keep_their_promises()
     ensures promises { law.TasksKeepTheirPromises }
 {}
 
+/// An interleaved run has at most as many turns as fuel, and its tasks take as many steps together as it has turns.
+pub fn turns_are_within_fuel()
+    ensures { law.TurnsAreWithinFuel }
+{}
+
 /// The events of each device are a history of that device alone, and a task whose devices no other reaches runs as it does
 /// alone.
 pub fn tasks_share_devices_alone()
@@ -31,6 +37,11 @@ pub fn tasks_share_devices_alone()
 pub fn entries_run_interleaved()
     ensures ends { tasks.EndsAreOfTheirTasks }
     ensures interleaved { tasks.EntriesRunInterleaved }
+{}
+
+/// Whose turn it is, by computation.
+pub fn worked_schedules()
+    ensures { turns.SchedulesAreTurned }
 {}
 
 /// Interleaved runs, by computation: of tasks that share a device, of tasks that share none, with all their fuel and with less,

@@ -1,6 +1,7 @@
 //! Programs that are linked from modules. The functions do nothing.
 ghost use Rattle.cc_meta_runs.specs.LinkLaws as law;
 ghost use Rattle.cc_meta_runs.specs.ExampleEntries as example;
+ghost use Rattle.cc_meta_runs.specs.ExampleLinks as links;
 
 /// Modules that were checked apart link: the linked store is typed, and each definition stands where its names say, with its
 /// signature.
@@ -23,4 +24,14 @@ pub fn worked_entries()
     ensures linked { example.MainIsLinked }
     ensures runs { example.MainRuns }
     ensures order { example.ModulesStandInOrder }
+{}
+
+/// Modules that have a definition of one name each, with an import from one of them: what they are linked to, and how they
+/// run. An entry with every authority, and one with a boundary.
+pub fn worked_links()
+    ensures linked { links.EqualNamesAreApart }
+    ensures runs { links.EqualNamesRunApart }
+    ensures entry { links.AppIsAnEntry }
+    ensures every { links.CapIsAnEntry }
+    ensures boundary { links.BoundaryIsAnEntry }
 {}
