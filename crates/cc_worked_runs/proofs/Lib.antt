@@ -1,0 +1,3 @@
+pub mod WorkedInterleavedTexts
+pub mod WorkedRunningTexts
+pub mod WorkedStuckTexts

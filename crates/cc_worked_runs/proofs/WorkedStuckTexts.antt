@@ -1,0 +1,63 @@
+-- The runs of texts that are stuck, by computation.
+use Rattle.std.proofs.Common.{refl}
+use Rattle.std.specs.Int.{int_wrap}
+use Rattle.std.specs.Str.{chars, is_utf8}
+use Rattle.std.specs.Str.Lossy.{utf8_valid_len}
+use Rattle.unicode_ident.proofs.Computing.{unicode_ident}
+use lib.Utf8.{encode}
+use Rattle.cc_capture.specs.Elements.{element_order, same_element}
+use Rattle.cc_capture.specs.Rising.{placed}
+use Rattle.cc_capture.specs.Sets.{empty, insert, from_list, union, flat_image}
+use Rattle.cc_grammar.specs.Tests.{operation_named}
+use Rattle.cc_grammar.specs.Reading.{reading_of, module_at, imports_at, import_at, defs_at, def_at, def_rule_at, part_at, expr_over, links_at, next_link, link_at, dot_at, operation_at, link_rule_at, expr_start_at, fun_at, expr_rule_at, type_over, shape_over, shape_start_at, paren_at, named_at, shape_rule_at, one_part_at, written_at, captures_at, set_at, caret_at, elements_at, name_at, placed_name_at, symbol_at, word_at}
+use Rattle.cc_lex.specs.Cutting.{word_of, short_symbol, pair_symbol, front_of, blank_of, token_of, number_of}
+use Rattle.cc_mnf.specs.Steps.{followed, gives, refuses, new_hole, with_own_holes}
+use Rattle.cc_mnf.specs.ElaboratedTypes.{elaborated_shape, elaborated_type, with_elements}
+use Rattle.cc_mnf.specs.Elaboration.{elaborated}
+use Rattle.cc_mnf.specs.ElaboratedModules.{elaboration}
+use Rattle.cc_meta_modules.specs.Readings.{reading_of_text}
+use Rattle.cc_worked_runs.specs.StuckTexts as example
+
+pub only_functions_are_applied : example.OnlyFunctionsAreApplied
+unfolding reading_of_text word_of short_symbol pair_symbol front_of blank_of token_of number_of unicode_ident encode is_utf8 utf8_valid_len chars reading_of module_at imports_at import_at defs_at def_at def_rule_at part_at expr_over links_at next_link link_at dot_at operation_at link_rule_at expr_start_at fun_at expr_rule_at type_over shape_over shape_start_at paren_at named_at shape_rule_at one_part_at written_at captures_at set_at caret_at elements_at name_at placed_name_at symbol_at word_at operation_named followed gives refuses new_hole with_own_holes elaborated_shape elaborated_type with_elements elaborated elaboration int_wrap flat_image from_list insert placed element_order same_element empty union
+only_functions_are_applied = (refl, refl, refl, refl, refl, refl)
+
+pub only_type_functions_are_instantiated : example.OnlyTypeFunctionsAreInstantiated
+unfolding reading_of_text word_of short_symbol pair_symbol front_of blank_of token_of number_of unicode_ident encode is_utf8 utf8_valid_len chars reading_of module_at imports_at import_at defs_at def_at def_rule_at part_at expr_over links_at next_link link_at dot_at operation_at link_rule_at expr_start_at fun_at expr_rule_at type_over shape_over shape_start_at paren_at named_at shape_rule_at one_part_at written_at captures_at set_at caret_at elements_at name_at placed_name_at symbol_at word_at operation_named followed gives refuses new_hole with_own_holes elaborated_shape elaborated_type with_elements elaborated elaboration int_wrap flat_image from_list insert placed element_order same_element empty union
+only_type_functions_are_instantiated = (refl, refl, refl, refl, refl)
+
+pub only_boxes_are_opened : example.OnlyBoxesAreOpened
+unfolding reading_of_text word_of short_symbol pair_symbol front_of blank_of token_of number_of unicode_ident encode is_utf8 utf8_valid_len chars reading_of module_at imports_at import_at defs_at def_at def_rule_at part_at expr_over links_at next_link link_at dot_at operation_at link_rule_at expr_start_at fun_at expr_rule_at type_over shape_over shape_start_at paren_at named_at shape_rule_at one_part_at written_at captures_at set_at caret_at elements_at name_at placed_name_at symbol_at word_at operation_named followed gives refuses new_hole with_own_holes elaborated_shape elaborated_type with_elements elaborated elaboration int_wrap flat_image from_list insert placed element_order same_element empty union
+only_boxes_are_opened = (refl, refl, refl, refl, refl)
+
+pub operators_take_numbers : example.OperatorsTakeNumbers
+unfolding reading_of_text word_of short_symbol pair_symbol front_of blank_of token_of number_of unicode_ident encode is_utf8 utf8_valid_len chars reading_of module_at imports_at import_at defs_at def_at def_rule_at part_at expr_over links_at next_link link_at dot_at operation_at link_rule_at expr_start_at fun_at expr_rule_at type_over shape_over shape_start_at paren_at named_at shape_rule_at one_part_at written_at captures_at set_at caret_at elements_at name_at placed_name_at symbol_at word_at operation_named followed gives refuses new_hole with_own_holes elaborated_shape elaborated_type with_elements elaborated elaboration int_wrap flat_image from_list insert placed element_order same_element empty union
+operators_take_numbers = (refl, refl, refl, refl, refl, refl)
+
+pub choices_take_truths : example.ChoicesTakeTruths
+unfolding reading_of_text word_of short_symbol pair_symbol front_of blank_of token_of number_of unicode_ident encode is_utf8 utf8_valid_len chars reading_of module_at imports_at import_at defs_at def_at def_rule_at part_at expr_over links_at next_link link_at dot_at operation_at link_rule_at expr_start_at fun_at expr_rule_at type_over shape_over shape_start_at paren_at named_at shape_rule_at one_part_at written_at captures_at set_at caret_at elements_at name_at placed_name_at symbol_at word_at operation_named followed gives refuses new_hole with_own_holes elaborated_shape elaborated_type with_elements elaborated elaboration int_wrap flat_image from_list insert placed element_order same_element empty union
+choices_take_truths = (refl, refl, refl)
+
+pub repetitions_take_numbers : example.RepetitionsTakeNumbers
+unfolding reading_of_text word_of short_symbol pair_symbol front_of blank_of token_of number_of unicode_ident encode is_utf8 utf8_valid_len chars reading_of module_at imports_at import_at defs_at def_at def_rule_at part_at expr_over links_at next_link link_at dot_at operation_at link_rule_at expr_start_at fun_at expr_rule_at type_over shape_over shape_start_at paren_at named_at shape_rule_at one_part_at written_at captures_at set_at caret_at elements_at name_at placed_name_at symbol_at word_at operation_named followed gives refuses new_hole with_own_holes elaborated_shape elaborated_type with_elements elaborated elaboration int_wrap flat_image from_list insert placed element_order same_element empty union
+repetitions_take_numbers = (refl, refl, refl, refl, refl, refl)
+
+pub exits_are_of_boundaries : example.ExitsAreOfBoundaries
+unfolding reading_of_text word_of short_symbol pair_symbol front_of blank_of token_of number_of unicode_ident encode is_utf8 utf8_valid_len chars reading_of module_at imports_at import_at defs_at def_at def_rule_at part_at expr_over links_at next_link link_at dot_at operation_at link_rule_at expr_start_at fun_at expr_rule_at type_over shape_over shape_start_at paren_at named_at shape_rule_at one_part_at written_at captures_at set_at caret_at elements_at name_at placed_name_at symbol_at word_at operation_named followed gives refuses new_hole with_own_holes elaborated_shape elaborated_type with_elements elaborated elaboration int_wrap flat_image from_list insert placed element_order same_element empty union
+exits_are_of_boundaries = (refl, refl, refl, refl)
+
+pub exits_need_their_scopes : example.ExitsNeedTheirScopes
+unfolding reading_of_text word_of short_symbol pair_symbol front_of blank_of token_of number_of unicode_ident encode is_utf8 utf8_valid_len chars reading_of module_at imports_at import_at defs_at def_at def_rule_at part_at expr_over links_at next_link link_at dot_at operation_at link_rule_at expr_start_at fun_at expr_rule_at type_over shape_over shape_start_at paren_at named_at shape_rule_at one_part_at written_at captures_at set_at caret_at elements_at name_at placed_name_at symbol_at word_at operation_named followed gives refuses new_hole with_own_holes elaborated_shape elaborated_type with_elements elaborated elaboration int_wrap flat_image from_list insert placed element_order same_element empty union
+exits_need_their_scopes = (refl, refl, refl)
+
+pub operations_are_of_their_devices : example.OperationsAreOfTheirDevices
+unfolding reading_of_text word_of short_symbol pair_symbol front_of blank_of token_of number_of unicode_ident encode is_utf8 utf8_valid_len chars reading_of module_at imports_at import_at defs_at def_at def_rule_at part_at expr_over links_at next_link link_at dot_at operation_at link_rule_at expr_start_at fun_at expr_rule_at type_over shape_over shape_start_at paren_at named_at shape_rule_at one_part_at written_at captures_at set_at caret_at elements_at name_at placed_name_at symbol_at word_at operation_named followed gives refuses new_hole with_own_holes elaborated_shape elaborated_type with_elements elaborated elaboration int_wrap flat_image from_list insert placed element_order same_element empty union
+operations_are_of_their_devices = (refl, refl, refl, refl, refl, refl, refl, refl, refl, refl, refl, refl)
+
+pub operations_take_their_arguments : example.OperationsTakeTheirArguments
+unfolding reading_of_text word_of short_symbol pair_symbol front_of blank_of token_of number_of unicode_ident encode is_utf8 utf8_valid_len chars reading_of module_at imports_at import_at defs_at def_at def_rule_at part_at expr_over links_at next_link link_at dot_at operation_at link_rule_at expr_start_at fun_at expr_rule_at type_over shape_over shape_start_at paren_at named_at shape_rule_at one_part_at written_at captures_at set_at caret_at elements_at name_at placed_name_at symbol_at word_at operation_named followed gives refuses new_hole with_own_holes elaborated_shape elaborated_type with_elements elaborated elaboration int_wrap flat_image from_list insert placed element_order same_element empty union
+operations_take_their_arguments = (refl, refl, refl, refl, refl, refl, refl)
+
+pub stops_on_its_way : example.StopsOnItsWay
+unfolding reading_of_text word_of short_symbol pair_symbol front_of blank_of token_of number_of unicode_ident encode is_utf8 utf8_valid_len chars reading_of module_at imports_at import_at defs_at def_at def_rule_at part_at expr_over links_at next_link link_at dot_at operation_at link_rule_at expr_start_at fun_at expr_rule_at type_over shape_over shape_start_at paren_at named_at shape_rule_at one_part_at written_at captures_at set_at caret_at elements_at name_at placed_name_at symbol_at word_at operation_named followed gives refuses new_hole with_own_holes elaborated_shape elaborated_type with_elements elaborated elaboration int_wrap flat_image from_list insert placed element_order same_element empty union
+stops_on_its_way = (refl, refl)

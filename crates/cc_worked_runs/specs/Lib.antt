@@ -1,0 +1,4 @@
+pub mod InterleavedTexts
+pub mod RunningTexts
+pub mod StuckTexts
+pub mod TextRuns

@@ -1,0 +1,6 @@
+//! Runs of programs that are given as texts, by computation, whether a check accepts them or not. The functions do
+//! nothing; each has worked examples as its contract.
+#![tactic(auto)]
+
+pub mod tasks;
+pub mod texts;
