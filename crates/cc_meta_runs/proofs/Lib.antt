@@ -31,6 +31,6 @@ pub mod WorkedAuthorities
 pub mod WorkedEntry
 pub mod WorkedLinks
 pub mod WorkedOperators
-pub mod WorkedRuns
 pub mod WorkedStops
 pub mod WorkedTasks
+pub mod WorkedTypes

@@ -1,4 +1,5 @@
--- What stops a run, by example: states and steps that no text comes to. The runs of texts stand in a crate of their own.
+-- What stops a run, by example: states and steps that no text comes to. The runs of texts stand in a crate of their
+-- own.
 use Rattle.std.specs.Prelude.{◌≡◌, ℕ, pos, [], ◌∷◌, Some, None}
 use Rattle.cc_base.specs.declared.literal.Base.TheVariants as bases
 use Rattle.cc_base.specs.declared.literal.Operator.TheVariants as operators

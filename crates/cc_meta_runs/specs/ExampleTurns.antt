@@ -23,7 +23,8 @@ turn_in tasks schedule =
     option_map (λ next. (next.task, next.later)) (chosen (record { tasks = tasks; devices = [] }) schedule)
 
 -- The first of a schedule has its turn, and goes to the end. Whoever has come to its end, or is no task, goes there
--- without a turn, before the one that has it. A stuck task has its turn too. Where all have come to their end, none has.
+-- without a turn, before the one that has it. A stuck task has its turn too. Where all have come to their end, none
+-- has a turn.
 abbrev pub SchedulesAreTurned : Type 0
 SchedulesAreTurned =
     (turn_in (going_on ∷ going_on ∷ going_on ∷ []) (0 ∷ 1 ∷ 2 ∷ []) ≡ Some (0, 1 ∷ 2 ∷ 0 ∷ []))

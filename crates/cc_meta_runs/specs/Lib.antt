@@ -5,10 +5,10 @@ pub mod ExampleEntries
 pub mod ExampleLinks
 pub mod ExampleOperators
 pub mod ExamplePrograms
-pub mod ExampleRuns
 pub mod ExampleStops
 pub mod ExampleTasks
 pub mod ExampleTurns
+pub mod ExampleTypes
 pub mod InterleavingLaws
 pub mod Interleavings
 pub mod LinkLaws

@@ -1,8 +1,8 @@
-//! Worked examples of runs, by computation. The functions do nothing.
+//! Worked examples of steps, operators, types and authorities, by computation. The functions do nothing.
 ghost use Rattle.cc_meta_runs.specs.ExampleAuthorities as authorities;
 ghost use Rattle.cc_meta_runs.specs.ExampleOperators as operators;
-ghost use Rattle.cc_meta_runs.specs.ExampleRuns as example;
 ghost use Rattle.cc_meta_runs.specs.ExampleStops as stops;
+ghost use Rattle.cc_meta_runs.specs.ExampleTypes as types;
 
 /// What operators give, at the ends of the type of numbers too.
 pub fn worked_operators()
@@ -13,22 +13,9 @@ pub fn worked_operators()
     ensures equality { operators.EqualityTells }
 {}
 
-/// Whole runs, with their events, their end and what it shows, and the number of their steps; and the type of one term.
-pub fn worked_runs()
-    ensures fuel { example.FuelIsExact }
-    ensures names { example.NamesNeedNoCell }
-    ensures boxes { example.BoxRuns }
-    ensures choices { example.ChoiceRuns }
-    ensures boundaries { example.BoundaryRuns }
-    ensures boxes_pass { example.BoxesPass }
-    ensures repetitions { example.RepetitionRuns }
-    ensures linked { example.LinkedRuns }
-    ensures devices { example.LinkedDevices }
-    ensures wrapping { example.NumbersWrapInRuns }
-    ensures file { example.FileRun }
-    ensures recursion { example.RecursionRuns }
-    ensures shown { example.AnswersAreShown }
-    ensures typed { example.LeavingAtOnceIsTyped }
+/// The type of a term with a boundary.
+pub fn worked_types()
+    ensures { types.LeavingAtOnceIsTyped }
 {}
 
 /// What is stuck where no text comes to it: variables without cells, operations without their arguments, exits without
