@@ -1,0 +1,4 @@
+pub mod EnteredNames
+pub mod LinkedEntries
+pub mod LinkedValues
+pub mod Placements

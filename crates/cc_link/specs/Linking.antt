@@ -1,0 +1,37 @@
+-- What is kept while the modules of an entry are linked, one after the other.
+use Rattle.std.specs.Prelude.{◌≡◌, ℕ, List, map, reverse, take, length}
+use Rattle.std.specs.List.{range_with_len}
+use Rattle.cc_base.specs.declared.literal.Base.{Base}
+use Rattle.cc_core.specs.Programs.{Import, Definition, Module}
+use Rattle.cc_entry.specs.declared.entry.Entry.{Entry as DeclaredEntry}
+use Rattle.cc_entry.specs.Entries.{entry_of}
+use Rattle.cc_link.specs.declared.table.ModuleTable.{ModuleTable}
+use Rattle.cc_link.specs.Tables.{Finds}
+use Rattle.cc_meta_modules.specs.ModuleLaws.{in_program}
+use Rattle.cc_meta_runs.specs.Links.{linked_position, linked_store, linked_context}
+use Rattle.cc_module.specs.declared.judgement.CheckedDef.{CheckedDef}
+use Rattle.cc_module.specs.Judgements.{checked_definition_of}
+use Rattle.cc_program.specs.declared.values.TypedValue.{TypedValue}
+use Rattle.cc_program.specs.Starts.{value_store, value_context}
+
+-- a definition, as one of a program
+abbrev pub definition_of : CheckedDef → Definition
+definition_of it = in_program (checked_definition_of it)
+
+-- The list has, in order, where the positions of a module's context stand in the store: beside so many devices, behind
+-- earlier modules, which are turned round, and with these imports.
+abbrev pub ArePositions : ℕ → List Module → List Import → List ℕ → Type 0
+ArePositions devices earlier imports to =
+    to ≡ map (linked_position devices earlier (reverse imports)) (range_with_len 0 (length to))
+
+-- the modules of an entry before the one at an index, turned round
+abbrev pub modules_before : DeclaredEntry → ℕ → List Module
+modules_before entry index = reverse (take index (entry_of entry).modules)
+
+-- The modules, which are turned round, are linked: the values with the devices are their store, with its context, and the
+-- table finds their definitions.
+pub record IsLinked (devices : List Base) (modules : List Module) (values : List TypedValue) (table : ModuleTable)
+    : Type 0 where
+  pub store : value_store devices values ≡ linked_store devices modules
+  pub context : value_context devices values ≡ linked_context devices modules
+  pub finds : Finds (length devices) modules table
