@@ -7,6 +7,8 @@ pub mod HeadLaws
 pub mod ItemLists
 pub mod Standing
 pub mod JobLaws
+pub mod ReadJobs
 pub mod WorkedJobs
+pub mod WorkedLimits
 pub mod UnbuiltLines
 pub mod UnbuiltLaws

@@ -191,8 +191,15 @@ ReadsJob bytes (Ok job) = IsJob bytes job
 ReadsJob bytes (Err (BadJob number)) = IsBadAt bytes number
 ReadsJob bytes (Err NoMemory) = Unit {0}
 
+-- bytes are the text of a job, or they have a bad line
+abbrev pub BytesAreAJobOrBad : Type 0
+BytesAreAJobOrBad =
+    (bytes : List ℕ) → ((job : Job) × IsJob bytes job) ⊎ ((number : ℕ) × IsBadAt bytes number)
+
+-- of one job at most
 abbrev pub BytesHaveOneJob : Type 0
 BytesHaveOneJob = (bytes : List ℕ) (a b : Job) → IsJob bytes a → IsJob bytes b → a ≡ b
 
+-- and one bad line at most
 abbrev pub BytesHaveOneBadLine : Type 0
 BytesHaveOneBadLine = (bytes : List ℕ) (m n : ℕ) → IsBadAt bytes m → IsBadAt bytes n → m ≡ n

@@ -1,6 +1,12 @@
-ghost use Rattle.cc_job.specs.Jobs.{BytesHaveOneJob, BytesHaveOneBadLine};
+ghost use Rattle.cc_job.specs.Jobs.{BytesAreAJobOrBad, BytesHaveOneJob, BytesHaveOneBadLine};
 ghost use Rattle.cc_job.specs.Unbuilt.{JobsAreBuiltOrNot, BuiltJobsHaveNoUnbuiltLine, JobsHaveOneUnbuiltLine};
+ghost use Rattle.cc_job.specs.LimitExamples as limit;
 ghost use Rattle.cc_job.specs.Examples.{ShortestJob, LongJob, NothingIsBad, TwoSpacesAreBad, MinusZeroIsBad, MissingTaskIsBad, LateDeviceIsBad, SecondNameIsBad, ShortTextIsBad, OpenTextIsBad};
+
+/// Bytes are the text of a job, or they have a bad line.
+pub fn bytes_are_a_job_or_bad()
+    ensures { BytesAreAJobOrBad }
+{}
 
 /// Bytes are the text of at most one job.
 pub fn bytes_have_one_job()
@@ -35,4 +41,20 @@ pub fn worked_refusals()
     ensures name { SecondNameIsBad }
     ensures short { ShortTextIsBad }
     ensures open { OpenTextIsBad }
+{}
+
+/// The limits of jobs, each on both of its sides.
+pub fn worked_limits()
+    ensures schedule { limit.ScheduleLimit }
+    ensures entries { limit.EntryLimit }
+    ensures no_entry { limit.NoEntry }
+    ensures fuel_of_tasks { limit.TasksFuelLimit }
+    ensures fuel_of_runs { limit.RunFuelLimit }
+    ensures forms_of_fuel { limit.FuelForms }
+    ensures forms_of_schedules { limit.ScheduleForms }
+    ensures numbers { limit.FileNumberLimit }
+    ensures forms_of_numbers { limit.FileNumberForms }
+    ensures devices { limit.DeviceLimit }
+    ensures lines { limit.TextLineLimit }
+    ensures counts { limit.TextLineCounts }
 {}

@@ -1,0 +1,121 @@
+-- The limits of jobs, each on both of its sides.
+use Rattle.std.specs.Prelude.{ℕ, List, [], ◌∷◌, ◌++◌, map, replicate, ℤ, pos, negsuc, codes}
+use Rattle.std.specs.Fmt.{decimal}
+use Rattle.cc_base.specs.declared.device.Kind.TheVariants.{Console, File}
+use Rattle.cc_base.specs.declared.device.DeviceDecl.{DeviceDecl}
+use Rattle.cc_job.specs.declared.job.Command.{Command}
+use Rattle.cc_job.specs.declared.job.Command.TheVariants.{Put, Check, Run, Tasks}
+use Rattle.cc_job.specs.Jobs.{joined, IsJob, IsBadAt}
+use Rattle.cc_job.specs.Examples.{text}
+
+-- the text of a job with this one line behind its first
+abbrev pub with_line : List ℕ → List ℕ
+with_line line = text (codes "capc 1" ∷ line ∷ [])
+
+-- the text is a job with this one command
+abbrev pub Commands : List ℕ → Command → Type 0
+Commands line command = IsJob (with_line line) (record { devices = []; commands = command ∷ [] })
+
+-- the text is a job with this one device
+abbrev pub Declares : List ℕ → DeviceDecl → Type 0
+Declares line device = IsJob (with_line line) (record { devices = device ∷ []; commands = [] })
+
+-- the line, which is the second, begins no job
+abbrev pub IsRefused : List ℕ → Type 0
+IsRefused line = IsBadAt (with_line line) 2
+
+-- m.f as an entry, and how it is written
+abbrev pub entry : List ℕ × List ℕ
+entry = (codes "m", codes "f")
+
+-- tasks of one entry, which is turned to so often
+abbrev pub turns_line : ℕ → List ℕ
+turns_line count = codes "tasks 1 " ++ joined 44 (replicate count (codes "0")) ++ codes " m.f"
+
+-- a schedule of 64 numbers, and one of 65
+abbrev pub ScheduleLimit : Type 0
+ScheduleLimit = Commands (turns_line 64) (Tasks 1 (replicate 64 0) (entry ∷ [])) × IsRefused (turns_line 65)
+
+-- eight entries, and nine
+abbrev pub EntryLimit : Type 0
+EntryLimit =
+    Commands (codes "tasks 1 0,1,2,3,4,5,6,7 m.f m.f m.f m.f m.f m.f m.f m.f")
+    (Tasks 1 (0 ∷ 1 ∷ 2 ∷ 3 ∷ 4 ∷ 5 ∷ 6 ∷ 7 ∷ []) (replicate 8 entry))
+    × IsRefused (codes "tasks 1 0,1,2,3,4,5,6,7,8 m.f m.f m.f m.f m.f m.f m.f m.f m.f")
+
+-- no entry at all
+abbrev pub NoEntry : Type 0
+NoEntry = IsRefused (codes "tasks 1 0")
+
+-- the fuel of tasks: nothing, 1,000,000 and one more
+abbrev pub TasksFuelLimit : Type 0
+TasksFuelLimit =
+    Commands (codes "tasks 0 0 m.f") (Tasks 0 (0 ∷ []) (entry ∷ []))
+    × Commands (codes "tasks 1000000 0 m.f") (Tasks 1000000 (0 ∷ []) (entry ∷ []))
+    × IsRefused (codes "tasks 1000001 0 m.f")
+
+-- the fuel of a run: nothing, 1,000,000 and one more
+abbrev pub RunFuelLimit : Type 0
+RunFuelLimit =
+    Commands (codes "run m.f 0") (Run (codes "m") (codes "f") 0)
+    × Commands (codes "run m.f 1000000") (Run (codes "m") (codes "f") 1000000)
+    × IsRefused (codes "run m.f 1000001")
+
+-- numbers with a zero before them, or with a sign
+abbrev pub FuelForms : Type 0
+FuelForms =
+    IsRefused (codes "run m.f 01") × IsRefused (codes "run m.f 00") × IsRefused (codes "run m.f +1")
+    × IsRefused (codes "run m.f -0") × IsRefused (codes "tasks 01 0 m.f")
+
+-- a schedule names no entry, leaves one out, or writes a task with two digits
+abbrev pub ScheduleForms : Type 0
+ScheduleForms =
+    IsRefused (codes "tasks 1 0,2 m.f m.f") × IsRefused (codes "tasks 1 0,0 m.f m.f")
+    × IsRefused (codes "tasks 1 0,00 m.f")
+
+abbrev pub file : ℤ → DeviceDecl
+file number = record { name = codes "d"; kind = File (number ∷ []) }
+
+-- the least number of a file, and one less; the greatest, and one more
+abbrev pub FileNumberLimit : Type 0
+FileNumberLimit =
+    Declares (codes "device d file -9223372036854775808") (file (negsuc 9223372036854775807))
+    × IsRefused (codes "device d file -9223372036854775809")
+    × Declares (codes "device d file 9223372036854775807") (file (pos 9223372036854775807))
+    × IsRefused (codes "device d file 9223372036854775808")
+
+-- a zero with a minus, two zeros, and a plus
+abbrev pub FileNumberForms : Type 0
+FileNumberForms =
+    IsRefused (codes "device d file -0") × IsRefused (codes "device d file 00") × IsRefused (codes "device d file +1")
+
+-- d0, d1 and so on
+abbrev pub numbered_names : List (List ℕ)
+numbered_names =
+    map (λ number. codes "d" ++ decimal number)
+    (0 ∷ 1 ∷ 2 ∷ 3 ∷ 4 ∷ 5 ∷ 6 ∷ 7 ∷ 8 ∷ 9 ∷ 10 ∷ 11 ∷ 12 ∷ 13 ∷ 14 ∷ 15 ∷ [])
+
+-- the lines that declare consoles of these names
+abbrev pub console_lines : List (List ℕ) → List (List ℕ)
+console_lines names = map (λ name. codes "device " ++ name ++ codes " console") names
+
+-- 16 devices, and 17: the line of the last one begins no job
+abbrev pub DeviceLimit : Type 0
+DeviceLimit =
+    IsJob (text (codes "capc 1" ∷ console_lines numbered_names ++ codes "check" ∷ []))
+    (record { devices = map (λ name. record { name = name; kind = Console }) numbered_names; commands = Check ∷ [] })
+    × IsBadAt (text (codes "capc 1" ∷ console_lines numbered_names ++ codes "device e console" ∷ codes "check" ∷ [])) 18
+
+-- A text of 4,194,304 lines may follow, and here none does: the bad line is the one behind the last. No text has a
+-- line more.
+abbrev pub TextLineLimit : Type 0
+TextLineLimit = IsBadAt (with_line (codes "put m 4194304")) 3 × IsRefused (codes "put m 4194305")
+
+-- The lines behind a put are its text, also one that could be a command. With one line fewer the text is cut short; of
+-- one line more, the last is read as a command.
+abbrev pub TextLineCounts : Type 0
+TextLineCounts =
+    IsJob (text (codes "capc 1" ∷ codes "put m 2" ∷ codes "a" ∷ codes "check" ∷ []))
+    (record { devices = []; commands = Put (codes "m") (text (codes "a" ∷ codes "check" ∷ [])) ∷ [] })
+    × IsBadAt (text (codes "capc 1" ∷ codes "put m 2" ∷ codes "a" ∷ [])) 4
+    × IsBadAt (text (codes "capc 1" ∷ codes "put m 1" ∷ codes "a" ∷ codes "b" ∷ [])) 4
