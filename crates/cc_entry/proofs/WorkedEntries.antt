@@ -18,7 +18,7 @@ use Rattle.cc_grammar.specs.Reading.{reading_of, module_at, imports_at, import_a
 use Rattle.cc_lex.specs.Cutting.{word_of, short_symbol, pair_symbol, front_of, blank_of, token_of, number_of}
 use Rattle.cc_meta_modules.specs.PresentTexts.{graph_of}
 use Rattle.cc_meta_modules.specs.Readings.{reading_of_text}
-use Rattle.cc_entry.specs.PresentEntries.{IsReached}
+use Rattle.cc_entry.specs.PresentEntries.{program_entry, IsReached}
 use Rattle.cc_entry.specs.ExampleEntries as example
 
 -- the import graph of the two texts
@@ -53,7 +53,7 @@ library_imported : does_import two_modules (codes "app") (codes "lib") ≡ true
 unfolding does_import
 library_imported = refl
 
-listed_two : (other : List ℕ) → is_listed example.main_entry.modules other ≡ true → IsReached two_modules (codes "app") other
+listed_two : (other : List ℕ) → is_listed (program_entry example.main_entry).modules other ≡ true → IsReached two_modules (codes "app") other
 listed_two other listed =
     elim (cases_Bool (bytes_eq (codes "lib") other)) [
       | inl same ↦
@@ -66,10 +66,10 @@ listed_two other listed =
           ]
     ]
 
-two_listed : (other : List ℕ) → IsReached two_modules (codes "app") other → is_listed example.main_entry.modules other ≡ true
-two_listed other (inl same) = ap (λ x. is_listed example.main_entry.modules x) same
+two_listed : (other : List ℕ) → IsReached two_modules (codes "app") other → is_listed (program_entry example.main_entry).modules other ≡ true
+two_listed other (inl same) = ap (λ x. is_listed (program_entry example.main_entry).modules x) same
 two_listed other (inr path) =
-    ap (λ x. is_listed example.main_entry.modules x) (path_from_application (codes "app") other path refl)
+    ap (λ x. is_listed (program_entry example.main_entry).modules x) (path_from_application (codes "app") other path refl)
 
 pub main_has_its_entry : example.MainHasItsEntry
 unfolding reading_of_text word_of short_symbol pair_symbol front_of blank_of token_of number_of unicode_ident encode is_utf8 utf8_valid_len chars reading_of module_at imports_at import_at defs_at def_at def_rule_at part_at expr_over links_at next_link link_at dot_at operation_at link_rule_at expr_start_at fun_at expr_rule_at type_over shape_over shape_start_at paren_at named_at shape_rule_at one_part_at written_at captures_at set_at caret_at elements_at name_at placed_name_at symbol_at word_at operation_named contains same_element from_list insert placed element_order empty

@@ -1,8 +1,8 @@
--- What an entry stands for, as the definitions of programs have it.
-use Rattle.cc_core.specs.Programs.{Entry}
-use Rattle.cc_entry.specs.declared.entry.Entry.{Entry as DeclaredEntry}
+-- What an entry stands for.
+use Rattle.cc_entry.specs.PresentEntries.{CheckedEntry}
+use Rattle.cc_entry.specs.declared.entry.Entry.{Entry}
 use Rattle.cc_entry.specs.Modules.{entry_in}
 
--- the entry
-abbrev pub entry_of : DeclaredEntry → Entry
+-- the entry, with its modules as they were checked
+abbrev pub entry_of : Entry → CheckedEntry
 entry_of it = entry_in it.devices.items it.modules.items it.module it.def it.authority.items

@@ -4,19 +4,18 @@ use Rattle.std.specs.Str.{bytes_eq}
 use Rattle.cc_base.specs.declared.code.Code.TheVariants.{E35}
 use Rattle.cc_base.specs.declared.literal.Base.TheVariants as bases
 use Rattle.cc_base.specs.declared.literal.Op.TheVariants as operations
+use Rattle.cc_base.specs.declared.place.Place.{Place}
 use Rattle.cc_base.specs.Literals.{NumberLiteral}
 use Rattle.cc_capture.specs.declared.var.Var.TheVariants.{Bound, Free}
 use Rattle.cc_capture.specs.Sets.{empty}
 use Rattle.cc_core.specs.Captured.{variable_set}
 use Rattle.cc_core.specs.Shapes.{Shape, FunctionShape, capturing}
 use Rattle.cc_core.specs.Terms.{Absent, Written, LiteralTerm, FunctionTerm, Application, Let, Operation}
-use Rattle.cc_core.specs.Programs.{Entry}
 use Rattle.cc_sets.specs.Examples.{number, nothing, printing}
 use Rattle.cc_meta_modules.specs.ExampleModules.{console, two_lines}
-use Rattle.cc_meta_modules.specs.ModuleLaws.{in_program}
 use Rattle.cc_meta_modules.specs.ModuleVerdicts.{CheckedDefinition, ModuleVerdict, IsAccepted}
 use Rattle.cc_meta_modules.specs.PresentTexts.{Texts}
-use Rattle.cc_entry.specs.PresentEntries.{started_in, IsEntryOf}
+use Rattle.cc_entry.specs.PresentEntries.{CheckedEntry, started_in, IsEntryOf}
 
 -- Module lib, beside a console out:
 --   def line: ((x: Int) -> Unit)^{out} = fun (x: Int) => out.print(x)
@@ -79,16 +78,21 @@ two_texts = (codes "app", application_text) ∷ (codes "lib", library_text) ∷ 
 abbrev pub two_verdicts : List ℕ → ModuleVerdict
 two_verdicts name = if bytes_eq name (codes "lib") then IsAccepted (line ∷ []) else IsAccepted (main ∷ five ∷ [])
 
--- the entry app.main: lib comes first, since app imports from it
-abbrev pub main_entry : Entry
+abbrev pub first_line : ℕ → Place
+first_line column = record { line = 1; col = column }
+
+-- The entry app.main: lib comes first, since app imports from it. The import has its places, and the definitions have
+-- their notes and the types that they were found to have.
+abbrev pub main_entry : CheckedEntry
 main_entry = record {
   devices = bases.Console ∷ [];
   modules =
-      record { name = codes "lib"; imports = []; definitions = in_program line ∷ [] }
+      record { name = codes "lib"; imports = []; definitions = line ∷ [] }
       ∷ record {
         name = codes "app";
-        imports = record { module_name = codes "lib"; definition_name = codes "line" } ∷ [];
-        definitions = in_program main ∷ in_program five ∷ [];
+        imports =
+            record { source = codes "lib"; at = first_line 8; name = codes "line"; name_at = first_line 12 } ∷ [];
+        definitions = main ∷ five ∷ [];
       }
       ∷ [];
   module_name = codes "app";

@@ -1,23 +1,21 @@
--- What the parts of an entry stand for, as the definitions of programs have them: without places.
+-- What the parts of an entry stand for.
 use Rattle.std.specs.Prelude.{ℕ, List, map}
 use Rattle.cc_base.specs.declared.literal.Base.{Base}
-use Rattle.cc_core.specs.Programs.{Module, Entry}
 use Rattle.cc_entry.specs.declared.modules.EntryModule.{EntryModule}
-use Rattle.cc_entry.specs.PresentEntries.{import_of}
-use Rattle.cc_meta_modules.specs.ModuleLaws.{in_program}
+use Rattle.cc_entry.specs.PresentEntries.{CheckedModule, CheckedEntry}
 use Rattle.cc_module.specs.Judgements.{checked_definition_of}
 use Rattle.cc_parse.specs.Trees.{import_syntax}
 
 -- a module
-abbrev pub module_of : EntryModule → Module
+abbrev pub module_of : EntryModule → CheckedModule
 module_of it = record {
   name = it.name;
-  imports = map (λ one. import_of (import_syntax one)) it.imports.items;
-  definitions = map (λ one. in_program (checked_definition_of one)) it.defs.items;
+  imports = map import_syntax it.imports.items;
+  definitions = map checked_definition_of it.defs.items;
 }
 
 -- the entry of these parts
-abbrev pub entry_in : List Base → List EntryModule → List ℕ → List ℕ → List ℕ → Entry
+abbrev pub entry_in : List Base → List EntryModule → List ℕ → List ℕ → List ℕ → CheckedEntry
 entry_in devices modules module_name definition_name authority = record {
   devices = devices;
   modules = map module_of modules;

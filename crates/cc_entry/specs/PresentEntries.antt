@@ -9,7 +9,7 @@ use Rattle.cc_base.specs.declared.code.Code.TheVariants.{E32, E33, E34, E35}
 use Rattle.cc_base.specs.declared.device.DeviceDecl.{DeviceDecl}
 use Rattle.cc_base.specs.declared.literal.Base.{Base}
 use Rattle.cc_base.specs.declared.literal.Base.TheVariants as bases
-use Rattle.cc_core.specs.Programs.{Import, Definition, Module, Entry, is_listed, AreInOrder}
+use Rattle.cc_core.specs.Programs.{Import, Module, Entry, is_listed, AreInOrder}
 use Rattle.cc_core.specs.Shapes.{Shape, BaseShape, AnyShape, TypeVariable, FunctionShape, TypeFunctionShape, BoxShape}
 use Rattle.cc_core.specs.Shapes.{ExitShape}
 use Rattle.cc_core.specs.Stores.{authority}
@@ -66,20 +66,53 @@ abbrev pub started_in : Texts → (List ℕ → ModuleVerdict) → List ℕ → 
 started_in texts verdicts module_name name =
     if is_some (text_of texts module_name) then started_by (verdicts module_name) name else Err E32
 
--- an import as one of a program
+-- a module of an entry as it was checked: its name, its imports with their places, and its checked definitions
+pub record CheckedModule : Type 0 where
+  pub name : List ℕ
+  pub imports : List ImportSyntax
+  pub definitions : List CheckedDefinition
+
+-- An entry with its modules as they were checked: the base shapes of the devices; the modules; the names of the module
+-- and of the definition that is run; and the devices that it may operate.
+pub record CheckedEntry : Type 0 where
+  pub devices : List Base
+  pub modules : List CheckedModule
+  pub module_name : List ℕ
+  pub definition_name : List ℕ
+  pub authority : List ℕ
+
+-- an import as one of a program, which has no places
 abbrev pub import_of : ImportSyntax → Import
 import_of one = record { module_name = one.source; definition_name = one.name }
 
--- the definitions of a module with this verdict, as those of a program; a refused one has none
-abbrev pub definitions_of : ModuleVerdict → List Definition
-definitions_of (IsAccepted definitions) = map in_program definitions
+-- a module as one of a program, of whose definitions the filled values and the signatures are left
+abbrev pub program_module : CheckedModule → Module
+program_module it = record {
+  name = it.name;
+  imports = map import_of it.imports;
+  definitions = map in_program it.definitions;
+}
+
+-- the entry of the program
+abbrev pub program_entry : CheckedEntry → Entry
+program_entry it = record {
+  devices = it.devices;
+  modules = map program_module it.modules;
+  module_name = it.module_name;
+  definition_name = it.definition_name;
+  authority = it.authority;
+}
+
+-- the definitions of a module with this verdict; a refused one has none
+abbrev pub definitions_of : ModuleVerdict → List CheckedDefinition
+definitions_of (IsAccepted definitions) = definitions
 definitions_of (IsRefused code at) = []
 
--- the present module of the name, as one of a program: with the imports of its text and the definitions of its verdict
-abbrev pub present_module : Texts → (List ℕ → ModuleVerdict) → List ℕ → Module
+-- the present module of the name: with the imports of its text and the definitions of its verdict
+abbrev pub present_module : Texts → (List ℕ → ModuleVerdict) → List ℕ → CheckedModule
 present_module texts verdicts name = record {
   name = name;
-  imports = map import_of (unwrap_or (imports_of (unwrap_or (text_of texts name) [])) []);
+  imports = unwrap_or (imports_of (unwrap_or (text_of texts name) [])) [];
   definitions = definitions_of (verdicts name);
 }
 
@@ -88,15 +121,16 @@ abbrev pub IsReached : ImportMap → List ℕ → List ℕ → Type 0
 IsReached imports from name = (name ≡ from) ⊎ Reaches imports from name
 
 -- The entry of a definition of a module, where modules have these verdicts. It has the shapes of the devices; the
--- module and all that it reaches, as their texts and verdicts say, in the order in which they are linked, where the
--- next one is always the first by name of those that are not yet listed and import from listed ones alone; and the
--- devices that the signature of the definition gives leave to use.
+-- module and all that it reaches, each with exactly the imports of its text and the definitions of its verdict, in the
+-- order in which they are linked, where the next one is always the first by name of those that are not yet listed and
+-- import from listed ones alone; and the devices that the signature of the definition gives leave to use.
 pub record IsEntryOf (devices : List DeviceDecl) (texts : Texts) (verdicts : List ℕ → ModuleVerdict)
-    (module_name name : List ℕ) (started : CheckedDefinition) (entry : Entry) : Type 0 where
+    (module_name name : List ℕ) (started : CheckedDefinition) (entry : CheckedEntry) : Type 0 where
   pub shapes : entry.devices ≡ map (λ device. base_of device.kind) devices
   pub present : AllByRecursion (λ current. current ≡ present_module texts verdicts current.name) entry.modules
-  pub reached : (other : List ℕ) → IsTrue (is_listed entry.modules other) ↔ IsReached (graph_of texts) module_name other
-  pub order : AreInOrder entry.modules
+  pub reached : (other : List ℕ) → IsTrue (is_listed (map program_module entry.modules) other)
+      ↔ IsReached (graph_of texts) module_name other
+  pub order : AreInOrder (map program_module entry.modules)
   pub of_module : entry.module_name ≡ module_name
   pub of_definition : entry.definition_name ≡ name
   pub permits : entry.authority ≡ authority (length devices) started.accepted.signature.set

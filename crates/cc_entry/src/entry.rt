@@ -1,6 +1,7 @@
 //! Entries.
 ghost use Rattle.cc_core.specs.Programs.{IsEntry};
 ghost use Rattle.cc_entry.specs.Modules.{entry_in};
+ghost use Rattle.cc_entry.specs.PresentEntries.{program_entry};
 
 use crate::modules::EntryModule;
 use cc_base::literal::Base;
@@ -21,7 +22,7 @@ pub struct Entry {
     pub module: Name,
     pub def: Name,
     pub authority: Vec<u32>,
-    pub ghost is_entry: { ∥ IsEntry (entry_in devices.items modules.items «module» def authority.items) ∥₁ },
+    pub ghost is_entry: { ∥ IsEntry (program_entry (entry_in devices.items modules.items «module» def authority.items)) ∥₁ },
 }
 
 impl Entry {
@@ -36,7 +37,7 @@ impl Entry {
         def: Name,
         authority: Vec<u32>,
     ) -> Entry
-        requires { ∥ IsEntry (entry_in devices.items modules.items «module» def authority.items) ∥₁ }
+        requires { ∥ IsEntry (program_entry (entry_in devices.items modules.items «module» def authority.items)) ∥₁ }
         ensures { entry_of result ≡ entry_in devices.items modules.items «module» def authority.items }
     {
         Entry {

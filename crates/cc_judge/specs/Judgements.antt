@@ -15,6 +15,10 @@ pub record Judgement : Type 0 where
   pub findings : List Finding
   pub verdict : ModuleVerdict
 
+-- the modules' names and their verdicts
+abbrev pub verdicts_of : List Judgement → List (List ℕ × ModuleVerdict)
+verdicts_of last = map (λ one. (one.name, one.verdict)) last
+
 -- the verdict is the one that the text has with what was found, and this fits the text
 pub record IsJudged (devices : List DeviceDecl) (one : Judgement) : Type 0 where
   pub deserved : HasModuleVerdict devices one.text one.findings one.verdict

@@ -5,12 +5,21 @@ use Rattle.std.specs.Map.{keys_of}
 use Rattle.std.specs.Prelude.{◌≡◌, length}
 use Rattle.cc_base.specs.declared.device.DeviceDecl.{DeviceDecl}
 use Rattle.cc_graph.specs.Graph.{compare_names}
+use Rattle.cc_meta_modules.specs.ModuleVerdicts as plain
 use Rattle.cc_module.specs.declared.judgement.ModuleVerdict.{ModuleVerdict}
 use Rattle.cc_module.specs.Findings.{finding_of}
 use Rattle.cc_module.specs.Judgements.{module_verdict_of}
 use Rattle.cc_judge.specs.declared.grounds.Grounds.{Grounds}
 use Rattle.cc_judge.specs.declared.last.Last.{Last}
 use Rattle.cc_judge.specs.Judgements.{Judgement, AreJudged}
+
+-- a module's name and its verdict
+abbrev pub named_verdict : List ℕ × ModuleVerdict → List ℕ × plain.ModuleVerdict
+named_verdict one = (one.0, module_verdict_of one.1)
+
+-- the same of each
+abbrev pub named_verdicts : List (List ℕ × ModuleVerdict) → List (List ℕ × plain.ModuleVerdict)
+named_verdicts verdicts = map named_verdict verdicts
 
 -- the judgement of the module with this verdict, on these grounds
 abbrev pub judged_on : List ℕ × ModuleVerdict → Grounds → Judgement

@@ -1,4 +1,5 @@
 pub mod Judgements
+pub mod StaleExamples
 pub mod SameFindings
 pub mod Kept
 pub mod Places

@@ -15,7 +15,7 @@ use Rattle.cc_core.specs.Programs.{Module, Entry, definition_named, definition_i
 use Rattle.cc_core.specs.Programs.{OfEachModule, AreDefinable, NamesDiffer, SignaturesNameDevices, ImportsAreThere}
 use Rattle.cc_core.specs.Programs.{IsTypedModule, is_ready}
 use Rattle.cc_core.specs.Stores.{is_device_base, authority}
-use Rattle.cc_entry.specs.PresentEntries.{definitions_of, present_module, started_in, IsReached, IsEntryOf}
+use Rattle.cc_entry.specs.PresentEntries.{program_entry, started_in, IsReached}
 use Rattle.cc_graph.specs.Graph.{ImportMap}
 use Rattle.cc_graph.proofs.NameLemmas.{is_same_name}
 use Rattle.cc_graph.proofs.Paths.{path-reaches}
@@ -29,6 +29,7 @@ use Rattle.cc_session.proofs.EntryLinks.{AllPresent, definition_there, are_defin
 use Rattle.cc_session.proofs.EntryLinks.{signatures_name_devices, imports_are_there, is_typed, of_each}
 use Rattle.cc_session.proofs.EntryModules.{all_turned, IsModule, accepted_module, named_alike}
 use Rattle.cc_session.proofs.EntryNames.{ordered_distinct}
+use Rattle.cc_session.proofs.PlainEntries.{definitions_of, present_module, IsPlainEntryOf, plain_entry}
 use Rattle.cc_session.proofs.StartedDefinitions.{unit_taken, starts, starting_module}
 
 device_base : (kind : Kind) → is_device_base (base_of kind) ≡ true
@@ -58,7 +59,7 @@ each_listed P (first ∷ rest) all = (
 module _ (devices : List DeviceDecl) (texts : Texts) (all : List ℕ → ModuleVerdict) (differ : NamesOfDevicesDiffer devices)
     (sorted : ArePresent texts) (are : AreVerdicts devices texts all) (module_name name : List ℕ)
     (started : CheckedDefinition) (starting : started_in texts all module_name name ≡ Ok started) (entry : Entry)
-    (is : IsEntryOf devices texts all module_name name started entry) where
+    (is : IsPlainEntryOf devices texts all module_name name started entry) where
   is_present : AllPresent texts all (reverse entry.modules)
   is_present =
       let P : Module → Type 0 = λ current. current ≡ present_module texts all current.name in
@@ -147,4 +148,5 @@ module _ (devices : List DeviceDecl) (texts : Texts) (all : List ℕ → ModuleV
 
 pub present_entries : EntriesOfTextsAreEntries
 present_entries devices texts all differ sorted are module_name name started starting entry is =
-    has_all devices texts all differ sorted are module_name name started starting entry is
+    has_all devices texts all differ sorted are module_name name started starting (program_entry entry)
+    (plain_entry devices texts all module_name name started entry is)

@@ -14,7 +14,8 @@ use Rattle.cc_graph.proofs.NameLemmas.{same_name, is_same_name}
 use Rattle.cc_graph.proofs.Paths.{IsAmong}
 use Rattle.cc_judge.specs.declared.grounds.Grounds.{Grounds}
 use Rattle.cc_judge.specs.Judgements.{Judgement, judgement_in, AreCurrent}
-use Rattle.cc_judge.specs.Kept.{judgements_from}
+use Rattle.cc_judge.specs.declared.last.Last.{Last}
+use Rattle.cc_judge.specs.Kept.{judgements_from, judgements_of}
 use Rattle.cc_meta_modules.specs.ModuleVerdicts.{CheckedDefinition, ModuleVerdict, IsAccepted, IsRefused}
 use Rattle.cc_meta_modules.specs.PresentTexts.{Texts, ArePresent, text_of, AreVerdicts, definition_named}
 use Rattle.cc_meta_modules.proofs.Asking.{map_same}
@@ -22,7 +23,7 @@ use Rattle.cc_meta_modules.proofs.PresentLaws.{present_verdicts_are_unique}
 use Rattle.cc_module.specs.declared.judgement.ModuleVerdict.{ModuleVerdict as DeclaredVerdict}
 use Rattle.cc_module.specs.Judgements.{module_verdict_of}
 use Rattle.cc_session.specs.EntryParts.{HaveVerdicts, HaveCurrentVerdicts, IsDefinitionOf}
-use Rattle.cc_session.specs.Sessions.{SessionState, last_of, IsUpToDate, IsSession}
+use Rattle.cc_session.specs.Sessions.{SessionState, IsUpToDate, IsSession}
 use Rattle.cc_session.specs.Signatures.{verdict_named, definitions_of, definitions_or, definition_or, definition_among}
 use Rattle.cc_session.specs.Signatures.{definition_in}
 
@@ -64,13 +65,14 @@ verdicts_from (first ∷ rest) (one ∷ others) same =
     ap (λ vs. module_verdict_of first.1 ∷ vs) (verdicts_from rest others (omega arith))
 
 -- the verdicts of a session that is up to date are current
-pub current_verdicts : (session : SessionState) → IsSession session → IsUpToDate session
-    → HaveCurrentVerdicts session.devices session.present session.verdicts
-current_verdicts session is (all, are, last) = (
+pub current_verdicts : (session : SessionState) (last : Last) → IsSession session last
+    → session.last ≡ judgements_of last → IsUpToDate session
+    → HaveCurrentVerdicts session.devices session.present last.verdicts.items
+current_verdicts session last is kept (all, are, current) = (
   all,
   are,
-  sym (verdicts_from session.verdicts session.grounds is.one_each)
-      ∙ ap (map (λ (one : Judgement). one.verdict)) last
+  sym (verdicts_from last.verdicts.items last.grounds.items is.kept.one_each)
+      ∙ ap (map (λ (one : Judgement). one.verdict)) (sym kept ∙ current)
       ∙ map-map (λ (one : Judgement). one.verdict) (judgement_in session.present all) session.present,
 )
 
@@ -133,18 +135,18 @@ by_texts devices texts last sorted (some, are, same) all others module_name name
     (alike (text_of texts module_name) (some module_name) (all module_name)
     (λ text is_text. present_verdicts_are_unique devices texts some all sorted are others module_name text is_text))
 
-pub found_definition : (session : SessionState) → IsSession session → IsUpToDate session
-    → (module_name name : List ℕ) (found : CheckedDefinition) → definition_in (last_of session) module_name name ≡ Ok found
+pub found_definition : (session : SessionState) (last : Last) → IsSession session last → IsUpToDate session
+    → (module_name name : List ℕ) (found : CheckedDefinition) → definition_in session.last module_name name ≡ Ok found
     → IsDefinitionOf session.devices session.present module_name name found
-found_definition session is current module_name name found finds all are =
+found_definition session last is current module_name name found finds all are =
     found_by_text (text_of session.present module_name) (all module_name) name found
-    (sym (by_texts session.devices session.present (last_of session) is.present current all are module_name name) ∙ finds)
+    (sym (by_texts session.devices session.present session.last is.present current all are module_name name) ∙ finds)
 
-pub refused_definition : (session : SessionState) → IsSession session → IsUpToDate session
-    → (module_name name : List ℕ) (code : Code) → definition_in (last_of session) module_name name ≡ Err code
+pub refused_definition : (session : SessionState) (last : Last) → IsSession session last → IsUpToDate session
+    → (module_name name : List ℕ) (code : Code) → definition_in session.last module_name name ≡ Err code
     → (all : List ℕ → ModuleVerdict) → AreVerdicts session.devices session.present all
     → started_in session.present all module_name name ≡ Err code
-refused_definition session is current module_name name code refused all are =
+refused_definition session last is current module_name name code refused all are =
     refused_by_text (text_of session.present module_name) (all module_name) name code
-    (sym (by_texts session.devices session.present (last_of session) is.present current all are module_name name)
+    (sym (by_texts session.devices session.present session.last is.present current all are module_name name)
     ∙ refused)

@@ -6,7 +6,7 @@ use Rattle.cc_core.specs.Programs.{IsEntry}
 use Rattle.cc_core.specs.Stores.{authority}
 use Rattle.cc_entry.specs.declared.modules.EntryModule.{EntryModule}
 use Rattle.cc_entry.specs.Modules.{entry_in}
-use Rattle.cc_entry.specs.PresentEntries.{takes_unit, started_or}
+use Rattle.cc_entry.specs.PresentEntries.{program_entry, takes_unit, started_or}
 use Rattle.cc_meta_modules.specs.ModuleLaws.{NamesOfDevicesDiffer}
 use Rattle.cc_meta_modules.specs.ModuleVerdicts.{CheckedDefinition, base_of}
 use Rattle.cc_meta_modules.specs.PresentTexts.{Texts, ArePresent}
@@ -34,7 +34,7 @@ module _ (devices : List DeviceDecl) (texts : Texts) (verdicts : List (List ℕ 
       (these all (have_verdicts devices texts verdicts sorted current all are)) same_module same_name permits
 
   -- and has all that an entry has
-  pub parts_are_entry : ∥ IsEntry (entry_in shapes modules its_module its_name permitted) ∥₁
+  pub parts_are_entry : ∥ IsEntry (program_entry (entry_in shapes modules its_module its_name permitted)) ∥₁
   parts_are_entry =
       let (all, are, have) = current in
       ∣ present_entries devices texts all differ sorted are module_name name started (starts all are)

@@ -15,7 +15,7 @@ use Rattle.cc_core.specs.Programs.{import_context, AreTyped, is_definable, Names
 use Rattle.cc_core.specs.Programs.{AreDefinable, NamesDiffer, SignaturesNameDevices, ImportsAreThere, IsTypedModule}
 use Rattle.cc_core.specs.Programs.{is_listed, is_ready, are_in_order}
 use Rattle.cc_core.specs.Shapes.{CapturingType}
-use Rattle.cc_entry.specs.PresentEntries.{import_of, definitions_of, present_module}
+use Rattle.cc_entry.specs.PresentEntries.{import_of}
 use Rattle.cc_grammar.specs.Syntax.{ImportSyntax}
 use Rattle.cc_graph.proofs.OrderLemmas.{list_all_at}
 use Rattle.cc_graph.proofs.Paths.{IsAmong}
@@ -29,6 +29,7 @@ use Rattle.cc_graph.proofs.NameLemmas.{same_name}
 use Rattle.cc_session.specs.LinkOrders.{is_accepted, is_accepted_module}
 use Rattle.cc_session.proofs.EntryModules.{all_turned, all_over, found_by_import, named_alike, IsModule}
 use Rattle.cc_session.proofs.EntryModules.{accepted_module, its_imports, its_definitions}
+use Rattle.cc_session.proofs.PlainEntries.{definitions_of, present_module}
 
 -- each module is as its text and its verdict say
 abbrev pub AllPresent : Texts → (List ℕ → ModuleVerdict) → List Module → Type 0

@@ -11,7 +11,7 @@ use Rattle.std.specs.Str.{bytes_eq}
 use Rattle.cc_base.specs.declared.device.DeviceDecl.{DeviceDecl}
 use Rattle.cc_core.specs.Programs.{Definition, definition_named}
 use Rattle.cc_core.specs.Shapes.{CapturingType}
-use Rattle.cc_entry.specs.PresentEntries.{import_of, definitions_of, present_module}
+use Rattle.cc_entry.specs.PresentEntries.{import_of}
 use Rattle.cc_grammar.specs.Syntax.{ImportSyntax}
 use Rattle.cc_graph.specs.Graph.{reaches}
 use Rattle.cc_graph.proofs.NameLemmas.{same_name}
@@ -28,6 +28,7 @@ use Rattle.cc_meta_modules.proofs.ModuleVerdictLaws.{accepted_modules_are_sound}
 use Rattle.cc_meta_modules.proofs.PresentLaws.{present_findings_fit}
 use Rattle.cc_session.specs.LinkOrders.{is_accepted, is_accepted_module}
 use Rattle.cc_session.proofs.AcceptedImports.{found_imports}
+use Rattle.cc_session.proofs.PlainEntries.{definitions_of, present_module}
 
 -- ---- lists
 all_onto : {A : Type 0} (P : A → Type 0) (xs ys : List A) → AllByRecursion P xs → AllByRecursion P ys

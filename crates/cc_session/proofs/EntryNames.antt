@@ -11,7 +11,6 @@ use Rattle.std.specs.List.{AllByRecursion, IsDistinct}
 use Rattle.std.specs.Ordering.{is_lt}
 use Rattle.std.specs.Str.{bytes_eq}
 use Rattle.cc_core.specs.Programs.{Module, is_ready, are_in_order, is_name_before}
-use Rattle.cc_entry.specs.PresentEntries.{present_module}
 use Rattle.cc_graph.proofs.NameLemmas.{names_total, same_name}
 use Rattle.cc_graph.proofs.OrderLemmas.{clash, list_all_at}
 use Rattle.cc_graph.proofs.Paths.{IsAmong}
@@ -19,6 +18,7 @@ use Rattle.cc_judge.proofs.CarryLemmas.{map-reverse}
 use Rattle.cc_meta_modules.specs.ModuleVerdicts.{ModuleVerdict}
 use Rattle.cc_meta_modules.specs.PresentTexts.{Texts}
 use Rattle.cc_session.proofs.EntryLinks.{AllPresent}
+use Rattle.cc_session.proofs.PlainEntries.{present_module}
 
 -- no name comes before itself
 pub not_before_itself : (name : List ℕ) → is_name_before name name ≡ false

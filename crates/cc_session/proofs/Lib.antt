@@ -4,6 +4,7 @@ pub mod ChosenOrders
 pub mod LinkedModules
 pub mod SessionFacts
 pub mod TextChanges
+pub mod PlainEntries
 pub mod AcceptedEntries
 pub mod CurrentVerdicts
 pub mod EntryLinks

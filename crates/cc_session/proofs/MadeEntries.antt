@@ -8,9 +8,10 @@ use Rattle.std.specs.Option.{unwrap_or, is_some}
 use mathlib.Core.List.{reverse_aux}
 use Rattle.std.specs.Str.{bytes_eq}
 use Rattle.cc_base.specs.declared.device.DeviceDecl.{DeviceDecl}
-use Rattle.cc_core.specs.Programs.{Import, Module, Entry, is_listed, AreInOrder}
+use Rattle.cc_core.specs.Programs.{Import, Module, is_listed, AreInOrder}
 use Rattle.cc_core.specs.Stores.{authority}
-use Rattle.cc_entry.specs.PresentEntries.{import_of, present_module, started_in, IsReached, IsEntryOf}
+use Rattle.cc_entry.specs.PresentEntries as checked
+use Rattle.cc_entry.specs.PresentEntries.{CheckedModule, CheckedEntry, import_of, program_module, started_in, IsReached, IsEntryOf}
 use Rattle.cc_graph.specs.Graph.{ImportMap, imported, is_present, IsOrder}
 use Rattle.cc_graph.proofs.NameLemmas.{same_name, is_same_name}
 use Rattle.cc_graph.proofs.OrderExistence.{orders_exist}
@@ -29,6 +30,7 @@ use Rattle.cc_session.proofs.AcceptedEntries.{reached_test}
 use Rattle.cc_session.proofs.AcceptedModules.{reach_accepted, linked_orders}
 use Rattle.cc_session.proofs.EntryModules.{all_turned, IsModule, accepted_module, its_imports}
 use Rattle.cc_session.proofs.LinkedModules.{linked_modules}
+use Rattle.cc_session.proofs.PlainEntries.{present_module}
 use Rattle.cc_session.proofs.StartedDefinitions.{starting_module}
 
 -- ---- lists
@@ -73,7 +75,8 @@ map_itself (x ∷ xs) = ap (λ ys. x ∷ ys) (map_itself xs)
 -- ---- modules by their names
 module _ (texts : Texts) (all : List ℕ → ModuleVerdict) where
   all_present : (names : List (List ℕ))
-      → AllByRecursion (λ current. current ≡ present_module texts all current.name) (map (present_module texts all) names)
+      → AllByRecursion (λ current. current ≡ checked.present_module texts all current.name)
+      (map (checked.present_module texts all) names)
   all_present [] = tt
   all_present (first ∷ rest) = (refl, all_present rest)
 
@@ -173,9 +176,9 @@ module _ (devices : List DeviceDecl) (texts : Texts) (all : List ℕ → ModuleV
 pub made_entry : (devices : List DeviceDecl) (texts : Texts) (all : List ℕ → ModuleVerdict)
     → NamesOfDevicesDiffer devices → ArePresent texts → AreVerdicts devices texts all
     → (module_name name : List ℕ) (started : CheckedDefinition) → started_in texts all module_name name ≡ Ok started
-    → (names : List (List ℕ)) → IsOrder (graph_of texts) names → (entry : Entry)
+    → (names : List (List ℕ)) → IsOrder (graph_of texts) names → (entry : CheckedEntry)
     → entry.devices ≡ map (λ device. base_of device.kind) devices
-    → entry.modules ≡ map (present_module texts all) (filter (is_reached (graph_of texts) module_name) names)
+    → entry.modules ≡ map (checked.present_module texts all) (filter (is_reached (graph_of texts) module_name) names)
     → entry.module_name ≡ module_name → entry.definition_name ≡ name
     → entry.authority ≡ authority (length devices) started.accepted.signature.set
     → IsEntryOf devices texts all module_name name started entry
@@ -183,20 +186,23 @@ made_entry devices texts all differ sorted are module_name name started starts n
     of_definition permits =
     let from = starting_module texts all module_name name started starts in
     let chosen = filter (is_reached (graph_of texts) module_name) names in
-    let A : List Module → Type 0 = λ ms. AllByRecursion (λ current. current ≡ present_module texts all current.name) ms in
+    let A : List CheckedModule → Type 0 = λ ms. AllByRecursion
+    (λ current. current ≡ checked.present_module texts all current.name) ms in
     let O : List Module → Type 0 = λ ms. AreInOrder ms in
+    let plain : map program_module entry.modules ≡ map (present_module texts all) chosen =
+    ap (map program_module) modules ∙ map-map program_module (checked.present_module texts all) chosen in
     record {
       shapes = shapes;
       present = subst A (sym modules) (all_present texts all chosen);
       reached = λ other. (
         λ listed.
             chosen_reached devices texts all differ sorted are module_name from names order other
-            (sym (ap (λ ms. is_listed ms other) modules) ∙ listed),
+            (sym (ap (λ ms. is_listed ms other) plain) ∙ listed),
         λ reached.
-            ap (λ ms. is_listed ms other) modules
+            ap (λ ms. is_listed ms other) plain
             ∙ reached_chosen devices texts all differ sorted are module_name from names order other reached,
       );
-      order = subst O (sym modules)
+      order = subst O (sym plain)
           (chosen_order devices texts all differ sorted are module_name from names order);
       of_module = of_module;
       of_definition = of_definition;
@@ -206,9 +212,9 @@ made_entry devices texts all differ sorted are module_name name started starts n
 pub entries_exist : EntriesOfTextsExist
 entries_exist devices texts all differ sorted are module_name name started starts =
     let (names, order) = orders_exist (graph_of texts) (graph_sorted texts sorted) in
-    let entry : Entry = record {
+    let entry : CheckedEntry = record {
       devices = map (λ device. base_of device.kind) devices;
-      modules = map (present_module texts all) (filter (is_reached (graph_of texts) module_name) names);
+      modules = map (checked.present_module texts all) (filter (is_reached (graph_of texts) module_name) names);
       module_name = module_name;
       definition_name = name;
       authority = authority (length devices) started.accepted.signature.set;

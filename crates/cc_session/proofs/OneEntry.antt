@@ -3,6 +3,7 @@ use Rattle.std.proofs.Common.{◌≡◌, ℕ, Bool, true, false, ◌||◌, List,
 use Rattle.std.proofs.Common.{refl, sym, ap, ◌∙◌, subst, inl, inr, if◌then◌else◌}
 use Rattle.std.proofs.lemmas.Bool.{cases_Bool, and_parts, or_left, or_right}
 use Rattle.std.proofs.lemmas.Cmp.{nat_list_eq_equiv}
+use Rattle.std.proofs.lemmas.Simd.{map-map}
 use Rattle.std.specs.List.{AllByRecursion, IsDistinct}
 use Rattle.std.specs.Ordering.{is_lt}
 use mathlib.Core.List.{reverse_aux}
@@ -10,7 +11,8 @@ use Rattle.std.specs.Str.{bytes_eq}
 use Rattle.std.specs.declared.cmp.Ordering.{Ordering}
 use Rattle.std.specs.declared.cmp.Ordering.TheVariants.{Less, Equal, Greater}
 use Rattle.cc_core.specs.Programs.{Module, is_listed, is_ready, are_in_order, is_name_before}
-use Rattle.cc_entry.specs.PresentEntries.{present_module}
+use Rattle.cc_entry.specs.PresentEntries as checked
+use Rattle.cc_entry.specs.PresentEntries.{CheckedModule, program_module}
 use Rattle.cc_graph.specs.Graph.{compare_names}
 use Rattle.cc_graph.proofs.NameLemmas.{same_name, is_same_name, turned}
 use Rattle.cc_graph.proofs.OrderLemmas.{clash, list_all_at}
@@ -22,6 +24,7 @@ use Rattle.cc_session.specs.EntryLaws.{EntriesOfTextsAreUnique}
 use Rattle.cc_session.proofs.EntryLinks.{AllPresent}
 use Rattle.cc_session.proofs.EntryModules.{all_turned}
 use Rattle.cc_session.proofs.EntryNames.{one_module, ordered_distinct}
+use Rattle.cc_session.proofs.PlainEntries.{present_module, plain_modules}
 
 -- of two names each cannot come before the other
 less_before : (a b : List ℕ) (answer : Ordering) → compare_names a b ≡ answer → is_lt answer ≡ true
@@ -147,14 +150,34 @@ module _ (texts : Texts) (all : List ℕ → ModuleVerdict) where
             (nat_list_eq_equiv.symm y.name x.name ∙ other)))
       ]
 
+-- present modules are those of their names
+by_names : (texts : Texts) (all : List ℕ → ModuleVerdict) (modules : List CheckedModule)
+    → AllByRecursion (λ current. current ≡ checked.present_module texts all current.name) modules
+    → modules ≡ map (checked.present_module texts all) (map (λ current. current.name) modules)
+by_names texts all [] present = refl
+by_names texts all (first ∷ rest) present =
+    let behind = by_names texts all rest present.1 in λ j. present.0 j ∷ behind j
+
+names_of : (modules : List CheckedModule)
+    → map (λ (current : Module). current.name) (map program_module modules) ≡ map (λ current. current.name) modules
+names_of modules = map-map (λ (current : Module). current.name) program_module modules
+
 pub one_entry : EntriesOfTextsAreUnique
 one_entry devices texts all module_name name started first second is other =
     let P : Module → Type 0 = λ current. current ≡ present_module texts all current.name in
-    let modules = same_modules texts all [] first.modules second.modules is.order other.order is.present other.present
-    (ordered_distinct texts all first.modules (all_turned P first.modules is.present) is.order)
-    (ordered_distinct texts all second.modules (all_turned P second.modules other.present) other.order)
+    let left = map program_module first.modules in
+    let right = map program_module second.modules in
+    let is_present = plain_modules texts all first.modules is.present in
+    let other_present = plain_modules texts all second.modules other.present in
+    let plain = same_modules texts all [] left right is.order other.order is_present other_present
+    (ordered_distinct texts all left (all_turned P left is_present) is.order)
+    (ordered_distinct texts all right (all_turned P right other_present) other.order)
     (λ n listed. (other.reached n).1 ((is.reached n).0 listed))
     (λ n listed. (is.reached n).1 ((other.reached n).0 listed)) in
+    let names = sym (names_of first.modules) ∙ ap (map (λ (current : Module). current.name)) plain
+    ∙ names_of second.modules in
+    let modules = by_names texts all first.modules is.present ∙ ap (map (checked.present_module texts all)) names
+    ∙ sym (by_names texts all second.modules other.present) in
     let devices_same = is.shapes ∙ sym other.shapes in
     let modules_same = is.of_module ∙ sym other.of_module in
     let names_same = is.of_definition ∙ sym other.of_definition in

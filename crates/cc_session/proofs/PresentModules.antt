@@ -5,7 +5,6 @@ use Rattle.std.specs.Prelude.{zero, suc}
 use Rattle.std.proofs.lemmas.Bool.{cases_Bool}
 use Rattle.std.proofs.lemmas.List.{get_or_default, get_or-map, map-append, take_more}
 use Rattle.std.proofs.lemmas.List.Elements.{filter-append}
-use Rattle.std.proofs.lemmas.Simd.{map-map}
 use Rattle.std.specs.List.{AllByRecursion, filter, slice_get}
 use Rattle.std.specs.Map.{keys_of}
 use Rattle.std.specs.Option.{unwrap_or, is_some, option_map}
@@ -14,7 +13,7 @@ use Rattle.std.specs.declared.alloc.Global.{Global}
 use Rattle.cc_base.specs.declared.literal.Import.{Import}
 use Rattle.cc_entry.specs.declared.modules.EntryModule.{EntryModule}
 use Rattle.cc_entry.specs.Modules.{module_of}
-use Rattle.cc_entry.specs.PresentEntries.{import_of, definitions_of, present_module}
+use Rattle.cc_entry.specs.PresentEntries.{definitions_of, present_module}
 use Rattle.cc_grammar.specs.Syntax.{ImportSyntax}
 use Rattle.cc_graph.specs.Graph.{ImportMap, is_present, IsOrder}
 use Rattle.cc_graph.proofs.OrderLaws.{orders_list_present_modules}
@@ -24,7 +23,6 @@ use Rattle.cc_judge.specs.Dependencies.{AreRead}
 use Rattle.cc_judge.specs.Places.{entry_at}
 use Rattle.cc_judge.proofs.Graphs.{reading_of_place}
 use Rattle.cc_judge.proofs.TextPlaces.{text_of_place, place_of_key}
-use Rattle.cc_meta_modules.specs.ModuleLaws.{in_program}
 use Rattle.cc_meta_modules.specs.ModuleVerdicts.{ModuleVerdict}
 use Rattle.cc_meta_modules.specs.PresentTexts.{Texts, ArePresent, text_of, with_module, graph_of}
 use Rattle.cc_meta_modules.specs.Readings.{imports_of}
@@ -42,7 +40,7 @@ pub made_module : (texts : Texts) → ArePresent texts → (readings : List (Opt
     → (verdict : List ℕ × DeclaredVerdict) → verdict ≡ get_or verdicts at verdict
     → (one : EntryModule) → one.name ≡ name
     → map import_syntax one.imports.items ≡ unwrap_or (option_map imports_syntax reading) []
-    → map (λ d. in_program (checked_definition_of d)) one.defs.items ≡ definitions_of (module_verdict_of verdict.1)
+    → map checked_definition_of one.defs.items ≡ definitions_of (module_verdict_of verdict.1)
     → module_of one ≡ present_module texts all name
 made_module texts sorted readings read verdicts all have at name stands reading is_reading verdict is_verdict one named
     imports definitions =
@@ -59,11 +57,9 @@ made_module texts sorted readings read verdicts all have at name stands reading 
     ∙ ap (λ vs. get_or vs at (all name)) have
     ∙ get_or-map (λ (e : List ℕ × List ℕ). all e.0) texts at ([], []) (all name) within
     ∙ ap all same in
-    let imports_is : map (λ i. import_of (import_syntax i)) one.imports.items
-    ≡ map import_of (unwrap_or (imports_of (unwrap_or (text_of texts name) [])) []) =
-    sym (map-map import_of import_syntax one.imports.items) ∙ ap (map import_of) imports
-    ∙ ap (λ o. map import_of (unwrap_or o [])) reads
-    ∙ sym (ap (λ o. map import_of (unwrap_or (imports_of (unwrap_or o [])) [])) is_text) in
+    let imports_is : map import_syntax one.imports.items
+    ≡ unwrap_or (imports_of (unwrap_or (text_of texts name) [])) [] =
+    imports ∙ ap (λ o. unwrap_or o []) reads ∙ sym (ap (λ o. unwrap_or (imports_of (unwrap_or o [])) []) is_text) in
     let definitions_is = definitions ∙ ap definitions_of verdict_is in
     (λ j. record { name = named j; imports = imports_is j; definitions = definitions_is j })
 

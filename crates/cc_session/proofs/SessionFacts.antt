@@ -16,8 +16,8 @@ use Rattle.cc_base.specs.declared.device.DeviceDecl.{DeviceDecl}
 use Rattle.cc_graph.proofs.NameLemmas.{is_same_name}
 use Rattle.cc_judge.specs.declared.grounds.Grounds.{Grounds}
 use Rattle.cc_judge.specs.declared.last.Last.{Last}
-use Rattle.cc_judge.specs.Judgements.{AreCurrent}
-use Rattle.cc_judge.specs.Kept.{judgements_from, judgements_of, IsKept}
+use Rattle.cc_judge.specs.Judgements.{AreJudged, verdicts_of}
+use Rattle.cc_judge.specs.Kept.{named_verdict, named_verdicts, judgements_from, judgements_of, IsKept}
 use Rattle.cc_judge.specs.Places.{IsAbsentKey}
 use Rattle.cc_meta_modules.specs.ModuleLaws.{NamesOfDevicesDiffer}
 use Rattle.cc_base.specs.declared.code.Code.{Code}
@@ -33,59 +33,57 @@ use Rattle.cc_module.specs.Judgements.{module_verdict_of}
 use Rattle.cc_session.specs.Sessions.{SessionState, IsSession}
 use Rattle.cc_session.specs.Signatures.{verdict_named, definitions_of, definitions_or, signature_of}
 
-abbrev pub state : List DeviceDecl → Texts → Bool → List (List ℕ × ModuleVerdict) → List Grounds → SessionState
-state devices present checked verdicts grounds =
-    record { devices = devices; present = present; checked = checked; verdicts = verdicts; grounds = grounds }
+-- the session that keeps these judgements
+abbrev pub state : List DeviceDecl → Texts → Bool → Last → SessionState
+state devices present checked last =
+    record { devices = devices; present = present; checked = checked; last = judgements_of last }
 
-pub new_session : (devices : List DeviceDecl) (present : Texts) (verdicts : List (List ℕ × ModuleVerdict))
-    (grounds : List Grounds) → NamesOfDevicesDiffer devices → present ≡ [] → verdicts ≡ [] → grounds ≡ []
-    → IsSession (state devices present false verdicts grounds)
+nothing_kept : (devices : List DeviceDecl) (last : Last) → last.verdicts.items ≡ [] → last.grounds.items ≡ []
+    → IsKept devices last
 unfolding IsStrictlySortedBy
-new_session devices present verdicts grounds differ none no_verdicts no_grounds =
-    let P : Texts → Type 0 = λ ts. IsSession (state devices ts false verdicts grounds) in
-    let V : List (List ℕ × ModuleVerdict) → Type 0 = λ vs. IsSession (state devices [] false vs grounds) in
-    let G : List Grounds → Type 0 = λ gs. IsSession (state devices [] false [] gs) in
+nothing_kept devices last no_verdicts no_grounds =
+    let N : List (List ℕ × ModuleVerdict) → Type 0 = λ vs. IsStrictlySortedBy compare_names (keys_of vs) in
+    let J : List (List ℕ × ModuleVerdict) → Type 0 = λ vs. AreJudged devices (judgements_from vs last.grounds.items) in
+    record {
+      names = subst N (sym no_verdicts) tt;
+      one_each = ap length no_grounds ∙ sym (ap length no_verdicts);
+      judged = subst J (sym no_verdicts) tt;
+    }
+
+pub new_session : (devices : List DeviceDecl) (present : Texts) (last : Last) → NamesOfDevicesDiffer devices
+    → present ≡ [] → last.verdicts.items ≡ [] → last.grounds.items ≡ [] → IsSession (state devices present false last) last
+unfolding IsStrictlySortedBy
+new_session devices present last differ none no_verdicts no_grounds =
+    let P : Texts → Type 0 = λ ts. IsSession (state devices ts false last) last in
     subst P (sym none)
-    (subst V (sym no_verdicts)
-    (subst G (sym no_grounds)
     (record {
       differ = differ;
       present = tt;
       few = omega arith;
-      names = tt;
-      one_each = refl;
-      judged = tt;
+      kept = nothing_kept devices last no_verdicts no_grounds;
       current = λ checked. absurd (false≢true checked);
-    })))
+    })
 
 -- with other texts, a session is not checked
-pub with_texts : (old : SessionState) (texts : Texts) → IsSession old → ArePresent texts → length texts ≤ 256
-    → IsSession (state old.devices texts false old.verdicts old.grounds)
-with_texts old texts is sorted few =
+pub with_texts : (devices : List DeviceDecl) (present : Texts) (checked : Bool) (last : Last) (texts : Texts)
+    → IsSession (state devices present checked last) last → ArePresent texts → length texts ≤ 256
+    → IsSession (state devices texts false last) last
+with_texts devices present checked last texts is sorted few =
     record {
       differ = is.differ;
       present = sorted;
       few = few;
-      names = is.names;
-      one_each = is.one_each;
-      judged = is.judged;
+      kept = is.kept;
       current = λ checked. absurd (false≢true checked);
     }
 
--- after a check
-pub with_judgements : (old : SessionState) (last : Last) → IsSession old → IsKept old.devices last
-    → AreCurrent old.devices old.present (judgements_of last)
-    → IsSession (state old.devices old.present true last.verdicts.items last.grounds.items)
-with_judgements old last is kept current =
-    record {
-      differ = is.differ;
-      present = is.present;
-      few = is.few;
-      names = kept.names;
-      one_each = kept.one_each;
-      judged = kept.judged;
-      current = λ checked. current;
-    }
+-- the verdicts that are kept are those of the judgements
+pub verdicts_shown : (verdicts : List (List ℕ × ModuleVerdict)) (grounds : List Grounds)
+    → length grounds ≡ length verdicts → named_verdicts verdicts ≡ verdicts_of (judgements_from verdicts grounds)
+verdicts_shown [] grounds same = refl
+verdicts_shown (first ∷ rest) [] same = absurd (omega arith)
+verdicts_shown (first ∷ rest) (one ∷ others) same =
+    ap (λ vs. named_verdict first ∷ vs) (verdicts_shown rest others (omega arith))
 
 apart_at : (keys : List (List ℕ)) (first name : List ℕ) (at : ℕ) → AllByRecursion (λ y. bytes_eq first y ≡ false) keys
     → slice_get keys at ≡ Some name → bytes_eq first name ≡ false

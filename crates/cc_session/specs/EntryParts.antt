@@ -1,10 +1,9 @@
 -- The parts of an entry as the code makes them. It serves the code alone.
 use Rattle.std.specs.Prelude.{◌≡◌, ℕ, List, ◌++◌, filter, map, Some, Ok}
 use Rattle.cc_base.specs.declared.device.DeviceDecl.{DeviceDecl}
-use Rattle.cc_core.specs.Programs.{Entry}
 use Rattle.cc_entry.specs.declared.modules.EntryModule.{EntryModule}
 use Rattle.cc_entry.specs.Modules.{module_of}
-use Rattle.cc_entry.specs.PresentEntries.{started_or, started_in, present_module, IsEntryOf}
+use Rattle.cc_entry.specs.PresentEntries.{CheckedEntry, started_or, started_in, present_module, IsEntryOf}
 use Rattle.cc_graph.specs.Graph.{IsOrder}
 use Rattle.cc_meta_modules.specs.ModuleVerdicts.{CheckedDefinition, ModuleVerdict}
 use Rattle.cc_meta_modules.specs.PresentTexts.{Texts, graph_of, AreVerdicts}
@@ -52,7 +51,7 @@ IsDefinitionOf devices texts module_name name found =
     → started_in texts all module_name name ≡ started_or (Some found)
 
 -- this is its entry
-abbrev pub IsCurrentEntry : List DeviceDecl → Texts → List ℕ → List ℕ → CheckedDefinition → Entry → Type 0
+abbrev pub IsCurrentEntry : List DeviceDecl → Texts → List ℕ → List ℕ → CheckedDefinition → CheckedEntry → Type 0
 IsCurrentEntry devices texts module_name name started entry =
     (all : List ℕ → ModuleVerdict) → AreVerdicts devices texts all
     → IsEntryOf devices texts all module_name name started entry

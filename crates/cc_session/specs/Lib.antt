@@ -1,3 +1,4 @@
+pub mod Codes
 pub mod Sessions
 pub mod Signatures
 pub mod LinkOrders

@@ -7,7 +7,7 @@ ghost use Rattle.cc_entry.specs.Entries.{entry_of};
 ghost use Rattle.cc_entry.specs.Modules.{module_of};
 ghost use Rattle.cc_entry.specs.PresentEntries as plain;
 ghost use Rattle.cc_judge.specs.Dependencies.{AreRead};
-ghost use Rattle.cc_meta_modules.specs.ModuleLaws.{NamesOfDevicesDiffer, in_program};
+ghost use Rattle.cc_meta_modules.specs.ModuleLaws.{NamesOfDevicesDiffer};
 ghost use Rattle.cc_meta_modules.specs.PresentTexts.{ArePresent, text_of};
 ghost use Rattle.cc_module.specs.Judgements.{checked_definition_of, module_verdict_of};
 ghost use Rattle.cc_parse.specs.Trees.{import_syntax, imports_syntax};
@@ -52,7 +52,7 @@ fn imports_in(alloc: Global, reading: &Option<Vec<Import>>) -> Result<Vec<Import
 
 // The definitions of a module with this verdict.
 fn definitions_in(alloc: Global, verdict: &ModuleVerdict) -> Result<Vec<CheckedDef>, AllocError>
-    ensures { IfOk result (λ defs. map (λ one. in_program (checked_definition_of one)) defs.items ≡ plain.definitions_of (module_verdict_of verdict.now)) }
+    ensures { IfOk result (λ defs. map checked_definition_of defs.items ≡ plain.definitions_of (module_verdict_of verdict.now)) }
 {
     match verdict.defs() {
         Ok(defs) => copy_defs(alloc, defs),

@@ -5,13 +5,14 @@ ghost use Rattle.std.specs.BTreeMap.{insert_entry};
 ghost use Rattle.std.specs.Map.{remove_entry};
 ghost use Rattle.std.specs.Str.{bytes_eq};
 ghost use Rattle.cc_graph.specs.Graph.{compare_names};
-ghost use Rattle.cc_judge.specs.Judgements.{stale_count};
+ghost use Rattle.cc_judge.specs.Judgements.{stale_count, verdicts_of};
+ghost use Rattle.cc_judge.specs.Kept.{named_verdicts};
 ghost use Rattle.cc_meta_modules.specs.ModuleLaws.{NamesOfDevicesDiffer};
 ghost use Rattle.cc_meta_modules.specs.ModuleVerdicts as judged;
 ghost use Rattle.cc_meta_modules.specs.PresentTexts.{text_of, AreVerdicts};
 ghost use Rattle.cc_module.specs.Judgements.{checked_definition_of};
 ghost use Rattle.cc_session.specs.EntryAnswers.{AnswersEntry};
-ghost use Rattle.cc_session.specs.Sessions.{last_of, IsUpToDate, HasTexts, others_present};
+ghost use Rattle.cc_session.specs.Sessions.{IsUpToDate, HasTexts, others_present};
 ghost use Rattle.cc_session.specs.Signatures.{signature_of, definition_in};
 
 use crate::entry::{EntryError, start_entry};
@@ -33,8 +34,8 @@ use std::marker::Model;
 use std::sync::ledger::Ledger;
 
 /// Modules are put and removed, checked together, and asked for what they are. Contracts see the devices, the present
-/// names with their texts in order of name, whether the session is checked, and the names, texts, findings and verdicts
-/// of the last check that answered Ok.
+/// names with their texts in order of name, whether the session is checked, and the judgements of the last check that
+/// answered Ok: the names, texts, findings and verdicts, in order of name.
 #[derive(Drop)]
 pub struct Session {
     alloc: Global,
@@ -46,18 +47,25 @@ pub struct Session {
 
 impl Model for Session {
     ghost use Rattle.std.specs.Coded.{codes};
+    ghost use Rattle.cc_base.specs.contracts.code.Code as code;
     ghost use Rattle.cc_base.specs.contracts.device.DeviceDecl as device;
-    ghost use Rattle.cc_judge.specs.contracts.grounds.Grounds as grounds;
-    ghost use Rattle.cc_module.specs.contracts.judgement.ModuleVerdict as verdict;
+    ghost use Rattle.cc_base.specs.contracts.literal.Base as base;
+    ghost use Rattle.cc_base.specs.contracts.literal.Op as operation;
+    ghost use Rattle.cc_base.specs.contracts.literal.Operator as operator;
+    ghost use Rattle.cc_base.specs.contracts.place.Place as place;
+    ghost use Rattle.cc_capture.specs.contracts.set.CapSet as set;
+    ghost use Rattle.cc_capture.specs.contracts.var.Var as variable;
+    ghost use Rattle.cc_judge.specs.Kept.{judgements_of};
+    ghost use Rattle.cc_session.specs.Codes.{judgement_code};
     ghost use Rattle.cc_session.specs.Sessions.{SessionState, IsSession};
 
     ghost Value = { SessionState };
 
-    ghost coded = { Prim.hlevel (codes, device.the_row.coded, grounds.the_row.coded, verdict.the_row.coded) };
+    ghost coded = { Prim.hlevel (codes, device.the_row.coded, judgement_code (record { base = base.the_row.coded; operator = operator.the_row.coded; operation = operation.the_row.coded; variable = variable.the_row.coded; set = set.the_row.coded; code = code.the_row.coded; place = place.the_row.coded })) };
 
-    ghost view = { λ s. record { devices = s.devices.items; present = s.present.items; checked = s.checked; verdicts = s.last.verdicts.items; grounds = s.last.grounds.items } };
+    ghost view = { λ s. record { devices = s.devices.items; present = s.present.items; checked = s.checked; last = judgements_of s.last } };
 
-    ghost invariant = { λ s. IsSession (record { devices = s.devices.items; present = s.present.items; checked = s.checked; verdicts = s.last.verdicts.items; grounds = s.last.grounds.items }) };
+    ghost invariant = { λ s. IsSession (record { devices = s.devices.items; present = s.present.items; checked = s.checked; last = judgements_of s.last }) s.last };
 }
 
 impl Session {
@@ -67,7 +75,7 @@ impl Session {
         ensures devices { result.devices ≡ devices.items }
         ensures present { result.present ≡ [] }
         ensures checked { result.checked ≡ false }
-        ensures last { last_of result ≡ [] }
+        ensures last { result.last ≡ [] }
     {
         Session {
             alloc,
@@ -135,9 +143,9 @@ impl Session {
     pub fn check<L: Ledger>(&mut self, steps: &mut Steps<L>) -> Result<(), AllocError>
         ensures texts { (self.new.devices ≡ self.old.devices) × (self.new.present ≡ self.old.present) }
         ensures ok { OnOk result (IsTrue self.new.checked × IsUpToDate self.new) }
-        ensures err { OnErr result (IsTrue (not self.new.checked) × (last_of self.new ≡ last_of self.old)) }
+        ensures err { OnErr result (IsTrue (not self.new.checked) × (self.new.last ≡ self.old.last)) }
         ensures again { IsTrue self.old.checked → IsOk result × (self.new ≡ self.old) × (steps.new ≡ steps.old) }
-        ensures ticks { (verdicts : List ℕ → judged.ModuleVerdict) → AreVerdicts self.old.devices self.old.present verdicts → steps.new ≤ steps.old + stale_count (last_of self.old) self.old.present verdicts }
+        ensures ticks { (verdicts : List ℕ → judged.ModuleVerdict) → AreVerdicts self.old.devices self.old.present verdicts → steps.new ≤ steps.old + stale_count self.old.last self.old.present verdicts }
     {
         if self.checked {
             return Ok(());
@@ -156,9 +164,8 @@ impl Session {
     /// The present modules with their verdicts, in order of name. It takes no memory.
     pub fn verdicts(&self) -> &[(Name, ModuleVerdict)]
         requires { IsTrue self.now.checked }
-        ensures verdicts { result.now ≡ self.now.verdicts }
-        ensures one_each { length self.now.grounds ≡ length self.now.verdicts }
         ensures current { IsUpToDate self.now }
+        ensures answer { named_verdicts result.now ≡ verdicts_of self.now.last }
     {
         self.last.verdicts.as_slice()
     }
@@ -169,7 +176,7 @@ impl Session {
     pub fn sig(&self, name: &Name) -> Result<&[CheckedDef], Refused>
         requires { IsTrue self.now.checked }
         ensures current { IsUpToDate self.now }
-        ensures answer { MatchResult result (λ defs. signature_of (last_of self.now) name.now ≡ Ok (map checked_definition_of defs.now)) (λ refused. signature_of (last_of self.now) name.now ≡ Err refused.code) }
+        ensures answer { MatchResult result (λ defs. signature_of self.now.last name.now ≡ Ok (map checked_definition_of defs.now)) (λ refused. signature_of self.now.last name.now ≡ Err refused.code) }
     {
         match place_of_verdict(self.last.verdicts.as_slice(), name) {
             Some(at) => match self.last.verdicts[at].1.defs() {
@@ -186,7 +193,7 @@ impl Session {
     pub fn definition(&self, module: &Name, def: &Name) -> Result<&CheckedDef, Refused>
         requires { IsTrue self.now.checked }
         ensures current { IsUpToDate self.now }
-        ensures answer { MatchResult result (λ found. definition_in (last_of self.now) «module».now def.now ≡ Ok (checked_definition_of found.now)) (λ refused. definition_in (last_of self.now) «module».now def.now ≡ Err refused.code) }
+        ensures answer { MatchResult result (λ found. definition_in self.now.last «module».now def.now ≡ Ok (checked_definition_of found.now)) (λ refused. definition_in self.now.last «module».now def.now ≡ Err refused.code) }
     {
         match self.sig(module) {
             Ok(defs) => match definition_named(defs, def) {

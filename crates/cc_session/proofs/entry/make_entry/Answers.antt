@@ -1,6 +1,6 @@
 use Rattle.std.proofs.Common.{◌∙◌, sym, ap, subst}
-use Rattle.cc_core.specs.Programs.{Entry}
 use Rattle.cc_core.specs.Stores.{authority}
+use Rattle.cc_entry.specs.PresentEntries.{CheckedEntry}
 use Rattle.cc_module.specs.Judgements.{checked_definition_of}
 use Rattle.cc_session.specs.EntryParts.{IsCurrentEntry}
 use Rattle.cc_session.proofs.EntriesByParts.{parts_are_current, parts_are_entry}
@@ -18,7 +18,7 @@ new-requires c =
 
 pub returns : goal.returns
 returns c =
-    let P : Entry → Type 0 = λ e. IsCurrentEntry c.args.devices.now c.args.texts.now c.args.module.now c.args.def.now
+    let P : CheckedEntry → Type 0 = λ e. IsCurrentEntry c.args.devices.now c.args.texts.now c.args.module.now c.args.def.now
     (checked_definition_of c.args.started.now) e in
     subst P (sym c.new.ensures)
     (parts_are_current c.args.devices.now c.args.texts.now c.args.verdicts.now c.requires.differ c.requires.present

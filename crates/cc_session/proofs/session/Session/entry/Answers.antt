@@ -1,4 +1,4 @@
-use Rattle.std.proofs.Common.{◌≡◌, List, ℕ, Ok, Err, sym, subst}
+use Rattle.std.proofs.Common.{◌≡◌, List, ℕ, Ok, Err, refl, sym, subst}
 use Rattle.cc_base.specs.declared.device.DeviceDecl.{DeviceDecl}
 use Rattle.cc_meta_modules.specs.ModuleVerdicts as judged
 use Rattle.cc_meta_modules.specs.PresentTexts.{Texts, AreVerdicts}
@@ -7,7 +7,7 @@ use Rattle.cc_module.specs.Judgements.{checked_definition_of}
 use Rattle.cc_entry.specs.PresentEntries.{started_in}
 use Rattle.cc_session.specs.EntryAnswers.{AnswersEntry}
 use Rattle.cc_session.specs.EntryParts.{HaveCurrentVerdicts, IsDefinitionOf}
-use Rattle.cc_session.specs.Sessions.{SessionState, last_of, IsUpToDate}
+use Rattle.cc_session.specs.Sessions.{SessionState, IsUpToDate}
 use Rattle.cc_session.specs.Signatures.{definition_in}
 use Rattle.cc_session.proofs.CurrentVerdicts.{current_verdicts, found_definition, refused_definition}
 use Rattle.cc_session.proofs.SessionFacts.{state}
@@ -16,7 +16,7 @@ use Rattle.cc_session.proofs.session.Session.entry.Goals as goal
 pub start_entry-requires-clause-current : goal.start_entry-requires-clause-current
 start_entry-requires-clause-current c =
     let old = c.self.inside in
-    let session = state old.devices.items old.present.items old.checked old.last.verdicts.items old.last.grounds.items in
+    let session = state old.devices.items old.present.items old.checked old.last in
     let U : SessionState → Type 0 = λ s. IsUpToDate s in
     let up = subst U (sym c.self.view_is) c.definition.ensures.current in
     let D : List DeviceDecl → Type 0 = λ ds. HaveCurrentVerdicts ds old.present.items old.last.verdicts.items in
@@ -25,22 +25,22 @@ start_entry-requires-clause-current c =
     c.as_slice-in-Ok.result.now vs in
     subst V (sym c.as_slice-in-Ok-2.ensures.value)
     (subst T (sym c.as_slice-in-Ok.ensures.value)
-    (subst D (sym c.as_slice.ensures.value) (current_verdicts session c.self.invariant up)))
+    (subst D (sym c.as_slice.ensures.value) (current_verdicts session old.last c.self.invariant refl up)))
 
 pub start_entry-requires-clause-found : goal.start_entry-requires-clause-found
 start_entry-requires-clause-found c =
     let old = c.self.inside in
-    let session = state old.devices.items old.present.items old.checked old.last.verdicts.items old.last.grounds.items in
+    let session = state old.devices.items old.present.items old.checked old.last in
     let found = checked_definition_of c.in-Ok.found.now in
     let U : SessionState → Type 0 = λ s. IsUpToDate s in
-    let F : SessionState → Type 0 = λ s. definition_in (last_of s) c.args.module.now c.args.def.now ≡ Ok found in
+    let F : SessionState → Type 0 = λ s. definition_in s.last c.args.module.now c.args.def.now ≡ Ok found in
     let up = subst U (sym c.self.view_is) c.definition.ensures.current in
     let finds = subst F (sym c.self.view_is) c.in-Ok.ensures.answer in
     let D : List DeviceDecl → Type 0 = λ ds. IsDefinitionOf ds old.present.items c.args.module.now c.args.def.now found in
     let T : Texts → Type 0 = λ ts. IsDefinitionOf c.as_slice.result.now ts c.args.module.now c.args.def.now found in
     subst T (sym c.as_slice-in-Ok.ensures.value)
     (subst D (sym c.as_slice.ensures.value)
-    (found_definition session c.self.invariant up c.args.module.now c.args.def.now found finds))
+    (found_definition session old.last c.self.invariant up c.args.module.now c.args.def.now found finds))
 
 pub returns-in-Ok : goal.returns-in-Ok
 returns-in-Ok c =
@@ -56,13 +56,13 @@ returns-in-Ok c =
 pub returns-in-Err : goal.returns-in-Err
 returns-in-Err c =
     let old = c.self.inside in
-    let session = state old.devices.items old.present.items old.checked old.last.verdicts.items old.last.grounds.items in
+    let session = state old.devices.items old.present.items old.checked old.last in
     let U : SessionState → Type 0 = λ s. IsUpToDate s in
-    let F : SessionState → Type 0 = λ s. definition_in (last_of s) c.args.module.now c.args.def.now
+    let F : SessionState → Type 0 = λ s. definition_in s.last c.args.module.now c.args.def.now
     ≡ Err c.in-Err.refused.code in
     let P : SessionState → Type 0 = λ s. (all : List ℕ → judged.ModuleVerdict) → AreVerdicts s.devices s.present all
     → started_in s.present all c.args.module.now c.args.def.now ≡ Err c.in-Err.refused.code in
     let up = subst U (sym c.self.view_is) c.definition.ensures.current in
     let refused = subst F (sym c.self.view_is) c.in-Err.ensures.answer in
     subst P c.self.view_is
-    (refused_definition session c.self.invariant up c.args.module.now c.args.def.now c.in-Err.refused.code refused)
+    (refused_definition session old.last c.self.invariant up c.args.module.now c.args.def.now c.in-Err.refused.code refused)
