@@ -22,7 +22,7 @@ pub struct Machine<'a> {
 }
 
 impl<'a> Machine<'a> {
-    ghost use Rattle.std.specs.Prelude.{◌≡◌, ◌≢◌, ◌<◌, ◌≤◌, ◌+◌, ◌↔◌, max, Some, IfOk, IsOk, IsTrue, OnErr, OnOk, length, option_map};
+    ghost use Rattle.std.specs.Prelude.{◌≡◌, ◌≢◌, ◌<◌, ◌≤◌, ◌+◌, ◌↔◌, max, Some, IfOk, IsOk, IsTrue, OnErr, OnOk, option_map};
     ghost use Rattle.cc_device.specs.Views.{event_of, shown_of};
     ghost use Rattle.cc_machine.specs.Machines.{count_cells, held_by, spare_of};
     ghost use Rattle.cc_machine.specs.Standing.{KeepsShapes, StepsAlike, with_devices};
@@ -36,7 +36,6 @@ impl<'a> Machine<'a> {
 
     /// The machine at the start of the program. Fails only for want of memory.
     pub fn load(alloc: Global, program: &'a Program) -> Result<Machine<'a>, AllocError>
-        requires { length (start_of program.now).store < 4294967296 }
         ensures start { IfOk result (λ machine. held_by machine ≡ erased_configuration (start_of program.now)) }
         ensures spare { IfOk result (λ machine. spare_of machine ≡ 0) }
     {

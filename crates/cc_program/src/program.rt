@@ -1,5 +1,6 @@
 //! Programs.
-ghost use Rattle.cc_program.specs.Starts.{IsTyped};
+ghost use Rattle.std.specs.Prelude.{◌<◌, length};
+ghost use Rattle.cc_program.specs.Starts.{IsTyped, program_store};
 
 use crate::values::TypedValue;
 use cc_base::literal::Base;
@@ -9,17 +10,18 @@ use std::rc::Rc;
 /// A program: the shapes of its devices, its values with their declared types, and the term that is run. In its store
 /// the devices stand first, then the values, and then a cell with unit; free variables are positions of it. Each value
 /// has its type in the context of the cells before it, a recursive one with its own position besides, and the term has
-/// a type in the context of all cells.
+/// a type in the context of all cells. There are less than 2^32 cells.
 #[derive(Drop)]
 pub struct Program {
     devices: Vec<Base>,
     cells: Vec<TypedValue>,
     term: Rc<Node>,
     pub ghost typed: { ∥ IsTyped devices.items cells.items term.value ∥₁ },
+    pub ghost positions: { length (program_store devices.items cells.items) < 4294967296 },
 }
 
 impl Program {
-    ghost use Rattle.std.specs.Prelude.{◌≡◌, ◌+◌, ◌<◌, ◌↔◌, IsTrue, length};
+    ghost use Rattle.std.specs.Prelude.{◌≡◌, ◌+◌, ◌↔◌, IsTrue};
     ghost use Rattle.cc_device.specs.Devices.{Devices};
     ghost use Rattle.cc_meta_runs.specs.LinkLaws.{HaveShapes};
     ghost use Rattle.cc_meta_runs.specs.SoundRuns.{HasShapesOfCells};
@@ -28,7 +30,8 @@ impl Program {
 
     /// The program of these parts.
     pub fn new(devices: Vec<Base>, cells: Vec<TypedValue>, term: Rc<Node>) -> Program
-        requires { ∥ IsTyped devices.items cells.items term.value ∥₁ }
+        requires typed { ∥ IsTyped devices.items cells.items term.value ∥₁ }
+        requires positions { length (program_store devices.items cells.items) < 4294967296 }
         ensures devices { shapes_of result ≡ devices.items }
         ensures cells { values_of result ≡ cells.items }
         ensures term { term_in result ≡ term.value }

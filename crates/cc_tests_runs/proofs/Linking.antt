@@ -55,7 +55,8 @@ use Rattle.cc_meta_runs.proofs.StoreTyping.{store_typed_from, store_formed}
 use Rattle.cc_module.specs.declared.judgement.CheckedDef.{CheckedDef}
 use Rattle.cc_module.specs.Judgements.{checked_definition_of}
 use Rattle.cc_program.specs.declared.values.TypedValue.{TypedValue}
-use Rattle.cc_program.specs.Starts.{value_cell, value_entry, value_store, value_context, IsTyped}
+use Rattle.cc_program.specs.Starts.{value_cell, value_entry, value_store, value_context, program_store, IsTyped}
+use Rattle.cc_program.proofs.Starting.{program_counted}
 use Rattle.cc_tests_runs.specs.Linked.{is_unit, takes_unit, AreCellsOf, AreTypedOver}
 
 -- three names of which no two are one
@@ -271,6 +272,17 @@ linked_program decls defs values i last term sound are counted at takes is =
       type = capturing (act (putting (Free (length inner))) 0 shape.1) (act_set (putting (Free (length inner))) 0 shape.2);
       typed = subst (λ c. H c (term_of term)) (context_is devices defs values are) (subst (λ t. H inner t) term_is has);
     }
+
+-- how many cells there are
+pub few_cells : (decls : List DeviceDecl) (defs : List CheckedDef) (values : List TypedValue) (unit : ℕ) → AreCellsOf defs values
+    → unit ≡ length decls + length defs → unit < 4294967295 → length (program_store (declared_bases decls) values) < 4294967296
+few_cells decls defs values unit are is few =
+    let counted = program_counted (declared_bases decls) values in
+    let devices = length_map (λ d. declared_base d.kind) decls in
+    let cells = length_map value_cell values in
+    let definitions = length_map (λ one. ValueCell (term_of one.checked.filled.value)) defs in
+    let same = ap length are.cells in
+    omega (arith, counted, devices, cells, definitions, same, is, few)
 
 -- What a call ensures of its value holds of the value that is taken of it.
 pub of_value : {T E : Type 0} (P : T → Type 0) (r : Result T E) (o : Option T) (x : T) → IfOk r P → o ≡ result_ok r → o ≡ Some x → P x

@@ -1,5 +1,6 @@
 // Programs from texts: the definitions of an accepted module, of which the last one is applied to unit.
-ghost use Rattle.std.specs.Prelude.{◌≡◌, ◌<◌, false, [], IfSome};
+ghost use Rattle.std.specs.Prelude.{◌≡◌, ◌<◌, ◌≤◌, false, [], IfSome};
+ghost use Rattle.std.specs.Bool.{MatchBool};
 ghost use Rattle.std.specs.Str.{bytes_eq};
 ghost use Rattle.cc_capture.specs.declared.var.Var.TheVariants.{Free};
 ghost use Rattle.cc_core.specs.Terms.{Application};
@@ -163,6 +164,13 @@ fn application(alloc: Global, function: u32, argument: u32) -> Option<Rc<Node>>
     .ok()
 }
 
+// Whether there is a position behind this one.
+fn has_next(position: u32) -> bool
+    ensures { MatchBool result (position < 4294967295) (4294967295 ≤ position) }
+{
+    position < 4294967295
+}
+
 // The program of the definitions, of which the last is applied to unit.
 fn linked(alloc: Global, decls: &[DeviceDecl], defs: &[CheckedDef]) -> Option<Program>
     requires { AreTypedOver decls.now defs.now }
@@ -174,6 +182,9 @@ fn linked(alloc: Global, decls: &[DeviceDecl], defs: &[CheckedDef]) -> Option<Pr
     }
     let function = u32::try_from(decls.len().saturating_add(last)).ok()?;
     let unit = u32::try_from(decls.len().saturating_add(defs.len())).ok()?;
+    if !has_next(unit) {
+        return None;
+    }
     let shapes = shapes(alloc, decls)?;
     let values = values(alloc, defs)?;
     let term = application(alloc, function, unit)?;

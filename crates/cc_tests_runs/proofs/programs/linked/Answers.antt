@@ -1,16 +1,16 @@
-use Rattle.std.proofs.Common.{◌≡◌, ◌+◌, ◌∙◌, true, length, Some, arith, refl, subst, sym, ap}
+use Rattle.std.proofs.Common.{◌≡◌, ◌<◌, ◌+◌, ◌∙◌, true, length, Some, arith, refl, subst, sym, ap}
 use Rattle.std.specs.Prelude.{slice_get}
 use Rattle.std.proofs.lemmas.Option.{slice_get_read}
 use Rattle.cc_capture.specs.declared.var.Var.TheVariants.{Free}
 use Rattle.cc_core.specs.Terms.{Application}
 use Rattle.cc_core.specs.Views.{term_of, type_of}
-use Rattle.cc_program.specs.Starts.{IsTyped}
+use Rattle.cc_program.specs.Starts.{IsTyped, program_store}
 use Rattle.cc_tests_runs.specs.Linked.{takes_unit}
-use Rattle.cc_tests_runs.proofs.Linking.{linked_program, of_condition}
+use Rattle.cc_tests_runs.proofs.Linking.{few_cells, linked_program, of_condition}
 use Rattle.cc_tests_runs.proofs.programs.linked.Goals as goal
 
-pub new-requires : goal.new-requires
-new-requires c =
+pub new-requires-clause-typed : goal.new-requires-clause-typed
+new-requires-clause-typed c =
     let decls = c.args.decls.now in
     let defs = c.args.defs.now in
     let last = c.in_ok-last.last in
@@ -28,3 +28,12 @@ new-requires c =
     c.in_ok-term.ensures ∙ (λ j. Application (Free (function j)) (Free (unit j))) in
     subst (λ shapes. ∥ IsTyped shapes c.in_ok-values.values.items c.in_ok-term.term.value ∥₁) (sym c.in_ok-shapes.ensures)
     ∣ linked_program decls defs c.in_ok-values.values.items last item c.in_ok-term.term.value c.requires c.in_ok-values.ensures counted at takes term ∣₁
+
+pub new-requires-clause-positions : goal.new-requires-clause-positions
+new-requires-clause-positions c =
+    let decls = c.args.decls.now in
+    let defs = c.args.defs.now in
+    let second = of_condition c.try_from-2.result _ c.saturating_add-2.result c.in_ok-unit.unit c.try_from-2.ensures c.in_ok-unit.ensures.value in
+    let unit : c.in_ok-unit.unit ≡ length decls + length defs = omega (arith, second.0, second.1, c.saturating_add-2.ensures) in
+    subst (λ shapes. length (program_store shapes c.in_ok-values.values.items) < 4294967296) (sym c.in_ok-shapes.ensures)
+    (few_cells decls defs c.in_ok-values.values.items c.in_ok-unit.unit c.in_ok-values.ensures unit c.if-not-has_next.ensures)
