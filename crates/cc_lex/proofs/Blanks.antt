@@ -54,7 +54,7 @@ blank_of-found c cs = chosen-blank c cs (is_white c) (c == 47 && first_passes (�
 
 -- a blank at the front is found
 
-white-first : (c : ℕ) (cs : List ℕ) → is_white c ≡ true → blank_of c cs ≡ Some 0
+pub white-first : (c : ℕ) (cs : List ℕ) → is_white c ≡ true → blank_of c cs ≡ Some 0
 unfolding blank_of
 white-first c cs h = if_true (Some 0) (cond (c == 47 && first_passes (λ d. d == 47) cs) (Some (prefix_len in_line cs)) None) h
 

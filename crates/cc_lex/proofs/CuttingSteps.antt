@@ -1,17 +1,23 @@
 -- The loop over a text: the tokens so far, and what is found in the rest.
-use Rattle.std.proofs.Common.{◌≡◌, ℕ, zero, suc, ◌+◌, ◌-◌, ◌<◌, ◌≤◌, List, [], ◌∷◌, ◌++◌, take, drop, length, map, refl, sym, ap, ◌∙◌, arith, Option, Some, None, Result, Ok, Err, encode_utf8, append_assoc, append-nil, length-drop, take-append-drop}
+use Rattle.std.proofs.Common.{◌≡◌, ℕ, zero, suc, ◌+◌, ◌-◌, ◌<◌, ◌≤◌, Bool, true, false, cond, ◌||◌, ◌==◌, one-add, List, [], ◌∷◌, ◌++◌, take, drop, length, map, refl, sym, ap, ◌∙◌, arith, Option, Some, None, Result, Ok, Err, encode_utf8, append_assoc, append-nil, length-drop, take-append-drop}
 use Rattle.std.specs.Str.{chars, IsUtf8, IsCharBoundary}
+use Rattle.std.specs.List.{list_all, prefix_len}
+use Rattle.std.proofs.lemmas.List.Folds.{length-prefix_len}
+use Rattle.std.proofs.lemmas.Bool.Decides.{nat_tests}
 use Rattle.std.proofs.lemmas.Str.{chars_past_char, IsUtf8-past_char}
 use Rattle.cc_base.specs.declared.place.Place.{Place}
 use Rattle.cc_lex.specs.declared.error.LexError.{LexError}
 use Rattle.cc_lex.specs.declared.error.LexError.TheVariants.{Refused, NoMemory}
 use Rattle.cc_lex.specs.declared.size.Size.{Size}
-use Rattle.cc_lex.specs.Lexical.{place_after, place_past, start, byte_count, SpannedLexeme, ToTheEnd}
-use Rattle.cc_lex.specs.Cutting.{blank_of, token_of, spanned_front, Cutting, cut, stop, size_of, sized, joined, columns_past, Finds, FindsFront, Gives}
+use Rattle.cc_lex.specs.declared.size.Class.TheVariants as classes
+use Rattle.cc_lex.specs.Lexical.{is_white, place_after, place_past, start, byte_count, SpannedLexeme, ToTheEnd}
+use Rattle.cc_lex.specs.Cutting.{blank_of, token_of, spanned_front, Cutting, cut, stop, size_of, sized, joined, columns_past, stays_in_line, is_space, front_in, Finds, FindsFront, Gives}
 use Rattle.cc_lex.proofs.CuttingLaws.{cut-jump, found-none}
 use Rattle.cc_lex.proofs.TextFronts.{IsBehind, behind-front, chars-none, length-past}
 use Rattle.cc_lex.proofs.Sizes.{sized-blank, sized-no_blank}
-use Rattle.cc_lex.proofs.InLines.{token-in_line, blank-in_line, place-in_line, place-append}
+use Rattle.cc_lex.proofs.Prefixes.{prefix-passes}
+use Rattle.cc_lex.proofs.Blanks.{white-first}
+use Rattle.cc_lex.proofs.InLines.{all-weaker, token-in_line, blank-in_line, place-in_line, place-append}
 
 -- what begins with c
 
@@ -19,6 +25,44 @@ pub front-blank : (p : Place) (o c : ℕ) (cs : List ℕ) (ts : List SpannedLexe
 front-blank p o c cs ts blank more e h =
     let found = sized-blank c cs blank more e h in
     (found.1, blank-in_line c cs more.characters found.0, rw found.0 refl)
+
+-- white space, and what more of it is in the line
+
+space-white : (c : ℕ) → is_space c ≡ true → is_white c ≡ true
+space-white c h = white (c == 32) (c == 9) (c == 13) (c == 10) h
+  where
+    white : (a b d e : Bool) → (a || b || d) ≡ true → (a || b || d || e) ≡ true
+    white true b d e h = refl
+    white false true d e h = refl
+    white false false true e h = refl
+    white false false false e h = cc
+
+space-stays : (c : ℕ) → is_space c ≡ true → stays_in_line c ≡ true
+space-stays c h = grind (arith, nat_tests)
+
+skip-one : (p : Place) (o c : ℕ) (cs : List ℕ) (b : Bool) → is_space c ≡ b → cut (prefix_len is_space cs) (place_after p c) (o + length (encode_utf8 c)) cs ≡ cut 0 (place_after p c) (o + length (encode_utf8 c)) cs → cut (cond b (1 + prefix_len is_space cs) 0) p o (c ∷ cs) ≡ cut 0 p o (c ∷ cs)
+skip-one p o c cs true e h = rw (one-add, white-first c cs (space-white c e)) h
+skip-one p o c cs false e h = refl
+
+skip-spaces : (p : Place) (o : ℕ) (cs : List ℕ) → cut (prefix_len is_space cs) p o cs ≡ cut 0 p o cs
+skip-spaces p o [] = refl
+skip-spaces p o (c ∷ cs) = skip-one p o c cs (is_space c) refl (skip-spaces (place_after p c) (o + length (encode_utf8 c)) cs)
+
+pub front-white : (p : Place) (o c : ℕ) (cs : List ℕ) (ts : List SpannedLexeme) (white : Bool) (more : Size) → white ≡ is_white c → white ≡ true → more ≡ size_of (front_in classes.Spaces cs) → FindsFront p o c cs ts (Ok more) ts
+front-white p o c cs ts white more e h size =
+    let n = prefix_len is_space cs in
+    let count : more.characters ≡ n = ap (λ s. s.characters) size ∙ length-prefix_len is_space cs in
+    let next = o + length (encode_utf8 c) in
+    let blank = white-first c cs (sym e ∙ h) in
+    let in_line : list_all stays_in_line (take n cs) ≡ true = all-weaker is_space stays_in_line space-stays (take n cs) (prefix-passes is_space cs) in
+    let goes : cut 0 p o (c ∷ cs) ≡ cut n (place_after p c) next cs = white-goes p o c cs blank ∙ sym (skip-spaces (place_after p c) next cs) in (
+      size ∙ ap (λ m. size_of (take m cs)) (sym count),
+      ap (λ m. list_all stays_in_line (take m cs)) count ∙ in_line,
+      ap (joined ts) goes ∙ ap (λ m. joined ts (cut m (place_after p c) next cs)) (sym count),
+    )
+  where
+    white-goes : (p : Place) (o c : ℕ) (cs : List ℕ) → blank_of c cs ≡ Some 0 → cut 0 p o (c ∷ cs) ≡ cut 0 (place_after p c) (o + length (encode_utf8 c)) cs
+    white-goes p o c cs h = rw h refl
 
 pub front-token : (p : Place) (o c : ℕ) (cs : List ℕ) (ts us : List SpannedLexeme) (t : SpannedLexeme) (more : Size) → None ≡ sized cs (blank_of c cs) → token_of p o c cs ≡ Some (t, more.characters) → more ≡ size_of (take more.characters cs) → us ≡ ts ++ t ∷ [] → FindsFront p o c cs ts (Ok more) us
 front-token p o c cs ts us t more e found size new =

@@ -26,7 +26,7 @@ InLine cs = list_all stays_in_line cs ≡ true
 
 -- forms
 
-all-weaker : (p q : ℕ → Bool) → ((c : ℕ) → p c ≡ true → q c ≡ true) → (cs : List ℕ) → list_all p cs ≡ true → list_all q cs ≡ true
+pub all-weaker : (p q : ℕ → Bool) → ((c : ℕ) → p c ≡ true → q c ≡ true) → (cs : List ℕ) → list_all p cs ≡ true → list_all q cs ≡ true
 all-weaker p q each [] h = refl
 all-weaker p q each (c ∷ cs) h =
     let parts = both (p c) (list_all p cs) h in

@@ -1,5 +1,5 @@
 -- The tokens of a text, found from its front on, as the program goes. `Forms` and `Lexical` say what they are.
-use Rattle.std.specs.Prelude.{ℕ, zero, suc, ◌+◌, ◌-◌, ◌==◌, ◌&&◌, not, nat_le, ℤ, pos, List, [], ◌∷◌, length, take}
+use Rattle.std.specs.Prelude.{ℕ, zero, suc, ◌+◌, ◌-◌, ◌==◌, ◌&&◌, ◌||◌, not, nat_le, ℤ, pos, List, [], ◌∷◌, length, take}
 use Rattle.std.specs.Prelude.{drop, Option, Some, None, find, option_map, Result, Ok, Err, encode_utf8, ◌≡◌}
 use Rattle.std.specs.Prelude.{if◌then◌else◌, ◌++◌, Bool, false, IsTrue}
 use Rattle.std.specs.Str.{bytes_eq, chars}
@@ -197,12 +197,17 @@ sized_front cs = option_map (λ front. (front.0, size_of (take front.1 cs)))
 abbrev pub stays_in_line : ℕ → Bool
 stays_in_line c = not (c == 10)
 
+-- white space that does not end a line
+abbrev pub is_space : ℕ → Bool
+is_space c = c == 32 || c == 9 || c == 13
+
 -- the characters of a class
 abbrev pub is_in : Class → ℕ → Bool
 is_in classes.Digits = is_ascii_digit
 is_in classes.Words = is_xid_continue
 is_in classes.Strings = stands_in_string
 is_in classes.Lines = stays_in_line
+is_in classes.Spaces = is_space
 
 -- the longest front of cs with characters of the class alone
 abbrev pub front_in : Class → List ℕ → List ℕ

@@ -20,8 +20,9 @@ pub enum Form {
     Symbol(Symbol),
 }
 
+/// Whether the character is white space.
 #[inline]
-fn is_white(character: char) -> bool
+pub fn is_white(character: char) -> bool
     ensures { result ≡ is_white character }
 {
     character == ' ' || character == '\t' || character == '\r' || character == '\n'

@@ -5,9 +5,9 @@ ghost use Rattle.cc_lex.specs.Lexical.{place_after, place_past, start, spanned_o
 ghost use Rattle.cc_lex.specs.Cutting.{token_of, spanned_front, size_of, columns_past, Finds, FindsFront, Gives, cut};
 
 use crate::error::LexError;
-use crate::form::{blank_of, front_of};
+use crate::form::{blank_of, front_of, is_white};
 use crate::kind::{kind_of, no_token};
-use crate::size::{Size, first_and_rest};
+use crate::size::{Class, Size, first_and_rest, size_in};
 use crate::token::{Token, Tokens};
 use cc_base::code::{Code, Diag};
 use cc_base::place::Place;
@@ -99,6 +99,9 @@ fn find_front(
     requires { text.now ≡ encode_utf8 first ++ after.now }
     ensures { FindsFront at start first (chars after.now) (map spanned_of tokens.old.items) result (map spanned_of tokens.new.items) }
 {
+    if is_white(first) {
+        return Ok(size_in(Class::Spaces, after));
+    }
     if let Some(more) = blank_of(first, after) {
         return Ok(more);
     }

@@ -5,7 +5,7 @@ ghost use Rattle.std.specs.Str.{chars};
 ghost use Rattle.unicode_ident.specs.Ident.{is_xid_continue};
 ghost use Rattle.cc_base.specs.Names.{first_passes};
 ghost use Rattle.cc_lex.specs.Forms.{stands_in_string};
-ghost use Rattle.cc_lex.specs.Cutting.{size_of, is_in, front_in, IsPastOne};
+ghost use Rattle.cc_lex.specs.Cutting.{size_of, is_in, is_space, front_in, IsPastOne};
 
 /// How many characters a text has, and how many bytes they take.
 #[derive(Clone, Copy, Debug, PartialEq, Eq)]
@@ -25,6 +25,8 @@ pub enum Class {
     Strings,
     /// All that does not end a line.
     Lines,
+    /// White space that does not end a line.
+    Spaces,
 }
 
 /// The first character of a text, and what follows it.
@@ -76,6 +78,13 @@ fn stands_in_string(character: char) -> bool
 }
 
 #[inline]
+fn is_space(character: char) -> bool
+    ensures { result ≡ is_space character }
+{
+    character == ' ' || character == '\t' || character == '\r'
+}
+
+#[inline]
 fn is_in(class: Class, character: char) -> bool
     ensures { result ≡ is_in class character }
 {
@@ -84,6 +93,7 @@ fn is_in(class: Class, character: char) -> bool
         Class::Words => continues_word(character),
         Class::Strings => stands_in_string(character),
         Class::Lines => character != '\n',
+        Class::Spaces => is_space(character),
     }
 }
 
