@@ -1,6 +1,6 @@
 -- The loop over a text: the tokens so far, and what is found in the rest.
-use Rattle.std.proofs.Common.{◌≡◌, ℕ, zero, suc, ◌+◌, ◌-◌, ◌<◌, ◌≤◌, Bool, true, false, cond, ◌||◌, ◌==◌, one-add, List, [], ◌∷◌, ◌++◌, take, drop, length, map, refl, sym, ap, ◌∙◌, arith, Option, Some, None, Result, Ok, Err, encode_utf8, append_assoc, append-nil, length-drop, take-append-drop}
-use Rattle.std.specs.Str.{chars, IsUtf8, IsCharBoundary}
+use Rattle.std.proofs.Common.{◌≡◌, ℕ, ◌+◌, ◌-◌, ◌<◌, Bool, true, false, cond, ◌||◌, ◌==◌, one-add, List, [], ◌∷◌, ◌++◌, take, drop, length, refl, sym, ap, ◌∙◌, arith, Option, Some, None, Ok, Err, encode_utf8, append_assoc, append-nil, length-drop, take-append-drop}
+use Rattle.std.specs.Str.{chars, IsUtf8}
 use Rattle.std.specs.List.{list_all, prefix_len}
 use Rattle.std.proofs.lemmas.List.Folds.{length-prefix_len}
 use Rattle.std.proofs.lemmas.Bool.Decides.{nat_tests}
@@ -11,7 +11,7 @@ use Rattle.cc_lex.specs.declared.error.LexError.TheVariants.{Refused, NoMemory}
 use Rattle.cc_lex.specs.declared.size.Size.{Size}
 use Rattle.cc_lex.specs.declared.size.Class.TheVariants as classes
 use Rattle.cc_lex.specs.Lexical.{is_white, place_after, place_past, start, byte_count, SpannedLexeme, ToTheEnd}
-use Rattle.cc_lex.specs.Cutting.{blank_of, token_of, spanned_front, Cutting, cut, stop, size_of, sized, joined, columns_past, stays_in_line, is_space, front_in, Finds, FindsFront, Gives}
+use Rattle.cc_lex.specs.Cutting.{blank_of, token_of, spanned_front, cut, stop, size_of, sized, joined, columns_past, stays_in_line, is_space, front_in, Finds, FindsFront, Gives}
 use Rattle.cc_lex.proofs.CuttingLaws.{cut-jump, found-none}
 use Rattle.cc_lex.proofs.TextFronts.{IsBehind, behind-front, chars-none, length-past}
 use Rattle.cc_lex.proofs.Sizes.{sized-blank, sized-no_blank}

@@ -1,5 +1,5 @@
 -- The token at the front of a text, from the kind that its characters are.
-use Rattle.std.proofs.Common.{◌≡◌, ℕ, ◌+◌, ◌≤◌, List, ◌∷◌, length, take, sym, ap, ◌∙◌, Option, Some, None, option_map, Err}
+use Rattle.std.proofs.Common.{◌≡◌, ℕ, ◌+◌, List, ◌∷◌, take, sym, ap, ◌∙◌, Option, Some, None, option_map, Err}
 use Rattle.cc_base.specs.declared.place.Place.{Place}
 use Rattle.cc_lex.specs.declared.error.LexError.{LexError}
 use Rattle.cc_lex.specs.declared.error.LexError.TheVariants.{Refused, NoMemory}
@@ -7,7 +7,7 @@ use Rattle.cc_lex.specs.declared.form.Form.{Form}
 use Rattle.cc_lex.specs.Lexemes.{Lexeme, lexeme_of}
 use Rattle.cc_lex.specs.Forms.{IsOfForm}
 use Rattle.cc_lex.specs.Lexical.{byte_count, spelled_at}
-use Rattle.cc_lex.specs.Cutting.{Front, front_of, spelled_by, spelled_front, token_of, spanned_front, Finds}
+use Rattle.cc_lex.specs.Cutting.{front_of, spelled_by, spelled_front, token_of, spanned_front, Finds}
 use Rattle.cc_lex.proofs.LongestForms.{front-good}
 
 token_of-found : (p : Place) (o c : ℕ) (cs : List ℕ) (form : Form) (n : ℕ) (lexeme : Option Lexeme) → front_of c cs ≡ Some (form, n) → spelled_by form (c ∷ take n cs) ≡ lexeme → token_of p o c cs ≡ option_map (λ x. (spelled_at p o (c ∷ take n cs) x, n)) lexeme

@@ -1,6 +1,6 @@
 -- The sizes of fronts of a text.
-use Rattle.std.proofs.Common.{◌≡◌, ℕ, ◌+◌, ◌-◌, ◌≤◌, ◌<◌, Bool, true, false, cond, ◌&&◌, ◌==◌, not, nat_le, ltb, List, [], ◌∷◌, ◌++◌, length, take, drop, refl, sym, ap, ◌∙◌, arith, Option, Some, None, option_map, encode_utf8, encode_utf8_all, length-append, append_assoc, append-nil}
-use Rattle.std.specs.Str.{chars, IsUtf8, IsCharBoundary}
+use Rattle.std.proofs.Common.{◌≡◌, ℕ, ◌+◌, ◌-◌, ◌≤◌, ◌<◌, Bool, true, false, cond, ◌&&◌, ◌==◌, nat_le, ltb, List, [], ◌∷◌, ◌++◌, length, take, drop, refl, sym, ap, ◌∙◌, arith, Option, Some, None, length-append, append_assoc, append-nil}
+use Rattle.std.specs.Str.{chars, IsUtf8}
 use Rattle.std.specs.List.{list_all, prefix_len}
 use Rattle.std.proofs.lemmas.List.{take_at, length_push, length-take-le}
 use Rattle.std.proofs.lemmas.List.Folds.{length-prefix_len, list_all-append}
@@ -16,8 +16,8 @@ use Rattle.cc_lex.specs.declared.token.Symbol.{Symbol}
 use Rattle.cc_lex.specs.declared.token.Symbol.TheVariants as symbols
 use Rattle.cc_lex.specs.Forms.{symbol_text, stands_in_string}
 use Rattle.cc_lex.specs.Lexical.{byte_count}
-use Rattle.cc_lex.specs.Cutting.{Front, front_of, blank_of, pair_symbol, long_symbol, short_symbol, symbol_front, string_front, size_of, sized, sized_front, is_in, front_in, IsPastOne}
-use Rattle.cc_lex.proofs.Booleans.{both, both_true, if_true, if_false}
+use Rattle.cc_lex.specs.Cutting.{Front, front_of, blank_of, pair_symbol, long_symbol, symbol_front, string_front, size_of, sized, sized_front, is_in, front_in, IsPastOne}
+use Rattle.cc_lex.proofs.Booleans.{both_true}
 use Rattle.cc_lex.proofs.Constructors.{some_is, none_is_some}
 use Rattle.cc_lex.proofs.Prefixes.{prefix-exact}
 use Rattle.cc_lex.proofs.Fronts.{cut-at, pair-text}

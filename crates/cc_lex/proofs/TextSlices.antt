@@ -5,7 +5,7 @@ use Rattle.std.proofs.lemmas.List.{take_at, drop_at, drop-drop}
 use Rattle.std.proofs.lemmas.Str.{encodes-append, length-encode, len_utf8_bounds}
 use Rattle.cc_lex.specs.Lexical.{byte_count}
 use Rattle.cc_lex.proofs.Booleans.{both, both_true}
-use lib.Utf8.{scalar, scalars, encode, encodes}
+use lib.Utf8.{scalar, scalars, encodes}
 
 -- the parts of characters are characters
 pub scalars-parts : (xs ys : List ℕ) → all_scalars (xs ++ ys) ≡ true → (all_scalars xs ≡ true) × (all_scalars ys ≡ true)

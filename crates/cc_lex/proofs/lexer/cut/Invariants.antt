@@ -1,4 +1,4 @@
-use Rattle.std.proofs.Common.{ℕ, length, map}
+use Rattle.std.proofs.Common.{length, map}
 use Rattle.cc_lex.specs.Lexical.{spanned_of}
 use Rattle.cc_lex.proofs.CuttingSteps.{StandsAt}
 use Rattle.cc_lex.proofs.lexer.cut.Given as goal

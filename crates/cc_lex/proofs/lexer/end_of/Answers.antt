@@ -1,7 +1,5 @@
-use Rattle.std.proofs.Common.{sym, ap, ◌∙◌, refl}
+use Rattle.std.proofs.Common.{sym, ap, ◌∙◌}
 use Rattle.std.proofs.lemmas.Str.{IsUtf8-past_char, chars_past_char}
-use Rattle.std.specs.Str.Iter.{chars_rest}
-use Rattle.std.specs.Str.{chars}
 use Rattle.cc_lex.specs.Lexical.{place_past}
 use Rattle.cc_lex.proofs.TextFronts.{chars-none}
 use Rattle.cc_lex.proofs.lexer.end_of.Goals as goal

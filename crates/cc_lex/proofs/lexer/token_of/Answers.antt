@@ -1,4 +1,4 @@
-use Rattle.std.proofs.Common.{◌∙◌, ◌≡◌, ℕ, ◌-◌, sym, ap, Some, ◌∷◌, ◌+◌, take, length, encode_utf8, arith}
+use Rattle.std.proofs.Common.{◌∙◌, ◌≡◌, ◌-◌, ap, Some, ◌∷◌, ◌+◌, take, length, encode_utf8, arith}
 use Rattle.std.specs.Str.{chars}
 use Rattle.cc_lex.specs.Lexemes.{lexeme_of}
 use Rattle.cc_lex.specs.Cutting.{front_of, size_of}

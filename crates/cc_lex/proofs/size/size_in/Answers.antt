@@ -1,5 +1,5 @@
 use Rattle.std.proofs.Common.{refl, arith}
-use Rattle.cc_lex.proofs.Sizes.{read-none, read-more, read-smaller, read-room, read-within, read-all}
+use Rattle.cc_lex.proofs.Sizes.{read-none, read-more, read-smaller, read-room, read-all}
 use Rattle.cc_lex.proofs.size.size_in.Goals as goal
 
 pub loop-behind-init : goal.loop-behind-init

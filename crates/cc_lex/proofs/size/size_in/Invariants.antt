@@ -1,4 +1,4 @@
-use Rattle.std.proofs.Common.{ℕ, length}
+use Rattle.std.proofs.Common.{length}
 use Rattle.cc_lex.proofs.Sizes.{IsRead}
 use Rattle.cc_lex.proofs.size.size_in.Given as goal
 
