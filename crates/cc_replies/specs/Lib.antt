@@ -3,5 +3,6 @@ pub mod Laws
 pub mod Outputs
 pub mod Replies
 pub mod ReplyTexts
-pub mod SessionVerdicts
 pub mod StaleModules
+pub mod RefusalExamples
+pub mod StaleExamples

@@ -6,7 +6,7 @@ ghost use Rattle.std.specs.String.{string_bytes};
 ghost use Rattle.cc_module.specs.Judgements.{module_verdict_of};
 ghost use Rattle.cc_replies.specs.ReplyTexts as plain;
 ghost use Rattle.cc_replies.specs.ReplyTexts.{Verdicts, reply_text, is_refusal};
-ghost use Rattle.cc_replies.specs.SessionVerdicts.{named_verdict, named_verdicts};
+ghost use Rattle.cc_judge.specs.Kept.{named_verdict, named_verdicts};
 
 use cc_base::code::Diag;
 use cc_base::name::Name;

@@ -1,6 +1,6 @@
 use Rattle.std.proofs.Common.{◌++◌, codes, ap, ◌∙◌}
 use Rattle.cc_replies.specs.ReplyTexts.{line, verdict_line}
-use Rattle.cc_replies.specs.SessionVerdicts.{named_verdict}
+use Rattle.cc_judge.specs.Kept.{named_verdict}
 use Rattle.cc_replies.proofs.Mapped.{flat_mapped}
 use Rattle.cc_replies.proofs.verdicts.check_reply.Goals as goal
 

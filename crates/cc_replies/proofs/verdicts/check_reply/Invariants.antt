@@ -1,7 +1,7 @@
 use Rattle.std.proofs.Common.{◌≡◌, ◌++◌, take, codes, flat_map}
 use Rattle.std.specs.String.{string_bytes}
 use Rattle.cc_replies.specs.ReplyTexts.{line, verdict_line}
-use Rattle.cc_replies.specs.SessionVerdicts.{named_verdict}
+use Rattle.cc_judge.specs.Kept.{named_verdict}
 use Rattle.cc_replies.proofs.verdicts.check_reply.Given as goal
 
 abbrev pub invariant-loop-one : goal.invariant-loop-one

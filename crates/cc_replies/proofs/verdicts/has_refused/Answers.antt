@@ -1,6 +1,6 @@
 use Rattle.std.proofs.Common.{◌∙◌}
 use Rattle.cc_replies.specs.ReplyTexts.{is_refused}
-use Rattle.cc_replies.specs.SessionVerdicts.{named_verdict}
+use Rattle.cc_judge.specs.Kept.{named_verdict}
 use Rattle.cc_replies.proofs.Mapped.{any_mapped}
 use Rattle.cc_replies.proofs.verdicts.has_refused.Goals as goal
 
