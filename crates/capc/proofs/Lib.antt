@@ -4,3 +4,4 @@ mod CommandFacts
 mod Answering
 mod Outcomes
 mod Exact
+mod WorkedStatuses

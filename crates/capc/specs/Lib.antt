@@ -4,3 +4,5 @@ pub mod Requests
 pub mod Carried
 pub mod Outcome
 pub mod Exactness
+pub mod Endings
+pub mod StatusTable

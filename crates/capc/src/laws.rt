@@ -1,5 +1,6 @@
 //! What the contract of the top call says: of a source that tells its bytes, where no read and no write fails, and of
 //! faults, what is written and how many modules are judged, for all streams.
+ghost use Rattle.capc.specs.StatusTable.{StatusesShow, JobsHaveSoManyBytes};
 ghost use Rattle.capc.specs.Exactness.{AJobIsAnswered, WhatIsNotBuiltIsRefused, WhatIsNoJobIsRefused, WhatIsTooLongIsRefused, AFaultIsTold, OnlyTheOutputIsWritten, OnlyStaleModulesAreJudged};
 
 /// A job is carried out and its output written whole, unless memory lacks: then a front of it is written.
@@ -36,4 +37,14 @@ pub fn only_the_output_is_written()
 /// No module is judged but those that the commands of the job that was read find stale.
 pub fn only_stale_modules_are_judged()
     ensures { OnlyStaleModulesAreJudged }
+{}
+
+/// The number and the message of each status, written out.
+pub fn statuses_show()
+    ensures { StatusesShow }
+{}
+
+/// How many bytes a job may have, and with how many it is too long.
+pub fn jobs_have_so_many_bytes()
+    ensures { JobsHaveSoManyBytes }
 {}

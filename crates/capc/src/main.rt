@@ -5,6 +5,7 @@
 
 mod commands;
 pub mod laws;
+mod program;
 mod replies;
 mod run;
 mod status;
@@ -12,40 +13,22 @@ mod status;
 mod tests;
 mod words;
 
-ghost use Rattle.std.specs.Prelude.{◌≡◌, ◌≢◌, ◌↔◌, ◌<◌, []};
-
-use crate::run::capc;
-use crate::status::Status;
-use crate::words::words_of;
-use cc_base::steps::Steps;
+use crate::program::{Ending, program};
 use cc_io::{StdSink, StdSource};
-use std::alloc::Global;
 use std::marker::Brand;
-use std::process::ExitCode;
-use std::sync::ledger::{Blank, Ledger};
+use std::sync::ledger::Blank;
 use std::{env, io};
 
-/// Carries out the job on standard input, with a counter of its own.
-fn run_standard<L: Ledger>(rt: &HostRuntime, words: &[String], blank: Blank) -> Status
-    requires name { blank.name ≡ L.name }
-    requires parts { blank.parts ≡ L.parts }
-    requires some { 0 < L.parts }
-    ensures words { (result ≡ Status.BadWords) ↔ (words.now ≢ []) }
-{
+/// Hands over the words and the streams of the system.
+fn main(rt: HostRuntime) -> Ending {
     let mut source = StdSource::new(rt.reader());
-    let mut sink = StdSink::new(io::writer(rt));
-    let mut steps = Steps::<L>::new(blank);
-    capc(rt.alloc(), words, &mut source, &mut sink, &mut steps)
-}
-
-fn main(rt: HostRuntime) -> ExitCode {
-    let status = match words_of(rt.alloc(), env::args(&rt)) {
-        Ok(words) => run_standard::<Brand>(&rt, words.as_slice(), Blank::new(1)),
-        Err(status) => status,
-    };
-    if status.has_message() {
-        // A message that cannot be written changes nothing.
-        let _ = eprintln!(rt; "{status}");
-    }
-    status.exit_code()
+    let mut sink = StdSink::new(io::writer(&rt));
+    program::<_, _, _, Brand>(
+        rt.alloc(),
+        env::args(&rt),
+        &mut source,
+        &mut sink,
+        &mut rt.stderr(),
+        Blank::new(1),
+    )
 }

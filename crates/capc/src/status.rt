@@ -1,9 +1,7 @@
 ghost use Rattle.std.specs.Prelude.{◌≡◌, ◌↔◌, IsTrue, IsSome};
-ghost use Rattle.std.specs.Process.{exit_status};
 ghost use Rattle.capc.specs.Status.{number_of, message_of};
 
 use std::fmt;
-use std::process::ExitCode;
 
 /// How a call of the program ended.
 #[derive(Clone, Copy, Debug, PartialEq, Eq)]
@@ -51,13 +49,6 @@ impl Status {
         ensures { IsTrue result ↔ IsSome (message_of self) }
     {
         !matches!(self, Status::Clean | Status::Refusals)
-    }
-
-    /// What `main` answers.
-    pub fn exit_code(self) -> ExitCode
-        ensures { exit_status result ≡ number_of self }
-    {
-        ExitCode::from(self.number())
     }
 }
 
