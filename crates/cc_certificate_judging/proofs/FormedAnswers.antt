@@ -16,6 +16,7 @@ use Rattle.cc_certificate_text.specs.Certificates.{CertificateNode, Line, States
 use Rattle.cc_certificate_reading.specs.declared.certificate.Cert.{Cert}
 use Rattle.cc_certificate_reading.specs.Views.{bind_line_of, lines_of}
 use Rattle.cc_certificate_judging.specs.Judging.{NodeTree, Grown, is_in_scope, fits_place, claim_of_another_kind, claim_at, read_tree, read_trees, with_binds, bind_type, binds_of, IsJudged}
+use Rattle.cc_certificate_judging.specs.JudgedResults.{OnJudgement}
 use Rattle.cc_certificate_judging.specs.declared.error.JudgeError.{JudgeError}
 use Rattle.cc_certificate_judging.proofs.JudgedTypes.{claims_of_another_kind_fit_no_place, judged_types_are_given}
 
@@ -81,13 +82,13 @@ formed_term (bind ∷ binds) names context term rest fit =
     formed_term binds (names ++ bind.0 ∷ []) (entry_of (type_of bind.1) ∷ context) term rest fit.1
 
 -- the term has the type that is answered
-pub has_type : (cert : Cert) (nodes : List CertificateNode) (answer : Result Ty JudgeError)
-    → AllFit Start (lines_of cert) → IsJudged (binds_of cert) (term_of cert.term.value) nodes answer
-    → IfOk answer (λ ty. HasType (binds_of cert) (term_of cert.term.value) (type_of ty))
+pub has_type : (cert : Cert) (nodes : List CertificateNode) (result : Result Ty JudgeError)
+    → AllFit Start (lines_of cert) → OnJudgement (IsJudged (binds_of cert) (term_of cert.term.value) nodes) result
+    → IfOk result (λ ty. HasType (binds_of cert) (term_of cert.term.value) (type_of ty))
 has_type cert nodes (Ok type) fit j = record {
   context_formed = formed_binds cert.binds.items [] [] _ refl fit.1;
   term_formed = formed_term cert.binds.items [] [] (term_of cert.term.value) _ fit.1;
   type_formed = root_formed (binds_of cert) (term_of cert.term.value) j.tree (type_of type) j.told.0 j.told.1;
-  typing = judged_types_are_given (binds_of cert) (term_of cert.term.value) nodes type j;
+  typing = judged_types_are_given (binds_of cert) (term_of cert.term.value) nodes (type_of type) j;
 }
 has_type cert nodes (Err error) fit j = tt

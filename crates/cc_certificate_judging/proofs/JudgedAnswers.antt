@@ -19,9 +19,10 @@ use Rattle.cc_certificate_text.specs.Certificates.{CertificateNode, Line, Conclu
 use Rattle.cc_certificate_reading.specs.declared.certificate.CertNode.{CertNode}
 use Rattle.cc_certificate_reading.specs.declared.certificate.Cert.{Cert}
 use Rattle.cc_certificate_reading.specs.Views.{node_of, node_line_of, bind_line_of, lines_of}
-use Rattle.cc_certificate_judging.specs.Judging.{NodeTree, listed, read_tree, with_binds, bind_type, IsAnswer, IsJudged}
+use Rattle.cc_certificate_judging.specs.Judging.{NodeTree, listed, read_tree, with_binds, bind_type, Judgement, IsValidAt, IsBadNode, IsAnswer, IsJudged}
+use Rattle.cc_certificate_judging.specs.JudgedResults.{OnJudgement}
 use Rattle.cc_certificate_judging.specs.declared.error.JudgeError.{JudgeError}
-use Rattle.cc_certificate_judging.specs.declared.error.JudgeError.TheVariants.{NoMemory}
+use Rattle.cc_certificate_judging.specs.declared.error.JudgeError.TheVariants.{NoMemory, BadNode}
 use Rattle.cc_certificate_judging.specs.Passes.{PlainReadNode, AreRead, Builds}
 use Rattle.cc_certificate_judging.proofs.GrownTrees.{certificate_tree, few_nodes}
 use Rattle.cc_certificate_judging.proofs.PassesOnce.{are_read_once, builds_once}
@@ -144,19 +145,25 @@ pub passes_answer : {T E : Type 0} (f : T → Derivation) (r : Result T E) (name
 passes_answer f (Ok d) names kinds ns reads a b = λ tree whole. passes_give names kinds ns reads (f d) a b tree whole
 passes_answer f (Err e) names kinds ns reads a b = tt
 
--- want of memory is an answer
-pub no_memory : (context : Context) (term : Term) (ns : List CertificateNode) (answer : Result Ty JudgeError)
-    → (tree : NodeTree) × (listed 0 tree ≡ ns) → IsErrAnd answer (λ e. e ≡ NoMemory) → IsJudged context term ns answer
-no_memory context term ns (Ok type) t e = absurd e
-no_memory context term ns (Err error) t e =
-    subst (λ (x : JudgeError). IsJudged context term ns (Err x)) (sym e) (record { tree = t.0; whole = t.1; told = tt })
+-- want of memory says nothing
+pub no_memory : (fact : Judgement → Type 0) (result : Result Ty JudgeError) → IsErrAnd result (λ e. e ≡ NoMemory)
+    → OnJudgement fact result
+no_memory fact (Ok type) e = absurd e
+no_memory fact (Err error) e = subst (λ (x : JudgeError). OnJudgement fact (Err x)) (sym e) tt
+
+on_judgement : (fact other : Judgement → Type 0) (result : Result Ty JudgeError)
+    → ((judgement : Judgement) → fact judgement → other judgement) → OnJudgement fact result → OnJudgement other result
+on_judgement fact other (Ok type) f h = f (IsValidAt (type_of type)) h
+on_judgement fact other (Err NoMemory) f h = tt
+on_judgement fact other (Err (BadNode number)) f h = f (IsBadNode number) h
 
 -- the answer for the derivation of the tree is that for the certificate
-pub answered : (context own : Context) (term : Term) (ns : List CertificateNode) (answer : Result Ty JudgeError) (names : ℕ) (kinds : List Kind) (d : Derivation)
+pub answered : (context own : Context) (term : Term) (ns : List CertificateNode) (result : Result Ty JudgeError) (names : ℕ) (kinds : List Kind) (d : Derivation)
     → (tree : NodeTree) × (listed 0 tree ≡ ns) → own ≡ context → names ≡ length own → kinds ≡ kinds_of own
     → ((tree : NodeTree) → listed 0 tree ≡ ns → d ≡ read_tree names kinds tree)
-    → IsAnswer own term d answer → IsJudged context term ns answer
-answered context own term ns answer names kinds d t same n k is a =
+    → OnJudgement (IsAnswer own term d) result → OnJudgement (IsJudged context term ns) result
+answered context own term ns result names kinds d t same n k is a =
     let e : d ≡ read_tree (length own) (kinds_of own) t.0 = is t.0 t.1 ∙ ap (λ i. read_tree i kinds t.0) n ∙ ap (λ (l : List Kind). read_tree (length own) l t.0) k in
-    subst (λ (g : Context). IsJudged g term ns answer) same
-    (record { tree = t.0; whole = t.1; told = subst (λ (x : Derivation). IsAnswer own term x answer) e a })
+    on_judgement (IsAnswer own term d) (IsJudged context term ns) result
+    (λ answer told. subst (λ (g : Context). IsJudged g term ns answer) same
+    (record { tree = t.0; whole = t.1; told = subst (λ (x : Derivation). IsAnswer own term x answer) e told })) a

@@ -126,7 +126,7 @@ pub judged_types_are_given : law.JudgedTypesAreGiven
 judged_types_are_given context term nodes type j =
     (typing_derivations context term _ _).1 (_, j.told.0, j.told.1)
 
-contains_none : {B : Type 0} (number : ℕ) (numbers : List ℕ) → numbers ≡ [] → Contains numbers number → B
+pub contains_none : {B : Type 0} (number : ℕ) (numbers : List ℕ) → numbers ≡ [] → Contains numbers number → B
 contains_none number numbers e h = let at : h.0 < length numbers = h.1 in absurd (omega (arith, ap length e, at))
 
 pub bad_nodes_are_not_valid : law.BadNodesAreNotValid

@@ -2,6 +2,7 @@ mod FormedAnswers
 mod GrownTrees
 mod JudgedAnswers
 mod JudgedTypes
+mod OneJudgement
 pub mod OneTree
 mod PassSteps
 mod PassesOnce

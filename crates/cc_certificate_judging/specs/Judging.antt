@@ -1,6 +1,6 @@
 -- Certificates judged: the tree of the nodes, its claims as they are read at their places, and the answer.
 use Rattle.std.specs.Prelude.{◌≡◌, ℕ, zero, suc, ◌+◌, ◌-◌, nat_eq, nat_lt, Bool, true, false, ◌&&◌}
-use Rattle.std.specs.Prelude.{List, [], ◌∷◌, ◌++◌, length, map, Option, Some, None, Result, Ok, Err, if◌then◌else◌}
+use Rattle.std.specs.Prelude.{List, [], ◌∷◌, ◌++◌, length, map, Option, Some, None, if◌then◌else◌}
 use Rattle.cc_capture.specs.declared.var.Var.{Var}
 use Rattle.cc_capture.specs.declared.var.Var.TheVariants.{Bound, Free}
 use Rattle.cc_capture.specs.Sets.{empty}
@@ -20,8 +20,6 @@ use Rattle.cc_meta_validity.specs.Rows.{TypeOf}
 use Rattle.cc_meta_validity.specs.Broken.{broken, IsLeast}
 use Rattle.cc_certificate_text.specs.Certificates.{CertificateNode, ClaimKind, OfSets, rule_kind}
 use Rattle.cc_certificate_reading.specs.declared.certificate.Cert.{Cert}
-use Rattle.cc_certificate_judging.specs.declared.error.JudgeError.{JudgeError}
-use Rattle.cc_certificate_judging.specs.declared.error.JudgeError.TheVariants.{NoMemory, BadNode}
 
 mutual
   -- The nodes of a certificate as a tree: each has its rule, the number of its claim's outermost binders where it has a
@@ -180,18 +178,22 @@ bind_type bind = type_of bind.1
 abbrev pub binds_of : Cert → Context
 binds_of cert = with_binds [] (map bind_type cert.binds.items)
 
+-- What is found of a certificate: it is valid and concludes the type, or it is not, and the number is that of a node
+-- that breaks its rule.
+pub data Judgement : Type 0 where
+  IsValidAt : (type : CapturingType) → Judgement
+  IsBadNode : (number : ℕ) → Judgement
+
 -- The derivation is valid for the term and concludes the type; or it is not, and this is the least number of a node
--- that breaks its rule. Want of memory says nothing.
-abbrev pub IsAnswer : Context → Term → Derivation → Result Ty JudgeError → Type 0
-IsAnswer context term derivation (Ok type) =
-    IsValidTyping context term derivation × Concludes derivation (OfType (type_of type))
-IsAnswer context term derivation (Err NoMemory) = Unit {0}
-IsAnswer context term derivation (Err (BadNode number)) =
-    IsLeast number (broken 0 (TypeOf context term) derivation)
+-- that breaks its rule.
+abbrev pub IsAnswer : Context → Term → Derivation → Judgement → Type 0
+IsAnswer context term derivation (IsValidAt type) =
+    IsValidTyping context term derivation × Concludes derivation (OfType type)
+IsAnswer context term derivation (IsBadNode number) = IsLeast number (broken 0 (TypeOf context term) derivation)
 
 -- The nodes are those of a tree in post-order, and the answer is that for the tree as it is read in the context.
-pub record IsJudged (context : Context) (term : Term) (nodes : List CertificateNode) (answer : Result Ty JudgeError)
-    : Type 0 where
+pub record IsJudged (context : Context) (term : Term) (nodes : List CertificateNode) (answer : Judgement) :
+    Type 0 where
   pub tree : NodeTree
   pub whole : listed 0 tree ≡ nodes
   pub told : IsAnswer context term (read_tree (length context) (kinds_of context) tree) answer

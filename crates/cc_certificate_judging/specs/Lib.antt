@@ -1,3 +1,4 @@
+pub mod JudgedResults
 pub mod Judging
 pub mod JudgingExamples
 pub mod JudgingLaws

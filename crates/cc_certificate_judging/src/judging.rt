@@ -11,6 +11,7 @@ ghost use Rattle.cc_sets.specs.DerivationSizes.{nodes};
 ghost use Rattle.cc_certificate_text.specs.Certificates.{Start, AllFit, IsWhole, behind_lines};
 ghost use Rattle.cc_certificate_reading.specs.Views.{node_of, lines_of};
 ghost use Rattle.cc_certificate_judging.specs.Judging.{NodeTree, listed, read_tree, with_binds, bind_type, binds_of, IsAnswer, IsJudged};
+ghost use Rattle.cc_certificate_judging.specs.JudgedResults.{OnJudgement};
 ghost use Rattle.cc_certificate_judging.specs.PassViews.{kinds_in};
 
 use crate::error::JudgeError;
@@ -70,7 +71,7 @@ fn concluded(der: &Der) -> Result<Ty, AllocError>
 // The answer for a derivation.
 fn answer_for(alloc: Global, ctx: &Ctx, term: &Rc<Node>, der: &Rc<Der>) -> Result<Ty, JudgeError>
     requires { nodes (der_of der.now.value) < 2 ^ 32 }
-    ensures { IsAnswer (context_of ctx.now) (term_of term.now.value) (der_of der.now.value) result }
+    ensures { OnJudgement (IsAnswer (context_of ctx.now) (term_of term.now.value) (der_of der.now.value)) result }
 {
     match valid(alloc, ctx, term, der) {
         Ok(()) => match concluded(der) {
@@ -95,7 +96,7 @@ fn answer_for(alloc: Global, ctx: &Ctx, term: &Rc<Node>, der: &Rc<Der>) -> Resul
 pub fn judge(alloc: Global, cert: &Cert) -> Result<Ty, JudgeError>
     requires fit { AllFit Start (lines_of cert.now) }
     requires whole { IsWhole (behind_lines Start (lines_of cert.now)) }
-    ensures judged { IsJudged (binds_of cert.now) (term_of cert.now.term.value) (map node_of cert.now.nodes.items) result }
+    ensures judged { OnJudgement (IsJudged (binds_of cert.now) (term_of cert.now.term.value) (map node_of cert.now.nodes.items)) result }
     ensures typed { IfOk result (λ ty. HasType (binds_of cert.now) (term_of cert.now.term.value) (type_of ty)) }
 {
     let ctx = context_of_binds(alloc, cert.binds.as_slice())?;

@@ -42,3 +42,10 @@ pub fn judged_certificates()
     ensures types { law.JudgedTypesAreGiven }
     ensures bad { law.BadNodesAreNotValid }
 {}
+
+/// Each certificate that was read is judged, and in one way: it is valid at one type, or one node is the least bad one.
+pub fn judgements()
+    ensures some { law.CertificatesAreJudged }
+    ensures trees { law.TreesAreJudged }
+    ensures one { law.JudgementsAreOne }
+{}

@@ -3,7 +3,7 @@ use Rattle.std.proofs.lemmas.List.{length-map}
 use Rattle.cc_core.specs.Views.{term_of, context_of, bind_of}
 use Rattle.cc_derivation.specs.Views.{der_of}
 use Rattle.cc_certificate_reading.specs.Views.{node_of}
-use Rattle.cc_certificate_judging.specs.Judging.{binds_of, bind_type, with_binds}
+use Rattle.cc_certificate_judging.specs.Judging.{binds_of, bind_type, with_binds, IsJudged}
 use Rattle.cc_certificate_judging.specs.PassViews.{kinds_in}
 use Rattle.cc_certificate_judging.proofs.FormedAnswers.{has_type}
 use Rattle.cc_certificate_judging.proofs.JudgedAnswers.{cert_tree, cert_nodes, few_in_tree, no_memory, answered}
@@ -16,11 +16,13 @@ derivation_of-requires c =
 
 pub returns-in_err-ctx-clause-judged : goal.returns-in_err-ctx-clause-judged
 returns-in_err-ctx-clause-judged c =
-    no_memory _ _ _ c.from_residual.result (cert_tree c.args.cert.now c.requires.fit c.requires.whole) c.from_residual.ensures.1
+    no_memory (IsJudged (binds_of c.args.cert.now) (term_of c.args.cert.now.term.value) (map node_of c.args.cert.now.nodes.items))
+    c.from_residual.result c.from_residual.ensures.1
 
 pub returns-in_err-der-clause-judged : goal.returns-in_err-der-clause-judged
 returns-in_err-der-clause-judged c =
-    no_memory _ _ _ c.from_residual-in_err-der.result (cert_tree c.args.cert.now c.requires.fit c.requires.whole) c.from_residual-in_err-der.ensures.1
+    no_memory (IsJudged (binds_of c.args.cert.now) (term_of c.args.cert.now.term.value) (map node_of c.args.cert.now.nodes.items))
+    c.from_residual-in_err-der.result c.from_residual-in_err-der.ensures.1
 
 pub answer_for-requires : goal.answer_for-requires
 answer_for-requires c =

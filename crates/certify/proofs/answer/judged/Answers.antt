@@ -5,7 +5,7 @@ use Rattle.certify.proofs.answer.judged.Goals as goal
 
 pub returns-in_ok-text_of-in-Ok : goal.returns-in_ok-text_of-in-Ok
 returns-in_ok-text_of-in-Ok c = (
-  c.in-Ok.ty,
+  type_of c.in-Ok.ty,
   c.in-Ok.ensures.judged,
   c.in-Ok.ensures.typed,
   c.in_ok-text_of-in-Ok.ensures
