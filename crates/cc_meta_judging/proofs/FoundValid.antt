@@ -1,9 +1,7 @@
 -- What is read back from the text of a valid derivation is judged to be valid.
 use Rattle.std.proofs.Common.{◌≡◌, ◌<◌, ℕ, List, [], ◌∷◌, ◌++◌, map, length, sym, ap, subst, ◌∙◌, arith}
-use Rattle.std.specs.Prelude.{Contains, Result, Ok, Err}
+use Rattle.std.specs.Prelude.{Contains}
 use Rattle.std.specs.List.{AllByRecursion}
-use Rattle.cc_core.specs.declared.types.Ty.{Ty}
-use Rattle.cc_core.specs.Views.{type_of}
 use Rattle.cc_core.specs.Terms.{Term}
 use Rattle.cc_core.specs.Contexts.{TermEntry, TypeEntry, Context}
 use Rattle.cc_core.specs.WellFormed.{kinds_of}
@@ -12,9 +10,7 @@ use Rattle.cc_meta_validity.specs.Rows.{TypeOf}
 use Rattle.cc_meta_validity.specs.Broken.{broken, IsLeast}
 use Rattle.cc_meta_validity.proofs.BrokenNodes.{valid_typings}
 use Rattle.cc_certificate_text.specs.Certificates.{States, Concludes as ConcludesNode}
-use Rattle.cc_certificate_judging.specs.Judging.{NodeTree, listed, read_tree, IsJudged}
-use Rattle.cc_certificate_judging.specs.declared.error.JudgeError.{JudgeError}
-use Rattle.cc_certificate_judging.specs.declared.error.JudgeError.TheVariants.{NoMemory, BadNode}
+use Rattle.cc_certificate_judging.specs.Judging.{NodeTree, listed, read_tree, Judgement, IsValidAt, IsBadNode, IsJudged}
 use Rattle.cc_certificate_judging.proofs.OneTree.{one_tree}
 use Rattle.cc_meta_certificates.specs.CertificateLaws.{IsPresentable, IsPresentableEntry, IsTermEntry}
 use Rattle.cc_meta_checking.specs.CheckingLaws.{definition_context}
@@ -23,7 +19,7 @@ use Rattle.cc_core.specs.Shapes.{CapturingType}
 use Rattle.cc_meta_certificates.proofs.DefinitionCertificates.{accepted_certifiable}
 use Rattle.cc_meta_certificates.proofs.PresentableTypings.{valid_presentable}
 use Rattle.cc_meta_certificates.proofs.WholeCertificates.{written_are_read_back}
-use Rattle.cc_meta_judging.specs.JudgedCertificates.{written_tree, bind_line, parts_lines, bound_context, PartsAreReadBack, AnswersAs, AnswersType, WrittenCertificatesAreFoundValid, CertificatesOfDefinitionsAreFoundValid}
+use Rattle.cc_meta_judging.specs.JudgedCertificates.{written_tree, bind_line, parts_lines, bound_context, PartsAreReadBack, AnswersAs, WrittenCertificatesAreFoundValid, WrittenTreesAreReadBack, CertificatesOfDefinitionsAreFoundValid, TreesOfDefinitionsAreReadBack}
 use Rattle.cc_meta_judging.proofs.ReadTrees.{written_nodes, derivations_back}
 use Rattle.cc_meta_judging.proofs.SameLines.{same_tail, same_parts, binds_in, bound_are_binds, context_of_binds}
 
@@ -52,15 +48,14 @@ parts_back names context term derivation binds stated listing open_context open_
 contains_none : {B : Type 0} (number : ℕ) (numbers : List ℕ) → numbers ≡ [] → Contains numbers number → B
 contains_none number numbers e h = let at : h.0 < length numbers = h.1 in absurd (omega (arith, ap length e, at))
 
-answered : (context : Context) (term : Term) (derivation : Derivation) (tree : NodeTree) (answer : Result Ty JudgeError)
+answered : (context : Context) (term : Term) (derivation : Derivation) (tree : NodeTree) (answer : Judgement)
     → IsValidTyping context term derivation → read_tree (length context) (kinds_of context) tree ≡ derivation
     → IsJudged context term (listed 0 tree) answer → AnswersAs derivation answer
-answered context term derivation tree (Ok type) valid back judged =
+answered context term derivation tree (IsValidAt type) valid back judged =
     let same = one_tree judged.tree tree judged.whole in
-    subst (λ d. Concludes d (OfType (type_of type)))
+    subst (λ d. Concludes d (OfType type))
     (ap (read_tree (length context) (kinds_of context)) same ∙ back) judged.told.1
-answered context term derivation tree (Err NoMemory) valid back judged = tt
-answered context term derivation tree (Err (BadNode number)) valid back judged =
+answered context term derivation tree (IsBadNode number) valid back judged =
     let same = one_tree judged.tree tree judged.whole in
     let least = subst (λ d. IsLeast number (broken 0 (TypeOf context term) d))
     (ap (read_tree (length context) (kinds_of context)) same ∙ back) judged.told in
@@ -76,14 +71,22 @@ found_valid names context term derivation binds stated listing answer open_conte
     answered context term derivation (written_tree (length context) 0 derivation) answer valid
     (derivations_back context term derivation all open_context.formed open_term.formed valid done) listed_here
 
-type_told : (derivation : Derivation) (wanted : CapturingType) (answer : Result Ty JudgeError)
-    → Concludes derivation (OfType wanted) → AnswersAs derivation answer → AnswersType wanted answer
-type_told derivation wanted (Ok type) concludes told = same_type (sym told ∙ concludes)
-  where
-    same_type : {t u : CapturingType} → OfType t ≡ OfType u → t ≡ u
-    same_type e = cc
-type_told derivation wanted (Err NoMemory) concludes told = tt
-type_told derivation wanted (Err (BadNode number)) concludes told = told
+pub tree_back : WrittenTreesAreReadBack
+tree_back names context term derivation binds stated tree open_context open_term valid done few text =
+    let parts = parts_back names context term derivation binds stated (listed 0 tree) open_context open_term valid done few
+    text in
+    let all = term_entries context open_context.entries in
+    let same = one_tree tree (written_tree (length context) 0 derivation) parts.2 in
+    (λ i. read_tree (length (parts.0 i)) (kinds_of (parts.0 i)) (same i))
+    ∙ derivations_back context term derivation all open_context.formed open_term.formed valid done
+
+same_type : {t u : CapturingType} → OfType t ≡ OfType u → t ≡ u
+same_type e = cc
+
+type_told : (derivation : Derivation) (wanted : CapturingType) (answer : Judgement)
+    → Concludes derivation (OfType wanted) → AnswersAs derivation answer → answer ≡ IsValidAt wanted
+type_told derivation wanted (IsValidAt type) concludes told = ap IsValidAt (same_type (sym told ∙ concludes))
+type_told derivation wanted (IsBadNode number) concludes told = absurd told
 
 pub definitions_found_valid : CertificatesOfDefinitionsAreFoundValid
 definitions_found_valid devices globals definition accepted names binds stated listing answer fits verdict limits text judged =
@@ -92,3 +95,10 @@ definitions_found_valid devices globals definition accepted names binds stated l
     type_told (accepted_derived g accepted) accepted.signature answer can.concludes
     (found_valid names g accepted.filled (accepted_derived g accepted) binds stated listing answer can.context can.term can.valid
     can.done limits.few text judged)
+
+pub tree_of_definition_back : TreesOfDefinitionsAreReadBack
+tree_of_definition_back devices globals definition accepted names binds stated tree fits verdict limits text =
+    let g = definition_context globals definition accepted.signature in
+    let can = accepted_certifiable devices globals definition accepted names fits verdict limits in
+    tree_back names g accepted.filled (accepted_derived g accepted) binds stated tree can.context can.term can.valid can.done
+    limits.few text

@@ -1,6 +1,6 @@
 -- The tree that is written for a valid derivation is read as the derivation.
 use Rattle.std.proofs.Common.{◌≡◌, ℕ, zero, suc, ◌+◌, ◌-◌, ◌≤◌, Bool, true, false, ◌&&◌, List, [], ◌∷◌, ◌++◌, map, length, Option, Some, None, inl, inr, refl, sym, ap, subst, ◌∙◌, arith}
-use Rattle.std.specs.Prelude.{if◌then◌else◌, Ok}
+use Rattle.std.specs.Prelude.{if◌then◌else◌}
 use Rattle.std.specs.List.{AllByRecursion}
 use Rattle.std.proofs.lemmas.Bool.{and_from, eq-eqb}
 use Rattle.cc_core.specs.Contexts.{TermEntry, TypeEntry, Context, lookup}
@@ -14,7 +14,7 @@ use Rattle.cc_sets.specs.DerivationSizes.{nodes, nodes_of}
 use Rattle.cc_certificate.specs.Certificates.{binds_first, binds_others, with_binder}
 use Rattle.cc_certificate_text.specs.Certificates.{Concludes as ConcludesNode}
 use Rattle.cc_certificate_text.specs.LocalNames.{claim_has_binder}
-use Rattle.cc_certificate_judging.specs.Judging.{size_of, sizes_of, root_numbers, listed, listed_all, binder_at, under_binder, read_claim, is_in_scope, begins_at, read_tree, read_trees, IsAnswer}
+use Rattle.cc_certificate_judging.specs.Judging.{size_of, sizes_of, root_numbers, listed, listed_all, binder_at, under_binder, read_claim, is_in_scope, begins_at, read_tree, read_trees, IsValidAt, IsAnswer}
 use Rattle.cc_meta_certificates.specs.CertificateLines.{numbered_claim, outermost_number, certificate_node, concluded_lines, premises_concluded}
 use Rattle.cc_meta_certificates.specs.CertificateLaws.{IsClosedClaim, HasNoHoleInClaim, IsTermEntry}
 use Rattle.cc_meta_certificates.proofs.ClosedSyntax.{AreNames, set_closed, shape_closed, type_closed}
@@ -177,5 +177,5 @@ judged_valid context term derivation type all formed is valid done concludes =
     let back = derivations_back context term derivation all formed is valid done in record {
       tree = written_tree (length context) 0 derivation;
       whole = refl;
-      told = subst (λ d. IsAnswer context term d (Ok type)) (sym back) (valid, concludes);
+      told = subst (λ d. IsAnswer context term d (IsValidAt type)) (sym back) (valid, concludes);
     }

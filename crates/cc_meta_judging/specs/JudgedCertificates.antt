@@ -1,8 +1,6 @@
 -- What is written for a valid derivation is judged to be valid.
-use Rattle.std.specs.Prelude.{◌≡◌, ℕ, ◌≤◌, List, [], ◌∷◌, ◌++◌, length, map, Result, Ok, Err}
+use Rattle.std.specs.Prelude.{◌≡◌, ℕ, ◌≤◌, List, [], ◌∷◌, ◌++◌, length, map}
 use Rattle.std.specs.List.{AllByRecursion}
-use Rattle.cc_core.specs.declared.types.Ty.{Ty}
-use Rattle.cc_core.specs.Views.{type_of}
 use Rattle.cc_core.specs.Shapes.{CapturingType}
 use Rattle.cc_core.specs.Terms.{Term}
 use Rattle.cc_core.specs.Contexts.{Context}
@@ -18,9 +16,7 @@ use Rattle.cc_certificate_text.specs.Certificates.{States, Concludes as Conclude
 use Rattle.cc_certificate_text.specs.Certificates.{IsCertificate}
 use Rattle.cc_certificate_judging.specs.Judging.{NodeTree, Grown, NodeTrees, NoTree, Tree, listed}
 use Rattle.cc_certificate_judging.specs.Judging.{read_tree, with_binds}
-use Rattle.cc_certificate_judging.specs.Judging.{IsJudged}
-use Rattle.cc_certificate_judging.specs.declared.error.JudgeError.{JudgeError}
-use Rattle.cc_certificate_judging.specs.declared.error.JudgeError.TheVariants.{NoMemory, BadNode}
+use Rattle.cc_certificate_judging.specs.Judging.{Judgement, IsValidAt, IsBadNode, IsJudged}
 use Rattle.cc_meta_certificates.specs.CertificateLines.{numbered_claim, outermost_number, concluded_lines}
 use Rattle.cc_meta_certificates.specs.DefinitionLaws.{IsWithinLimits}
 use Rattle.cc_meta_certificates.specs.CertificateLaws.{IsTermEntry, IsFinished, IsPresentableContext, IsPresentableTerm}
@@ -56,10 +52,11 @@ DerivationsAreReadBack =
 -- So what is written for it is judged to be valid, of the type that it concludes.
 abbrev pub ValidDerivationsAreJudgedValid : Type 0
 ValidDerivationsAreJudgedValid =
-    (context : Context) (term : Term) (derivation : Derivation) (type : Ty) → AllByRecursion IsTermEntry context
+    (context : Context) (term : Term) (derivation : Derivation) (type : CapturingType)
+    → AllByRecursion IsTermEntry context
     → IsWellFormedContext context → IsWellFormedTerm context term → IsValidTyping context term derivation
-    → IsFinished derivation → Concludes derivation (OfType (type_of type))
-    → IsJudged context term (listed 0 (written_tree (length context) 0 derivation)) (Ok type)
+    → IsFinished derivation → Concludes derivation (OfType type)
+    → IsJudged context term (listed 0 (written_tree (length context) 0 derivation)) (IsValidAt type)
 
 -- a bind of a certificate: its name and its type
 abbrev pub CertificateBind : Type 0
@@ -88,35 +85,38 @@ PartsAreReadBack =
     → (bound_context binds ≡ context) × (stated ≡ term)
     × (listing ≡ listed 0 (written_tree (length context) 0 derivation))
 
--- The answer is the type that the derivation concludes; want of memory says nothing.
-abbrev pub AnswersAs : Derivation → Result Ty JudgeError → Type 0
-AnswersAs derivation (Ok type) = Concludes derivation (OfType (type_of type))
-AnswersAs derivation (Err NoMemory) = Unit {0}
-AnswersAs derivation (Err (BadNode number)) = ⊥
+-- the judgement is that it is valid at the type that the derivation concludes
+abbrev pub AnswersAs : Derivation → Judgement → Type 0
+AnswersAs derivation (IsValidAt type) = Concludes derivation (OfType type)
+AnswersAs derivation (IsBadNode number) = ⊥
 
--- And it is judged to be valid, of the type that the derivation concludes.
+-- And it is judged to be valid, at the type that the derivation concludes.
 abbrev pub WrittenCertificatesAreFoundValid : Type 0
 WrittenCertificatesAreFoundValid =
     (names : List (List ℕ)) (context : Context) (term : Term) (derivation : Derivation)
-    (binds : List CertificateBind) (stated : Term) (listing : List CertificateNode) (answer : Result Ty JudgeError)
+    (binds : List CertificateBind) (stated : Term) (listing : List CertificateNode) (answer : Judgement)
     → IsPresentableContext names context → IsPresentableTerm context term
     → IsValidTyping context term derivation → IsFinished derivation → nodes derivation ≤ 100000
     → IsCertificate (certificate_text names context term derivation) (parts_lines binds stated listing)
     → IsJudged (bound_context binds) stated listing answer
     → AnswersAs derivation answer
 
--- the answer is the type; want of memory says nothing
-abbrev pub AnswersType : CapturingType → Result Ty JudgeError → Type 0
-AnswersType wanted (Ok type) = type_of type ≡ wanted
-AnswersType wanted (Err NoMemory) = Unit {0}
-AnswersType wanted (Err (BadNode number)) = ⊥
+-- And its tree is read as the derivation.
+abbrev pub WrittenTreesAreReadBack : Type 0
+WrittenTreesAreReadBack =
+    (names : List (List ℕ)) (context : Context) (term : Term) (derivation : Derivation)
+    (binds : List CertificateBind) (stated : Term) (tree : NodeTree)
+    → IsPresentableContext names context → IsPresentableTerm context term
+    → IsValidTyping context term derivation → IsFinished derivation → nodes derivation ≤ 100000
+    → IsCertificate (certificate_text names context term derivation) (parts_lines binds stated (listed 0 tree))
+    → read_tree (length (bound_context binds)) (kinds_of (bound_context binds)) tree ≡ derivation
 
--- What is read back from the text of an accepted definition's canonical derivation is judged to have the type that
--- others see.
+-- What is read back from the text of an accepted definition's canonical derivation is judged to be valid, at the type
+-- that others see.
 abbrev pub CertificatesOfDefinitionsAreFoundValid : Type 0
 CertificatesOfDefinitionsAreFoundValid =
     (devices : ℕ) (globals : Context) (definition : Definition) (accepted : Accepted) (names : List (List ℕ))
-    (binds : List CertificateBind) (stated : Term) (listing : List CertificateNode) (answer : Result Ty JudgeError)
+    (binds : List CertificateBind) (stated : Term) (listing : List CertificateNode) (answer : Judgement)
     → Fits globals definition → HasVerdict devices globals definition (IsAccepted accepted)
     → IsWithinLimits names (definition_context globals definition accepted.signature) accepted
     → IsCertificate
@@ -124,4 +124,18 @@ CertificatesOfDefinitionsAreFoundValid =
     (accepted_derived (definition_context globals definition accepted.signature) accepted))
     (parts_lines binds stated listing)
     → IsJudged (bound_context binds) stated listing answer
-    → AnswersType accepted.signature answer
+    → answer ≡ IsValidAt accepted.signature
+
+-- And its tree is read as the canonical derivation.
+abbrev pub TreesOfDefinitionsAreReadBack : Type 0
+TreesOfDefinitionsAreReadBack =
+    (devices : ℕ) (globals : Context) (definition : Definition) (accepted : Accepted) (names : List (List ℕ))
+    (binds : List CertificateBind) (stated : Term) (tree : NodeTree)
+    → Fits globals definition → HasVerdict devices globals definition (IsAccepted accepted)
+    → IsWithinLimits names (definition_context globals definition accepted.signature) accepted
+    → IsCertificate
+    (certificate_text names (definition_context globals definition accepted.signature) accepted.filled
+    (accepted_derived (definition_context globals definition accepted.signature) accepted))
+    (parts_lines binds stated (listed 0 tree))
+    → read_tree (length (bound_context binds)) (kinds_of (bound_context binds)) tree
+    ≡ accepted_derived (definition_context globals definition accepted.signature) accepted

@@ -9,9 +9,16 @@ pub fn written_certificates_are_valid()
 {}
 
 /// What is read back from the text of a valid derivation has its context, its term and its nodes, and is judged to be
-/// valid, of the type that the derivation concludes; for an accepted definition this is the type that others see.
+/// valid, at the type that the derivation concludes; for an accepted definition this is the type that others see.
 pub fn what_is_read_back_is_valid()
     ensures parts { law.PartsAreReadBack }
     ensures judged { law.WrittenCertificatesAreFoundValid }
     ensures definitions { law.CertificatesOfDefinitionsAreFoundValid }
+{}
+
+/// The tree that is read back from the text of a valid derivation is the derivation; for an accepted definition this is
+/// its canonical derivation.
+pub fn trees_are_read_back()
+    ensures written { law.WrittenTreesAreReadBack }
+    ensures definitions { law.TreesOfDefinitionsAreReadBack }
 {}
