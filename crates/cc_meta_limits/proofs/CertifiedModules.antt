@@ -32,8 +32,8 @@ use Rattle.cc_meta_certificates.specs.CertificateLines.{concluded_lines}
 use Rattle.cc_meta_certificates.specs.DefinitionLaws.{IsWithinLimits}
 use Rattle.cc_meta_certificates.proofs.DefinitionCertificates.{accepted_certifiable, accepted_have_certificates, definitions_are_read_back}
 use Rattle.cc_meta_judging.specs.JudgedCertificates.{written_tree}
-use Rattle.cc_meta_judging.proofs.FoundValid.{definitions_found_valid}
-use Rattle.cc_meta_judging.proofs.ReadTrees.{written_nodes, judged_valid}
+use Rattle.cc_meta_judging.proofs.FoundValid.{definitions_found_valid, tree_of_definition_back}
+use Rattle.cc_meta_judging.proofs.ReadTrees.{written_nodes, derivations_back, judged_valid}
 use Rattle.cc_meta_judging.proofs.SameLines.{binds_in, bound_are_binds, context_of_binds}
 use Rattle.cc_meta_limits.specs.ModuleCertificates.{with_definitions, context_behind, names_behind, IsCertified, AreNamed, DefinitionsOfModulesAreCertified, DefinitionsOfPresentTextsAreCertified}
 use Rattle.cc_meta_limits.specs.ModuleLimits.{IsLowFinding}
@@ -89,13 +89,15 @@ certified_in devices globals d a names fits has low of named apart each few =
       read_back = λ lines h. definitions_are_read_back devices globals
           (to_be_checked d) a names lines fits has limits h;
       binds = binds_in names g;
-      listing = listed 0 (written_tree (length g) 0 tree);
+      tree = written_tree (length g) 0 tree;
       parts = λ i. Opens ∷ (bound_are_binds names g all i ++ States a.filled ∷ listed_are i);
       bound = context_of_binds names g all;
+      canonical = derivations_back g a.filled tree all can.context.formed can.term.formed can.valid can.done;
       valid =
-          λ type is.
-          judged_valid g a.filled tree type all can.context.formed can.term.formed can.valid can.done
-          (subst (λ t. Concludes tree (OfType t)) (sym is) can.concludes);
+          judged_valid g a.filled tree a.signature all can.context.formed can.term.formed can.valid can.done can.concludes;
+      tree_read_back =
+          λ binds stated other h.
+          tree_of_definition_back devices globals (to_be_checked d) a names binds stated other fits has limits h;
       judged =
           λ binds stated listing answer h k.
           definitions_found_valid devices globals (to_be_checked d) a names binds stated listing answer fits has limits

@@ -42,7 +42,7 @@ use Rattle.cc_meta_limits.specs.ModuleCertificates.{AreNamed}
 use Rattle.cc_meta_limits.specs.ModuleExamples.{ANumberIsCertified}
 use Rattle.cc_meta_limits.proofs.CertifiedModules.{modules_certified}
 
-abbrev globals : Context
+abbrev pub globals : Context
 globals = declared_context console
 
 -- def a = 1
@@ -72,7 +72,7 @@ one = record {
 }
 
 -- what it is accepted as
-abbrev accepted_of : Option definitions.Verdict → Accepted
+abbrev pub accepted_of : Option definitions.Verdict → Accepted
 accepted_of (Some (definitions.IsAccepted accepted)) = accepted
 accepted_of _ =
     record {
@@ -114,10 +114,10 @@ out_alone : IsDistinct bytes_eq (codes "out" ∷ [])
 unfolding IsDistinct
 out_alone = (tt, tt)
 
-console_named : AreNamed console
+pub console_named : AreNamed console
 console_named = record { named = (out_is_a_name, tt); apart = out_alone }
 
-no_imports : {o : Option (List ImportSyntax)} → o ≡ Some [] → 0 ≡ length (unwrap_or o [])
+pub no_imports : {o : Option (List ImportSyntax)} → o ≡ Some [] → 0 ≡ length (unwrap_or o [])
 no_imports e = ap (λ x. length (unwrap_or x [])) (sym e)
 
 pub a_number_is_certified : ANumberIsCertified

@@ -2,4 +2,5 @@ pub mod LimitLaws
 pub mod ModuleCertificates
 pub mod ModuleExamples
 pub mod ModuleLimits
+pub mod RuleExamples
 pub mod TextLimits

@@ -1,14 +1,13 @@
 -- Certificates of modules: what is written for a definition of an accepted module is a certificate, and is read back.
-use Rattle.std.specs.Prelude.{◌≡◌, ℕ, ◌≤◌, List, [], ◌∷◌, ◌++◌, map, reverse, Result, Ok, Some}
+use Rattle.std.specs.Prelude.{◌≡◌, ℕ, ◌≤◌, List, [], ◌∷◌, ◌++◌, length, map, reverse, Some}
 use Rattle.std.specs.Prelude.{if◌then◌else◌}
 use Rattle.std.specs.List.{AllByRecursion}
 use Rattle.cc_base.specs.Names.{IsName}
 use Rattle.cc_base.specs.declared.device.DeviceDecl.{DeviceDecl}
-use Rattle.cc_core.specs.declared.types.Ty.{Ty}
 use Rattle.cc_core.specs.Contexts.{Context, entry_of}
 use Rattle.cc_core.specs.Programs.{definition_context, own_context}
 use Rattle.cc_core.specs.Terms.{Term}
-use Rattle.cc_core.specs.Views.{type_of}
+use Rattle.cc_core.specs.WellFormed.{kinds_of}
 use Rattle.cc_grammar.specs.Syntax.{ImportSyntax}
 use Rattle.cc_job.specs.Jobs.{IsJob}
 use Rattle.cc_job.specs.declared.job.Job.{Job}
@@ -24,11 +23,10 @@ use Rattle.cc_meta_modules.specs.ModuleLaws.{NamesOfDevicesDiffer, AreFit, in_pr
 use Rattle.cc_meta_modules.specs.PresentTexts.{Texts, ArePresent, text_of, findings_for, AreVerdicts}
 use Rattle.cc_certificate.specs.Certificates.{certificate_text}
 use Rattle.cc_certificate_text.specs.Certificates.{Line, CertificateNode, IsCertificate}
-use Rattle.cc_certificate_judging.specs.Judging.{IsJudged}
-use Rattle.cc_certificate_judging.specs.declared.error.JudgeError.{JudgeError}
+use Rattle.cc_certificate_judging.specs.Judging.{NodeTree, listed, read_tree, Judgement, IsValidAt, IsJudged}
 use Rattle.cc_meta_certificates.specs.CertificateLines.{lines_of}
 use Rattle.cc_meta_limits.specs.ModuleLimits.{IsLowFinding}
-use Rattle.cc_meta_judging.specs.JudgedCertificates.{CertificateBind, parts_lines, bound_context, AnswersType}
+use Rattle.cc_meta_judging.specs.JudgedCertificates.{CertificateBind, parts_lines, bound_context}
 
 -- the context with the signatures of definitions, in order
 abbrev pub with_definitions : Context → List CheckedDefinition → Context
@@ -69,22 +67,27 @@ abbrev pub definition_lines : List (List ℕ) → Context → Accepted → List 
 definition_lines names context accepted = lines_of names context accepted.filled (accepted_derived context accepted)
 
 -- The certificate of the definition is right: it is one, with the lines of its canonical derivation and with no others.
--- These bind the context, state the filled right side and list nodes, which are judged to have the signature's type;
--- and so is whatever is read back from the text.
+-- These bind the context, state the filled right side and list the nodes of a tree, which is read as the canonical
+-- derivation, and which is judged to be valid at the signature. So it is with whatever is read back from the text.
 pub record IsCertified (names : List (List ℕ)) (context : Context) (accepted : Accepted) : Type 0 where
   pub written : IsCertificate (definition_certificate names context accepted) (definition_lines names context accepted)
   pub read_back : (lines : List Line) → IsCertificate (definition_certificate names context accepted) lines
       → lines ≡ definition_lines names context accepted
   pub binds : List CertificateBind
-  pub listing : List CertificateNode
-  pub parts : definition_lines names context accepted ≡ parts_lines binds accepted.filled listing
+  pub tree : NodeTree
+  pub parts : definition_lines names context accepted ≡ parts_lines binds accepted.filled (listed 0 tree)
   pub bound : bound_context binds ≡ context
-  pub valid : (type : Ty) → type_of type ≡ accepted.signature → IsJudged context accepted.filled listing (Ok type)
+  pub canonical : read_tree (length context) (kinds_of context) tree ≡ accepted_derived context accepted
+  pub valid : IsJudged context accepted.filled (listed 0 tree) (IsValidAt accepted.signature)
+  pub tree_read_back :
+      (others : List CertificateBind) (stated : Term) (other : NodeTree)
+      → IsCertificate (definition_certificate names context accepted) (parts_lines others stated (listed 0 other))
+      → read_tree (length (bound_context others)) (kinds_of (bound_context others)) other
+      ≡ accepted_derived context accepted
   pub judged :
-      (others : List CertificateBind) (stated : Term) (others_listed : List CertificateNode)
-      (answer : Result Ty JudgeError)
-      → IsCertificate (definition_certificate names context accepted) (parts_lines others stated others_listed)
-      → IsJudged (bound_context others) stated others_listed answer → AnswersType accepted.signature answer
+      (others : List CertificateBind) (stated : Term) (listing : List CertificateNode) (answer : Judgement)
+      → IsCertificate (definition_certificate names context accepted) (parts_lines others stated listing)
+      → IsJudged (bound_context others) stated listing answer → answer ≡ IsValidAt accepted.signature
 
 -- The definition stands behind these in an accepted module with these imports, for which this is found.
 pub record StandsInModule (devices : List DeviceDecl) (imports : List ImportSyntax) (findings : List Finding)

@@ -3,6 +3,7 @@ ghost use Rattle.cc_meta_limits.specs.LimitLaws as law;
 ghost use Rattle.cc_meta_limits.specs.ModuleCertificates as certificate_law;
 ghost use Rattle.cc_meta_limits.specs.ModuleExamples as example;
 ghost use Rattle.cc_meta_limits.specs.ModuleLimits as module_law;
+ghost use Rattle.cc_meta_limits.specs.RuleExamples as rule_example;
 ghost use Rattle.cc_meta_limits.specs.TextLimits as text_law;
 
 /// The canonical derivation of an accepted low definition is low, as are its context and its right side, and the type
@@ -39,4 +40,10 @@ pub fn modules_have_certificates()
 /// A text whose definition has a right certificate.
 pub fn worked_certificate()
     ensures { example.ANumberIsCertified }
+{}
+
+/// Two texts whose certificates have a node of each rule, with their lines.
+pub fn every_rule_is_written()
+    ensures generic { rule_example.GenericIsWritten }
+    ensures control { rule_example.ControlIsWritten }
 {}
