@@ -16,3 +16,4 @@ mod SureModules
 mod CompleteModules
 pub mod Readings
 pub mod Rooms
+mod InnermostSets

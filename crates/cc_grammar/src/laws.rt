@@ -6,6 +6,7 @@ ghost use Rattle.cc_grammar.specs.Laws.{
   ModulesHaveOneTree,
   LowModulesAreRead,
   HighModulesAreTooHigh,
+  SetsBelongToInnermostTypes,
 };
 
 /// The reading that is computed of a list of tokens is one that it has: its tree, the place of its syntax error, or the
@@ -36,4 +37,9 @@ pub fn low_modules_are_read()
 /// A module with a tree that is too high is read as too high.
 pub fn high_modules_are_too_high()
     ensures { HighModulesAreTooHigh }
+{}
+
+/// A set behind a shape belongs to the innermost type that ends there and has none.
+pub fn sets_belong_to_innermost_types()
+    ensures { SetsBelongToInnermostTypes }
 {}
