@@ -1,4 +1,3 @@
-pub mod WorkedTexts
 mod Uniform
 mod UniformReaders
 mod Sure

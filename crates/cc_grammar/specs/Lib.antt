@@ -4,4 +4,3 @@ pub mod Reads
 pub mod Tests
 pub mod Reading
 pub mod Laws
-pub mod Examples

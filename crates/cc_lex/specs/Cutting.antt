@@ -230,13 +230,14 @@ spanned_front front = (spanned_of front.0, front.1.characters)
 abbrev pub joined : List SpannedLexeme → Cutting → Cutting
 joined ts found = record { tokens = ts ++ found.tokens; extent = found.extent }
 
--- What begins with c is found at this place and offset, where the tokens ts were found before it. The answer is the size
--- of what more of cs belongs to it, all in one line, and us are the tokens with it; or no token begins here. Of an answer
--- for want of memory nothing is said.
+-- What begins with c is found at this place and offset, where the tokens ts were found before it. The answer is the
+-- size of what more of cs belongs to it, all in one line, and us are the tokens with it; or no token begins here. Of an
+-- answer for want of memory nothing is said.
 abbrev pub FindsFront : Place → ℕ → ℕ → List ℕ → List SpannedLexeme → Result Size LexError → List SpannedLexeme → Type 0
 FindsFront p o c cs ts (Ok more) us =
     (more ≡ size_of (take more.characters cs)) × IsTrue (list_all stays_in_line (take more.characters cs))
-    × (joined ts (cut 0 p o (c ∷ cs)) ≡ joined us (cut more.characters (place_after p c) (o + length (encode_utf8 c)) cs))
+    × (joined ts (cut 0 p o (c ∷ cs))
+    ≡ joined us (cut more.characters (place_after p c) (o + length (encode_utf8 c)) cs))
 FindsFront p o c cs ts (Err (Refused diag)) us = (diag ≡ no_token p) × (cut 0 p o (c ∷ cs) ≡ stop p)
 FindsFront p o c cs ts (Err NoMemory) us = Unit {0}
 

@@ -28,7 +28,8 @@ pub fn is_white(character: char) -> bool
     character == ' ' || character == '\t' || character == '\r' || character == '\n'
 }
 
-/// The size of what follows the first character of the white space or the comment at the front of a text, if there is one.
+/// The size of what follows the first character of the white space or the comment at the front of a text, if there is
+/// one.
 #[tactic(auto, unfolding(crate::specs::Cutting::blank_of))]
 #[inline]
 pub fn blank_of(first: char, after: &str) -> Option<Size>

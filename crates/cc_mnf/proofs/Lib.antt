@@ -12,4 +12,3 @@ pub mod ScopeFacts
 pub mod SecondNames
 pub mod StepEquations
 pub mod StepFacts
-pub mod WorkedElaborations

@@ -3,9 +3,6 @@ pub mod ElaboratedModules
 pub mod ElaboratedTypes
 pub mod Elaboration
 pub mod ElaborationLaws
-pub mod ExampleElaborations
-pub mod ExampleRefusals
-pub mod Examples
 pub mod Holes
 pub mod Layout
 pub mod NameLaws

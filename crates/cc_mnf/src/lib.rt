@@ -3,7 +3,6 @@
 
 pub mod elaborate;
 pub mod error;
-pub mod examples;
 mod exprs;
 pub mod laws;
 mod names;
