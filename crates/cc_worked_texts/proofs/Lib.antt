@@ -1,0 +1,9 @@
+pub mod ComputedModules
+pub mod QuickTokens
+pub mod WorkedAcceptedTexts
+pub mod WorkedGrammarVerdicts
+pub mod WorkedNameVerdicts
+pub mod WorkedNamedOperands
+pub mod WorkedRefusalOrders
+pub mod WorkedRefusalPlaces
+pub mod WorkedTokenVerdicts

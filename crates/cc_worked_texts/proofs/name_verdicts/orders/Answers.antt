@@ -1,0 +1,5 @@
+use Rattle.cc_worked_texts.proofs.WorkedNameVerdicts as worked
+use Rattle.cc_worked_texts.proofs.name_verdicts.orders.Goals as goal
+
+pub returns : goal.returns
+returns c = worked.orders

@@ -1,0 +1,5 @@
+use Rattle.cc_worked_texts.proofs.WorkedRefusalOrders as worked
+use Rattle.cc_worked_texts.proofs.refusal_orders.parts.Goals as goal
+
+pub returns : goal.returns
+returns c = worked.parts

@@ -1,0 +1,5 @@
+use Rattle.cc_worked_texts.proofs.WorkedRefusalPlaces as worked
+use Rattle.cc_worked_texts.proofs.refusal_places.lets.Goals as goal
+
+pub returns : goal.returns
+returns c = worked.lets

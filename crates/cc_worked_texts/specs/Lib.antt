@@ -1,0 +1,9 @@
+pub mod AcceptedTexts
+pub mod GrammarVerdicts
+pub mod NameVerdicts
+pub mod NamedOperands
+pub mod RefusalOrders
+pub mod RefusalPlaces
+pub mod TextMeanings
+pub mod TextVerdicts
+pub mod TokenVerdicts
