@@ -25,7 +25,7 @@ use Rattle.cc_replies.specs.Outputs.{IsOutput}
 use Rattle.cc_replies.specs.Replies.{Request, Replies, PutText, DropModule, CheckModules, ShowSignature, after}
 use Rattle.cc_replies.specs.ReplyTexts.{reply_text, is_refusal}
 use Rattle.cc_replies.specs.StaleModules.{FindsStale, AreStale}
-use Rattle.cc_session.specs.Sessions.{SessionState, last_of}
+use Rattle.cc_session.specs.Sessions.{SessionState}
 use Rattle.capc.specs.Carried.{IsReplied, Changes, Judges, AreAnswered}
 use Rattle.capc.specs.Requests.{request_of}
 use Rattle.capc.proofs.OutputFronts.{Appends-both, WritesWhole-first, WritesWhole-second, WritesWhole-none}
@@ -55,14 +55,14 @@ pub record Stands (devices : List DeviceDecl) (texts : Texts) (last : List Judge
   pub output : (text : List ℕ) (later : Bool) → IsOutput devices session.present left text later → IsOutput devices texts all (done ++ text) (refused || later)
   pub judged : ℕ
   pub few : counted ≤ steps + judged
-  pub stale : (sum : ℕ) → AreStale devices session.present (last_of session) left sum → AreStale devices texts last all (judged + sum)
+  pub stale : (sum : ℕ) → AreStale devices session.present session.last left sum → AreStale devices texts last all (judged + sum)
 
 pub Appends-nothing : (old : Option (List ℕ)) → Appends old old []
 Appends-nothing None = tt
 Appends-nothing (Some xs) = sym (append-nil xs)
 
 pub stands_first : (session : SessionState) (all : List Request) (written : Option (List ℕ)) (steps : ℕ) → ArePresent session.present
-    → Stands session.devices session.present (last_of session) all written steps session all written steps false
+    → Stands session.devices session.present session.last all written steps session all written steps false
 stands_first session all written steps sorted = record {
   devices_same = refl;
   present = sorted;
@@ -71,7 +71,7 @@ stands_first session all written steps sorted = record {
   output = λ text later is. is;
   judged = 0;
   few = omega arith;
-  stale = λ sum are. subst (AreStale session.devices session.present (last_of session) all) (omega arith) are;
+  stale = λ sum are. subst (AreStale session.devices session.present session.last all) (omega arith) are;
 }
 
 grouped : (a b c : Bool) → ((a || b) || c) ≡ (a || (b || c))
@@ -109,7 +109,7 @@ module _ (devices : List DeviceDecl) (texts : Texts) (last : List Judgement) (al
     judged = stands.judged + judges.count;
     few = omega (arith, stands.few, judges.few);
     stale = λ sum are.
-        (let finds = subst (λ ds. FindsStale ds session.present (last_of session) request judges.count judges.next) stands.devices_same judges.stale in
+        (let finds = subst (λ ds. FindsStale ds session.present session.last request judges.count judges.next) stands.devices_same judges.stale in
         let at = subst (λ ts. AreStale devices ts judges.next left sum) changes.present (subst (λ js. AreStale devices next.present js left sum) judges.last are) in
         subst (AreStale devices texts last all) (omega arith)
         (stands.stale (judges.count + sum) (judges.count, judges.next, sum, finds, at, refl)));
@@ -128,7 +128,7 @@ module _ (devices : List DeviceDecl) (texts : Texts) (last : List Judgement) (al
       let (text, later, is) = outputs_exist present_verdicts_exist devices (after session.present request) left differ sorted in
       let (sum, are) = stale_exist present_verdicts_exist devices (after session.present request) judges.next left differ sorted in
       let replies = subst (λ ds. Replies ds session.present request replied.reply) stands.devices_same replied.replies in
-      let finds = subst (λ ds. FindsStale ds session.present (last_of session) request judges.count judges.next) stands.devices_same judges.stale in
+      let finds = subst (λ ds. FindsStale ds session.present session.last request judges.count judges.next) stands.devices_same judges.stale in
       record {
         text = stands.done ++ (reply ++ text);
         refused = refused || (is_refusal replied.reply || later);

@@ -19,7 +19,7 @@ use Rattle.cc_replies.proofs.ReplyLaws.{replies_exist}
 use Rattle.cc_replies.specs.Replies.{Request, Replies, PutText, DropModule, CheckModules, ShowSignature, put_reply, after}
 use Rattle.cc_replies.specs.ReplyTexts.{Reply, reply_text, is_refusal}
 use Rattle.cc_replies.specs.StaleModules.{Checks}
-use Rattle.cc_session.specs.Sessions.{SessionState, last_of, IsUpToDate}
+use Rattle.cc_session.specs.Sessions.{SessionState, IsUpToDate}
 use Rattle.capc.specs.Carried.{IsReplied, Changes, Judges}
 use Rattle.capc.proofs.OutputFronts.{WritesWhole-none}
 use Rattle.capc.proofs.SessionReplies.{put_after}
@@ -69,36 +69,36 @@ module _ (old new : SessionState) (devices : new.devices ≡ old.devices) where
       (subst (λ ds. IsReplied ds new.present request before behind result) devices is)
 
 -- a put and a drop judge nothing
-pub put_judges : (old new : SessionState) (name text : List ℕ) (steps : ℕ) (result : Result Bool WriteAll) → last_of new ≡ last_of old
+pub put_judges : (old new : SessionState) (name text : List ℕ) (steps : ℕ) (result : Result Bool WriteAll) → new.last ≡ old.last
     → Judges old new (PutText name text) steps steps result
 put_judges old new name text steps result last =
-    record { count = 0; next = last_of old; stale = (refl, refl); few = omega arith; last = if_ok result last }
+    record { count = 0; next = old.last; stale = (refl, refl); few = omega arith; last = if_ok result last }
 
-pub drop_judges : (old new : SessionState) (name : List ℕ) (steps : ℕ) (result : Result Bool WriteAll) → last_of new ≡ last_of old
+pub drop_judges : (old new : SessionState) (name : List ℕ) (steps : ℕ) (result : Result Bool WriteAll) → new.last ≡ old.last
     → Judges old new (DropModule name) steps steps result
 drop_judges old new name steps result last =
-    record { count = 0; next = last_of old; stale = (refl, refl); few = omega arith; last = if_ok result last }
+    record { count = 0; next = old.last; stale = (refl, refl); few = omega arith; last = if_ok result last }
 
 -- how many steps a check of a session takes at most
 abbrev pub CountsStale : SessionState → ℕ → ℕ → Type 0
 CountsStale old before behind =
     (verdicts : List ℕ → ModuleVerdict) → AreVerdicts old.devices old.present verdicts
-    → behind ≤ before + stale_count (last_of old) old.present verdicts
+    → behind ≤ before + stale_count old.last old.present verdicts
 
 -- what a check found
 record Checked (old new : SessionState) (before behind : ℕ) (result : Result Bool WriteAll) : Type 0 where
   count : ℕ
   next : List Judgement
-  checks : Checks old.devices old.present (last_of old) count next
+  checks : Checks old.devices old.present old.last count next
   few : behind ≤ before + count
-  last : IfOk result (λ _. last_of new ≡ next)
+  last : IfOk result (λ _. new.last ≡ next)
 
 checked : (old new : SessionState) (before behind : ℕ) (result : Result Bool WriteAll) → new.devices ≡ old.devices → new.present ≡ old.present
     → IsUpToDate new → CountsStale old before behind → Checked old new before behind result
 checked old new before behind result devices present current counts =
-    let at = subst (λ ts. AreCurrent old.devices ts (last_of new)) present (subst (λ ds. AreCurrent ds new.present (last_of new)) devices current) in
+    let at = subst (λ ts. AreCurrent old.devices ts new.last) present (subst (λ ds. AreCurrent ds new.present new.last) devices current) in
     record {
-      count = stale_count (last_of old) old.present at.0;
+      count = stale_count old.last old.present at.0;
       next = judgements old.present at.0;
       checks = (at.0, at.1, refl, refl);
       few = counts at.0 at.1;
@@ -110,7 +110,7 @@ checked_in_part : (old new : SessionState) (before behind : ℕ) (error : WriteA
 checked_in_part old new before behind error differ sorted counts =
     let (verdicts, are) = present_verdicts_exist old.devices old.present differ sorted in
     record {
-      count = stale_count (last_of old) old.present verdicts;
+      count = stale_count old.last old.present verdicts;
       next = judgements old.present verdicts;
       checks = (verdicts, are, refl, refl);
       few = counts verdicts are;

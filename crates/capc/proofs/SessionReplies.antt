@@ -11,15 +11,11 @@ use Rattle.std.proofs.lemmas.Slice.Eq.{bytes_eq-Decides}
 use Rattle.cc_base.specs.declared.code.Code.{Code}
 use Rattle.cc_base.specs.declared.code.Code.TheVariants.{E30, E31, E32, E34}
 use Rattle.cc_graph.specs.Graph.{compare_names}
-use Rattle.cc_judge.specs.declared.grounds.Grounds.{Grounds}
-use Rattle.cc_judge.specs.Judgements.{Judgement, judgement_in, judgements}
-use Rattle.cc_judge.specs.Kept.{judged_on, judgements_from}
+use Rattle.cc_judge.specs.Judgements.{Judgement, verdicts_of, judgement_in, judgements}
 use Rattle.cc_meta_modules.specs.ModuleVerdicts.{CheckedDefinition, ModuleVerdict, IsAccepted, IsRefused}
 use Rattle.cc_meta_modules.specs.PresentTexts.{Texts, text_of}
-use Rattle.cc_module.specs.declared.judgement.ModuleVerdict.{ModuleVerdict as DeclaredVerdict}
 use Rattle.cc_replies.specs.Replies.{PutText, DropModule, other_modules, put_reply, drop_reply, check_reply, definitions_reply, signature_reply, after}
 use Rattle.cc_replies.specs.ReplyTexts.{Reply, PutDone, PutRefused, DropDone, DropRefused, Verdicts, Signatures, SignaturesRefused, is_refusal}
-use Rattle.cc_replies.specs.SessionVerdicts.{named_verdicts}
 use Rattle.cc_session.specs.declared.refusals.PutRefused.{PutRefused as PutRefusal}
 use Rattle.cc_session.specs.Signatures.{verdict_named, definitions_of, definitions_or, signature_of}
 
@@ -88,27 +84,15 @@ remove_absent (one ∷ others) name none = at (bytes_eq name one.0) none (remove
     at true e more = cc
     at false e more = ap (λ it. one ∷ it) (more e)
 
--- the name of a judgement and its verdict
-abbrev shown : Judgement → List ℕ × ModuleVerdict
-shown one = (one.name, one.verdict)
-
-shown_from : (verdicts : List (List ℕ × DeclaredVerdict)) (grounds : List Grounds) → length grounds ≡ length verdicts
-    → map shown (judgements_from verdicts grounds) ≡ named_verdicts verdicts
-shown_from [] grounds e = refl
-shown_from (entry ∷ verdicts) [] e = absurd (omega arith)
-shown_from (entry ∷ verdicts) (first ∷ grounds) e = ap (λ it. shown (judged_on entry first) ∷ it) (shown_from verdicts grounds (omega arith))
-
 shown_in : (texts : Texts) (verdicts : List ℕ → ModuleVerdict) (some : Texts)
-    → map shown (map (judgement_in texts verdicts) some) ≡ map (λ one. (one.0, verdicts one.0)) some
+    → verdicts_of (map (judgement_in texts verdicts) some) ≡ map (λ one. (one.0, verdicts one.0)) some
 shown_in texts verdicts [] = refl
 shown_in texts verdicts (one ∷ others) = ap (λ it. (one.0, verdicts one.0) ∷ it) (shown_in texts verdicts others)
 
--- the verdicts that are kept of the present modules are the reply to a check
-pub check_is : (texts : Texts) (all : List ℕ → ModuleVerdict) (verdicts : List (List ℕ × DeclaredVerdict)) (grounds : List Grounds)
-    → length grounds ≡ length verdicts → judgements_from verdicts grounds ≡ judgements texts all
-    → Verdicts (named_verdicts verdicts) ≡ check_reply texts all
-check_is texts all verdicts grounds each same =
-    ap Verdicts (sym (shown_from verdicts grounds each) ∙ ap (map shown) same ∙ shown_in texts all texts)
+-- the verdicts of the present modules are the reply to a check
+pub check_is : (texts : Texts) (all : List ℕ → ModuleVerdict) (last : List Judgement) (verdicts : List (List ℕ × ModuleVerdict))
+    → verdicts ≡ verdicts_of last → last ≡ judgements texts all → Verdicts verdicts ≡ check_reply texts all
+check_is texts all last verdicts shown same = ap Verdicts (shown ∙ ap verdicts_of same ∙ shown_in texts all texts)
 
 -- what is judged of a name is the verdict of the module, if it is present
 abbrev verdict_or : Option (List ℕ) → ModuleVerdict → Option ModuleVerdict

@@ -10,7 +10,7 @@ use Rattle.cc_replies.specs.Outputs.{IsOutput}
 use Rattle.cc_replies.specs.Replies.{Request, Replies, after}
 use Rattle.cc_replies.specs.ReplyTexts.{Reply, reply_text, is_refusal}
 use Rattle.cc_replies.specs.StaleModules.{FindsStale, AreStale}
-use Rattle.cc_session.specs.Sessions.{SessionState, last_of}
+use Rattle.cc_session.specs.Sessions.{SessionState}
 
 -- the reply to a request on these texts was written, or a front of it; it is told whether it is a refusal
 pub record IsReplied (devices : List DeviceDecl) (texts : Texts) (request : Request) (old new : Option (List ℕ))
@@ -30,9 +30,9 @@ pub record Judges (old new : SessionState) (request : Request) (before behind : 
     Type 0 where
   pub count : ℕ
   pub next : List Judgement
-  pub stale : FindsStale old.devices old.present (last_of old) request count next
+  pub stale : FindsStale old.devices old.present old.last request count next
   pub few : behind ≤ before + count
-  pub last : IfOk result (λ _. last_of new ≡ next)
+  pub last : IfOk result (λ _. new.last ≡ next)
 
 -- what was written for requests, where these texts are present before the first, and how many steps were counted
 pub record AreAnswered (devices : List DeviceDecl) (texts : Texts) (last : List Judgement) (requests : List Request)

@@ -8,7 +8,6 @@ ghost use Rattle.cc_meta_modules.specs.ModuleLaws.{NamesOfDevicesDiffer};
 ghost use Rattle.cc_meta_modules.specs.PresentTexts.{ArePresent};
 ghost use Rattle.cc_mnf.specs.CoreModules.{device_names};
 ghost use Rattle.cc_replies.specs.Replies.{PutText, DropModule, CheckModules, ShowSignature};
-ghost use Rattle.cc_session.specs.Sessions.{last_of};
 ghost use Rattle.capc.specs.Carried.{IsReplied, Changes, Judges, AreAnswered};
 ghost use Rattle.capc.specs.Requests.{request_of, requests_of};
 
@@ -42,7 +41,7 @@ fn put_copy<K: Sink>(
     ensures replied { IsReplied session.old.devices session.old.present (PutText name.now text.items)
         (K.written sink.old) (K.written sink.new) result }
     ensures changes { Changes session.old session.new (PutText name.now text.items) result }
-    ensures last { last_of session.new ≡ last_of session.old }
+    ensures last { session.new.last ≡ session.old.last }
     ensures cause { WriteAllCause (K.faults sink.old) (K.faults sink.new) result }
 {
     match session.put(key, text) {
@@ -65,7 +64,7 @@ fn put_module<K: Sink>(
     ensures replied { IsReplied session.old.devices session.old.present (PutText name.now text.now)
         (K.written sink.old) (K.written sink.new) result }
     ensures changes { Changes session.old session.new (PutText name.now text.now) result }
-    ensures last { last_of session.new ≡ last_of session.old }
+    ensures last { session.new.last ≡ session.old.last }
     ensures cause { WriteAllCause (K.faults sink.old) (K.faults sink.new) result }
 {
     let Ok(key) = name.clone() else {
@@ -88,7 +87,7 @@ fn drop_module<K: Sink>(
     ensures replied { IsReplied session.old.devices session.old.present (DropModule name.now)
         (K.written sink.old) (K.written sink.new) result }
     ensures changes { Changes session.old session.new (DropModule name.now) result }
-    ensures last { last_of session.new ≡ last_of session.old }
+    ensures last { session.new.last ≡ session.old.last }
     ensures cause { WriteAllCause (K.faults sink.old) (K.faults sink.new) result }
 {
     match session.remove(name) {
@@ -232,7 +231,7 @@ fn answer_all<K: Sink, L: Ledger>(
     requires present { ArePresent session.old.present }
     requires names { (names.now.names.items ≡ device_names session.old.devices) × (names.now.locals ≡ 0) }
     ensures answered { AreAnswered session.old.devices session.old.present
-        (last_of session.old) (filter_map request_of commands.now)
+        session.old.last (filter_map request_of commands.now)
         (K.written sink.old) (K.written sink.new) steps.old steps.new result }
     ensures cause { WriteAllCause (K.faults sink.old) (K.faults sink.new) result }
 {

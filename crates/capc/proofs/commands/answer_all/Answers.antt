@@ -2,7 +2,6 @@ use Rattle.std.proofs.Common.{List, [], refl, ap, ◌∙◌, subst}
 use Rattle.std.proofs.lemmas.List.{drop_all}
 use Rattle.std.proofs.lemmas.Result.{err_from_is_err_and}
 use Rattle.cc_replies.specs.Replies.{Request}
-use Rattle.cc_session.specs.Sessions.{last_of}
 use Rattle.capc.proofs.Answering.{asked, Stands, stands_first, stands_last, next, turn_more, turn_stopped}
 use Rattle.capc.proofs.commands.answer_all.Goals as goal
 
@@ -20,7 +19,7 @@ returns-in_err-later-clause-answered g c =
     let loop = c.loop-command in
     let at = next c.args.commands.now loop.command-index c.command-item.result c.loop-command-test.true c.command-item.is loop.invariant.built in
     rw (error.1, error.2)
-    (turn_stopped old.devices old.present (last_of old) c.args.commands.now (g.K.Sink.written c.args.sink.now) c.args.steps.now loop.session
+    (turn_stopped old.devices old.present old.last c.args.commands.now (g.K.Sink.written c.args.sink.now) c.args.steps.now loop.session
     loop.command-index c.command-item.result (g.K.Sink.written loop.sink) loop.steps loop.refused loop.invariant.stands at c.answer.new.session
     (g.K.Sink.written c.answer.new.sink) c.answer.new.steps c.requires.differ c.in_err-later.field-0.0 c.in_err-later.ensures.replied
     c.in_err-later.ensures.judges)
@@ -31,7 +30,7 @@ loop-command-preserved g c =
     let loop = c.loop-command in
     let at = next c.args.commands.now loop.command-index c.command-item.result c.loop-command-test.true c.command-item.is loop.invariant.built in
     record {
-      stands = turn_more old.devices old.present (last_of old) c.args.commands.now (g.K.Sink.written c.args.sink.now) c.args.steps.now loop.session
+      stands = turn_more old.devices old.present old.last c.args.commands.now (g.K.Sink.written c.args.sink.now) c.args.steps.now loop.session
           loop.command-index c.command-item.result (g.K.Sink.written loop.sink) loop.steps loop.refused loop.invariant.stands at c.answer.new.session
           (g.K.Sink.written c.answer.new.sink) c.answer.new.steps c.in_ok-later.later c.in_ok-later.ensures.replied c.in_ok-later.ensures.changes
           c.in_ok-later.ensures.judges c.either-refused.result c.either-refused.ensures;
@@ -43,8 +42,8 @@ pub returns-clause-answered : goal.returns-clause-answered
 returns-clause-answered g c =
     let old = c.args.session.now in
     let loop = c.loop-command in
-    let P : List Request → Type 0 = λ rs. Stands old.devices old.present (last_of old) (asked c.args.commands.now) (g.K.Sink.written c.args.sink.now)
+    let P : List Request → Type 0 = λ rs. Stands old.devices old.present old.last (asked c.args.commands.now) (g.K.Sink.written c.args.sink.now)
     c.args.steps.now loop.session rs (g.K.Sink.written loop.sink) loop.steps loop.refused in
-    stands_last old.devices old.present (last_of old) (asked c.args.commands.now) (g.K.Sink.written c.args.sink.now) c.args.steps.now loop.session
+    stands_last old.devices old.present old.last (asked c.args.commands.now) (g.K.Sink.written c.args.sink.now) c.args.steps.now loop.session
     (g.K.Sink.written loop.sink) loop.steps loop.refused
     (subst P (ap asked (drop_all loop.command-index c.args.commands.now c.loop-command-test.false)) loop.invariant.stands)

@@ -4,7 +4,6 @@ use Rattle.cc_mnf.specs.CoreModules.{device_names}
 use Rattle.cc_module.specs.Judgements.{checked_definition_of}
 use Rattle.cc_replies.specs.Replies.{ShowSignature}
 use Rattle.cc_replies.specs.ReplyTexts.{Signatures, SignaturesRefused, reply_text}
-use Rattle.cc_session.specs.Sessions.{last_of}
 use Rattle.capc.proofs.CommandFacts.{replied}
 use Rattle.capc.proofs.SessionReplies.{signature_is}
 use Rattle.capc.proofs.commands.show_definitions.Goals as goal
@@ -14,7 +13,7 @@ returns-in-Ok-clause-replied g c =
     let session = c.args.session.now in
     let current = c.sig.ensures.current in
     let definitions = map checked_definition_of c.in-Ok.defs.now in
-    let is = signature_is session.present current.0 (last_of session) c.args.name.now (Ok definitions) current.2 c.in-Ok.ensures.answer in
+    let is = signature_is session.present current.0 session.last c.args.name.now (Ok definitions) current.2 c.in-Ok.ensures.answer in
     replied session.devices session.present (ShowSignature c.args.name.now) (Signatures c.args.name.now definitions) (current.0, current.1, is)
     (g.K.Sink.written c.args.sink.now) (g.K.Sink.written c.write_reply.new.sink) c.write_reply.result
     (subst (λ ns. WritesWhole (g.K.Sink.written c.args.sink.now) (g.K.Sink.written c.write_reply.new.sink) c.write_reply.result (reply_text ns (Signatures c.args.name.now definitions))) c.requires.names.0
@@ -25,7 +24,7 @@ pub returns-in-Err-clause-replied : goal.returns-in-Err-clause-replied
 returns-in-Err-clause-replied g c =
     let session = c.args.session.now in
     let current = c.sig.ensures.current in
-    let is = signature_is session.present current.0 (last_of session) c.args.name.now (Err c.in-Err.refused.code) current.2 c.in-Err.ensures.answer in
+    let is = signature_is session.present current.0 session.last c.args.name.now (Err c.in-Err.refused.code) current.2 c.in-Err.ensures.answer in
     replied session.devices session.present (ShowSignature c.args.name.now) (SignaturesRefused c.args.name.now c.in-Err.refused.code) (current.0, current.1, is)
     (g.K.Sink.written c.args.sink.now) (g.K.Sink.written c.write_reply-in-Err.new.sink) c.write_reply-in-Err.result
     (c.write_reply-in-Err.ensures.written (reply_text (device_names session.devices) (SignaturesRefused c.args.name.now c.in-Err.refused.code)) c.sig_refusal.ensures)
