@@ -1,8 +1,7 @@
 -- Names that are entered into tables.
-use Rattle.std.proofs.Common.{◌≡◌, ◌<◌, ◌≤◌, ◌+◌, arith, ℕ, true, false, Bool, List, [], ◌∷◌, ◌++◌, map, length, take, get_or, Option, Some, None, refl, sym, ap, ◌∙◌}
+use Rattle.std.proofs.Common.{◌≡◌, ◌<◌, ◌+◌, ℕ, true, false, Bool, List, ◌∷◌, map, length, take, get_or, Option, Some, refl, sym, ap, ◌∙◌}
 use Rattle.std.specs.Prelude.{reverse, if◌then◌else◌}
 use Rattle.std.specs.Str.{bytes_eq}
-use Rattle.cc_core.specs.Programs.{Definition}
 use Rattle.cc_link.specs.declared.table.DefinitionTable.{DefinitionTable}
 use Rattle.cc_link.specs.Linking.{definition_of}
 use Rattle.cc_link.specs.Tables.{definition_position, position_found}

@@ -1,5 +1,5 @@
 -- Entries that are linked module by module, and their programs.
-use Rattle.std.proofs.Common.{◌≡◌, ◌<◌, ◌≤◌, ◌+◌, arith, ℕ, suc, List, [], ◌∷◌, ◌++◌, map, take, length, get_or, Option, None, refl, sym, ap, ◌∙◌, subst, append_assoc}
+use Rattle.std.proofs.Common.{◌≡◌, ◌<◌, ◌≤◌, ◌+◌, arith, ℕ, List, [], ◌∷◌, ◌++◌, map, take, length, get_or, None, refl, sym, ap, ◌∙◌, subst, append_assoc}
 use Rattle.std.proofs.Math.Logic.{∥∥₁_elim}
 use Rattle.std.proofs.lemmas.List.{take-map, take_all, length-map}
 use Rattle.std.specs.Prelude.{reverse, if◌then◌else◌}
@@ -28,7 +28,7 @@ use Rattle.cc_link.specs.Linking.{ArePositions, IsLinked, modules_before}
 use Rattle.cc_link.specs.Tables.{definition_position, module_position}
 use Rattle.cc_link.proofs.Placements.{items_more, turned_more}
 use Rattle.cc_link.proofs.LinkedValues.{module_cells, IsFormed, IsFormed-prop, module_formed}
-use Rattle.cc_meta_runs.specs.Links.{count_definitions, position_among, linked_position, linked_cell, device_cells, linked_store, linked_context, entry_store, entry_context, entry_position, program_start as linked_start}
+use Rattle.cc_meta_runs.specs.Links.{count_definitions, position_among, linked_position, linked_cell, device_cells, linked_store, entry_store, entry_context, entry_position, program_start as linked_start}
 use Rattle.cc_meta_runs.specs.Machine.{configured}
 use Rattle.cc_meta_runs.proofs.LinkedPrograms.{linked_store_length, program_stored, program_typed}
 use Rattle.cc_program.specs.declared.values.TypedValue.{TypedValue}

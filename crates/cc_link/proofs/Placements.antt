@@ -1,5 +1,5 @@
 -- Where the positions of a module's context stand in the store, one after the other.
-use Rattle.std.proofs.Common.{◌≡◌, ◌<◌, ◌≤◌, ◌+◌, ◌-◌, arith, ℕ, suc, List, [], ◌∷◌, ◌++◌, map, length, take, drop, get_or, refl, sym, ap, ◌∙◌, append_assoc, drop-cons, length-append, length-take}
+use Rattle.std.proofs.Common.{◌≡◌, ◌<◌, ◌+◌, ◌-◌, arith, ℕ, suc, List, [], ◌∷◌, ◌++◌, map, length, take, drop, get_or, refl, sym, ap, ◌∙◌, append_assoc, drop-cons, length-append, length-take}
 use Rattle.std.specs.Prelude.{reverse, nat_eq, nat_lt}
 use Rattle.std.specs.Option.{unwrap_or}
 use Rattle.std.specs.List.{range_with_len}

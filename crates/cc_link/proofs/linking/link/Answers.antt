@@ -5,8 +5,7 @@ use Rattle.std.proofs.Math.Logic.{∥∥₁_map}
 use Rattle.cc_base.specs.declared.literal.Base.{Base}
 use Rattle.cc_core.specs.Views.{term_of}
 use Rattle.cc_entry.specs.Entries.{entry_of}
-use Rattle.cc_link.specs.Linking.{modules_before, IsLinked}
-use Rattle.cc_link.specs.Tables.{module_position}
+use Rattle.cc_link.specs.Linking.{IsLinked}
 use Rattle.cc_link.proofs.LinkedEntries.{nothing_linked, modules_all, application_linked, start_linked, start_typed}
 use Rattle.cc_meta_runs.specs.Links.{program_start as linked_start}
 use Rattle.cc_program.specs.Starts.{program_start, IsTyped}

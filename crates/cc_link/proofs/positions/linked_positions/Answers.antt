@@ -1,8 +1,7 @@
-use Rattle.std.proofs.Common.{◌≡◌, ◌+◌, ◌++◌, ◌∷◌, [], ◌∙◌, List, map, length, sym, ap, arith, length-append}
+use Rattle.std.proofs.Common.{◌≡◌, ◌+◌, ◌∷◌, [], ◌∙◌, List, map, length, sym, ap, arith, length-append}
 use Rattle.std.specs.Prelude.{reverse}
 use Rattle.std.specs.Option.{unwrap_or}
 use Rattle.std.proofs.lemmas.List.{length-map}
-use Rattle.cc_core.specs.Programs.{Module}
 use Rattle.cc_base.specs.declared.literal.Import.{Import}
 use Rattle.cc_entry.specs.Modules.{module_of}
 use Rattle.cc_entry.specs.PresentEntries.{import_of}
