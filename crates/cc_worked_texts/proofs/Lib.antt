@@ -1,6 +1,7 @@
 pub mod ComputedModules
 pub mod QuickTokens
 pub mod WorkedAcceptedTexts
+pub mod WorkedElaboratedTexts
 pub mod WorkedGrammarVerdicts
 pub mod WorkedNameVerdicts
 pub mod WorkedNamedOperands

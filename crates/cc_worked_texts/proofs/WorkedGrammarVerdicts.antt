@@ -27,6 +27,7 @@ groups = record {
   products_bind_tighter = says (over_numbers (codes "a + b * c - d")) (over_numbers (codes "(a + (b * c)) - d")) refl refl;
   products_before_sums = says (over_numbers (codes "a * b + c")) (over_numbers (codes "(a * b) + c")) refl refl;
   sums_before_comparisons = says (over_numbers (codes "a + b < c - d")) (over_numbers (codes "(a + b) < (c - d)")) refl refl;
+  sums_in_parentheses = says (over_numbers (codes "a * (b + c)")) (over_numbers (codes "val s = b + c; a * s")) refl refl;
   boxed_calls = says (over_numbers (codes "box a(b)")) (over_numbers (codes "box (a(b))")) refl refl;
   boxed_products = says (over_numbers (codes "box a * b")) (over_numbers (codes "(box a) * b")) refl refl;
   opened_calls = says (over_numbers (codes "unbox a(b)")) (over_numbers (codes "unbox (a(b))")) refl refl;

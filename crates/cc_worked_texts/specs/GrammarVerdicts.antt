@@ -38,6 +38,8 @@ pub record Groups : Type 0 where
   pub products_before_sums : SayTheSame (over_numbers (codes "a * b + c")) (over_numbers (codes "(a * b) + c"))
   pub sums_before_comparisons : SayTheSame
       (over_numbers (codes "a + b < c - d")) (over_numbers (codes "(a + b) < (c - d)"))
+  pub sums_in_parentheses : SayTheSame
+      (over_numbers (codes "a * (b + c)")) (over_numbers (codes "val s = b + c; a * s"))
   -- `box` and `unbox` go on as far as a call, and not as far as a product
   pub boxed_calls : SayTheSame (over_numbers (codes "box a(b)")) (over_numbers (codes "box (a(b))"))
   pub boxed_products : SayTheSame (over_numbers (codes "box a * b")) (over_numbers (codes "(box a) * b"))

@@ -1,4 +1,5 @@
 pub mod AcceptedTexts
+pub mod ElaboratedTexts
 pub mod GrammarVerdicts
 pub mod NameVerdicts
 pub mod NamedOperands

@@ -2,6 +2,7 @@
 #![tactic(auto)]
 
 pub mod accepted_texts;
+pub mod elaborated_texts;
 pub mod grammar_verdicts;
 pub mod name_verdicts;
 pub mod named_operands;
