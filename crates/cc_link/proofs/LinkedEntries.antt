@@ -2,6 +2,7 @@
 use Rattle.std.proofs.Common.{◌≡◌, ◌<◌, ◌≤◌, ◌+◌, arith, ℕ, List, [], ◌∷◌, ◌++◌, map, take, length, get_or, None, refl, sym, ap, ◌∙◌, subst, append_assoc}
 use Rattle.std.proofs.Math.Logic.{∥∥₁_elim}
 use Rattle.std.proofs.lemmas.List.{take-map, take_all, length-map}
+use Rattle.std.proofs.lemmas.Simd.{map-map}
 use Rattle.std.specs.Prelude.{reverse, if◌then◌else◌}
 use Rattle.std.specs.Option.{unwrap_or}
 use Rattle.std.specs.Str.{bytes_eq}
@@ -11,7 +12,7 @@ use Rattle.cc_capture.specs.declared.var.Var.TheVariants.{Free}
 use Rattle.cc_core.specs.declared.terms.Node.{Node}
 use Rattle.cc_core.specs.Actions.{renamed_by}
 use Rattle.cc_core.specs.Contexts.{Context, TermEntry, entry_of as bind_of}
-use Rattle.cc_core.specs.Programs.{Definition, Module, Entry, device_context, IsEntry}
+use Rattle.cc_core.specs.Programs.{Definition, Module, Entry, device_context, OfEachModule, IsTypedModule, IsEntry}
 use Rattle.cc_core.specs.Shapes.{BaseShape}
 use Rattle.cc_core.specs.Stores.{Store, ValueCell}
 use Rattle.cc_core.specs.Terms.{Term, LiteralTerm, Application}
@@ -20,19 +21,22 @@ use Rattle.cc_base.specs.declared.literal.Base.TheVariants as bases
 use Rattle.cc_capture.specs.Sets.{empty}
 use Rattle.cc_entry.specs.declared.entry.Entry.{Entry as DeclaredEntry}
 use Rattle.cc_entry.specs.declared.modules.EntryModule.{EntryModule}
-use Rattle.cc_entry.specs.Entries.{entry_of}
 use Rattle.cc_entry.specs.Modules.{module_of}
+use Rattle.cc_entry.specs.PresentEntries.{program_module}
 use Rattle.cc_link.specs.declared.table.DefinitionTable.{DefinitionTable}
 use Rattle.cc_link.specs.declared.table.ModuleTable.{ModuleTable}
-use Rattle.cc_link.specs.Linking.{ArePositions, IsLinked, modules_before}
+use Rattle.cc_link.specs.Linking.{definition_of, module_in_program, entry_in_program, ArePositions, IsLinked, modules_before}
 use Rattle.cc_link.specs.Tables.{definition_position, module_position}
 use Rattle.cc_link.proofs.Placements.{items_more, turned_more}
 use Rattle.cc_link.proofs.LinkedValues.{module_cells, IsFormed, IsFormed-prop, module_formed}
 use Rattle.cc_meta_runs.specs.Links.{count_definitions, position_among, linked_position, linked_cell, device_cells, linked_store, entry_store, entry_context, entry_position, program_start as linked_start}
 use Rattle.cc_meta_runs.specs.Machine.{configured}
 use Rattle.cc_meta_runs.proofs.LinkedPrograms.{linked_store_length, program_stored, program_typed}
+use Rattle.cc_meta_modules.specs.ModuleLaws.{in_program}
+use Rattle.cc_module.specs.declared.judgement.CheckedDef.{CheckedDef}
+use Rattle.cc_module.specs.Judgements.{checked_definition_of}
 use Rattle.cc_program.specs.declared.values.TypedValue.{TypedValue}
-use Rattle.cc_program.specs.Starts.{value_cell, value_entry, value_store, value_context, program_start, IsTypedStart, IsTyped}
+use Rattle.cc_program.specs.Starts.{value_cell, value_entry, value_store, value_context, program_store, program_start, IsTypedStart, IsTyped}
 use Rattle.cc_program.proofs.Starting.{program_counted}
 
 -- nothing is linked
@@ -48,6 +52,11 @@ cells_counted devices modules values store =
     let all = program_counted devices values in
     let same = ap length store in
     omega arith
+
+-- with unit there are fewer than 2^32, where there is a position for it
+pub few_cells : (devices : List Base) (values : List TypedValue) (unit : ℕ) → unit ≡ length devices + length values
+    → unit < 4294967295 → length (program_store devices values) < 4294967296
+few_cells devices values unit is few = let all = program_counted devices values in omega (arith, all, is, few)
 
 -- the next position is that of the first definition of the next module
 pub next_position : (devices : List Base) (modules : List Module) (values : List TypedValue) (first : ℕ)
@@ -93,27 +102,39 @@ module_linked devices earlier current values new table new_table definitions to 
           else linked.finds module_name name j);
     }
 
+-- the definitions of a module, as those of a program
+pub definitions_listed : (current : EntryModule) (defs : List CheckedDef) → defs ≡ current.defs.items
+    → map definition_of defs ≡ (module_in_program current).definitions
+definitions_listed current defs are = ap (map definition_of) are ∙ sym (map-map in_program checked_definition_of current.defs.items)
+
 -- The modules of an entry before an index.
 module _ (entry : DeclaredEntry) where
-  pub modules_more : (k : ℕ) (current : EntryModule) → k < length entry.modules.items → current ≡ get_or entry.modules.items k current
-      → modules_before entry (k + 1) ≡ module_of current ∷ modules_before entry k
-  modules_more k current below is =
-      ap reverse (take-map module_of (k + 1) entry.modules.items ∙ items_more module_of entry.modules.items k current below is
-      ∙ ap (λ ms. ms ++ module_of current ∷ []) (sym (take-map module_of k entry.modules.items)))
-      ∙ turned_more (take k (map module_of entry.modules.items)) (module_of current)
+  modules_listed : (k : ℕ) → take k (entry_in_program entry).modules ≡ map module_in_program (take k entry.modules.items)
+  modules_listed k =
+      ap (take k) (map-map program_module module_of entry.modules.items) ∙ take-map module_in_program k entry.modules.items
 
-  pub modules_all : (k : ℕ) → length entry.modules.items ≤ k → modules_before entry k ≡ reverse (entry_of entry).modules
+  pub modules_more : (k : ℕ) (current : EntryModule) → k < length entry.modules.items → current ≡ get_or entry.modules.items k current
+      → modules_before entry (k + 1) ≡ module_in_program current ∷ modules_before entry k
+  modules_more k current below is =
+      ap reverse (modules_listed (k + 1) ∙ items_more module_in_program entry.modules.items k current below is
+      ∙ ap (λ ms. ms ++ module_in_program current ∷ []) (sym (modules_listed k)))
+      ∙ turned_more (take k (entry_in_program entry).modules) (module_in_program current)
+
+  pub modules_all : (k : ℕ) → length entry.modules.items ≤ k → modules_before entry k ≡ reverse (entry_in_program entry).modules
   modules_all k past =
-      let same = length-map entry.modules.items module_of in
-      ap reverse (take_all k (map module_of entry.modules.items) (omega arith))
+      let checked = length-map entry.modules.items module_of in
+      let same = length-map (map module_of entry.modules.items) program_module in
+      ap reverse (take_all k (map program_module (map module_of entry.modules.items)) (omega arith))
 
   -- each module is well formed behind those before it
   pub entry_formed : (k : ℕ) (current : EntryModule) → k < length entry.modules.items → current ≡ get_or entry.modules.items k current
-      → IsFormed entry.devices.items (modules_before entry k) (module_of current)
+      → IsFormed entry.devices.items (modules_before entry k) (module_in_program current)
   entry_formed k current below is =
-      ∥∥₁_elim entry.is_entry (IsFormed-prop entry.devices.items (modules_before entry k) (module_of current))
-      (λ valid. subst (λ ms. IsFormed entry.devices.items (reverse ms) (module_of current)) (sym (take-map module_of k entry.modules.items))
-      (module_formed module_of entry.devices.items entry.modules.items k current below is valid.typed))
+      ∥∥₁_elim entry.is_entry (IsFormed-prop entry.devices.items (modules_before entry k) (module_in_program current))
+      (λ valid. subst (λ ms. IsFormed entry.devices.items (reverse ms) (module_in_program current)) (sym (modules_listed k))
+      (module_formed module_in_program entry.devices.items entry.modules.items k current below is
+      (subst (λ ms. OfEachModule (IsTypedModule entry.devices.items) (reverse ms)) (map-map program_module module_of entry.modules.items)
+      valid.typed)))
 
 -- The program of what is linked.
 module _ (entry : Entry) (values : List TypedValue) (term : Node) (store : value_store entry.devices values ≡ entry_store entry)

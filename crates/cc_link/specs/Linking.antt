@@ -2,9 +2,12 @@
 use Rattle.std.specs.Prelude.{◌≡◌, ℕ, List, map, reverse, take, length}
 use Rattle.std.specs.List.{range_with_len}
 use Rattle.cc_base.specs.declared.literal.Base.{Base}
-use Rattle.cc_core.specs.Programs.{Import, Definition, Module}
+use Rattle.cc_core.specs.Programs.{Import, Definition, Module, Entry}
 use Rattle.cc_entry.specs.declared.entry.Entry.{Entry as DeclaredEntry}
+use Rattle.cc_entry.specs.declared.modules.EntryModule.{EntryModule}
 use Rattle.cc_entry.specs.Entries.{entry_of}
+use Rattle.cc_entry.specs.Modules.{module_of}
+use Rattle.cc_entry.specs.PresentEntries.{program_module, program_entry}
 use Rattle.cc_link.specs.declared.table.ModuleTable.{ModuleTable}
 use Rattle.cc_link.specs.Tables.{Finds}
 use Rattle.cc_meta_modules.specs.ModuleLaws.{in_program}
@@ -18,6 +21,14 @@ use Rattle.cc_program.specs.Starts.{value_store, value_context}
 abbrev pub definition_of : CheckedDef → Definition
 definition_of it = in_program (checked_definition_of it)
 
+-- a module, as one of a program
+abbrev pub module_in_program : EntryModule → Module
+module_in_program it = program_module (module_of it)
+
+-- an entry, as that of a program
+abbrev pub entry_in_program : DeclaredEntry → Entry
+entry_in_program it = program_entry (entry_of it)
+
 -- The list has, in order, where the positions of a module's context stand in the store: beside so many devices, behind
 -- earlier modules, which are turned round, and with these imports.
 abbrev pub ArePositions : ℕ → List Module → List Import → List ℕ → Type 0
@@ -26,7 +37,7 @@ ArePositions devices earlier imports to =
 
 -- the modules of an entry before the one at an index, turned round
 abbrev pub modules_before : DeclaredEntry → ℕ → List Module
-modules_before entry index = reverse (take index (entry_of entry).modules)
+modules_before entry index = reverse (take index (entry_in_program entry).modules)
 
 -- The modules, which are turned round, are linked: the values with the devices are their store, with its context, and the
 -- table finds their definitions.

@@ -6,6 +6,7 @@ ghost use Rattle.cc_core.specs.Contexts.{entry_of as bind_of};
 ghost use Rattle.cc_core.specs.Terms.{Application};
 ghost use Rattle.cc_core.specs.Views.{term_of};
 ghost use Rattle.cc_entry.specs.Entries.{entry_of};
+ghost use Rattle.cc_entry.specs.PresentEntries.{program_entry};
 ghost use Rattle.cc_link.specs.Linking.{definition_of, modules_before, IsLinked};
 ghost use Rattle.cc_meta_runs.specs.Links.{linked_cell, program_start};
 ghost use Rattle.cc_program.specs.Programs.{shapes_of, start_of};
@@ -92,8 +93,8 @@ fn application(alloc: Global, function: u32, argument: u32) -> Result<Rc<Node>, 
 /// they name stands, and the definition that is run, applied to unit. Fails for want of memory, and where devices and
 /// definitions together are 2^32 - 1 or more.
 pub fn link(alloc: Global, entry: &Entry) -> Result<Program, AllocError>
-    ensures devices { IfOk result (λ program. shapes_of program ≡ (entry_of entry.now).devices) }
-    ensures start { IfOk result (λ program. start_of program ≡ program_start (entry_of entry.now)) }
+    ensures devices { IfOk result (λ program. shapes_of program ≡ (program_entry (entry_of entry.now)).devices) }
+    ensures start { IfOk result (λ program. start_of program ≡ program_start (program_entry (entry_of entry.now))) }
 {
     let mut values = Vec::new(alloc);
     let mut table = ModuleTable::new(alloc);

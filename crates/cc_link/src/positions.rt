@@ -2,8 +2,7 @@
 ghost use Rattle.std.specs.Prelude.{◌≡◌, ◌+◌, ◌<◌, ℕ, List, map, reverse, length, IfOk};
 ghost use Rattle.cc_core.specs.Programs.{Module};
 ghost use Rattle.cc_meta_runs.specs.Links.{count_definitions, position_among};
-ghost use Rattle.cc_entry.specs.Modules.{module_of};
-ghost use Rattle.cc_link.specs.Linking.{definition_of, ArePositions};
+ghost use Rattle.cc_link.specs.Linking.{definition_of, module_in_program, ArePositions};
 ghost use Rattle.cc_link.specs.Tables.{definition_position, Finds};
 
 use crate::table::{DefinitionTable, ModuleTable};
@@ -51,8 +50,8 @@ pub fn linked_positions(
     current: &EntryModule,
     first: u32,
 ) -> Result<Vec<u32>, AllocError>
-    ensures count { IfOk result (λ to. length to.items ≡ devices + length (module_of current.now).imports + length (module_of current.now).definitions) }
-    ensures positions { (earlier : List Module) → Finds devices earlier table.now → first ≡ devices + count_definitions earlier → IfOk result (λ to. ArePositions devices earlier (module_of current.now).imports to.items) }
+    ensures count { IfOk result (λ to. length to.items ≡ devices + length (module_in_program current.now).imports + length (module_in_program current.now).definitions) }
+    ensures positions { (earlier : List Module) → Finds devices earlier table.now → first ≡ devices + count_definitions earlier → IfOk result (λ to. ArePositions devices earlier (module_in_program current.now).imports to.items) }
 {
     let mut to = Vec::new(alloc);
     for device in 0..devices {
