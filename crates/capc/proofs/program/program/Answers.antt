@@ -6,15 +6,16 @@ use Rattle.capc.proofs.program.program.Goals as goal
 -- The counter begins at 0, and tells in the end how many modules were judged.
 pub returns-clause-call : goal.returns-clause-call
 returns-clause-call g c =
-    let counted = c.carried-status.new.steps in
-    (counted,
-    subst (λ begun.
-    EndsBy
-    (Outcome
-    (ends (g.S.Source.left c.args.source.now) (g.S.Source.faults c.args.source.now) (g.K.Sink.written c.args.sink.now)
-    (g.K.Sink.faults c.args.sink.now) begun)
-    (ends (g.S.Source.left c.carried-status.new.source) (g.S.Source.faults c.carried-status.new.source)
-    (g.K.Sink.written c.carried-status.new.sink) (g.K.Sink.faults c.carried-status.new.sink) counted))
-    ((c.carried-status.new.source ≡ c.args.source.now) × (c.carried-status.new.sink ≡ c.args.sink.now)) c.args.answer
-    c.carried-status.result)
-    c.new-steps.ensures c.carried-status.ensures)
+    let counted = c.carried-status.new.steps in (
+      counted,
+      subst (λ begun.
+          EndsBy
+          (Outcome
+          (ends (g.S.Source.left c.args.source.now) (g.S.Source.faults c.args.source.now) (g.K.Sink.written c.args.sink.now)
+          (g.K.Sink.faults c.args.sink.now) begun)
+          (ends (g.S.Source.left c.carried-status.new.source) (g.S.Source.faults c.carried-status.new.source)
+          (g.K.Sink.written c.carried-status.new.sink) (g.K.Sink.faults c.carried-status.new.sink) counted))
+          ((c.carried-status.new.source ≡ c.args.source.now) × (c.carried-status.new.sink ≡ c.args.sink.now)) c.args.answer
+          c.carried-status.result)
+          c.new-steps.ensures c.carried-status.ensures,
+    )
