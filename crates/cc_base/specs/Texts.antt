@@ -4,8 +4,8 @@ use Rattle.std.specs.Fmt.{decimal}
 use Rattle.cc_base.specs.declared.place.Place.{Place}
 use Rattle.cc_base.specs.declared.code.Code.{Code}
 use Rattle.cc_base.specs.declared.code.Code.TheVariants.{E01, E02, E03, E04, E05, E06, E07, E08, E09, E10, E11, E12}
-use Rattle.cc_base.specs.declared.code.Code.TheVariants.{E13, E14, E15, E16, E17, E18, E19, E20, E30, E31, E32, E33}
-use Rattle.cc_base.specs.declared.code.Code.TheVariants.{E34, E35, E36}
+use Rattle.cc_base.specs.declared.code.Code.TheVariants.{E13, E14, E15, E16, E17, E18, E19, E30, E31, E32, E33}
+use Rattle.cc_base.specs.declared.code.Code.TheVariants.{E34, E35, E36, E37}
 
 -- the line and the column in decimal, with a colon between them
 abbrev pub place_text : Place → List ℕ
@@ -31,7 +31,6 @@ code_text E16 = codes "E16"
 code_text E17 = codes "E17"
 code_text E18 = codes "E18"
 code_text E19 = codes "E19"
-code_text E20 = codes "E20"
 code_text E30 = codes "E30"
 code_text E31 = codes "E31"
 code_text E32 = codes "E32"
@@ -39,3 +38,4 @@ code_text E33 = codes "E33"
 code_text E34 = codes "E34"
 code_text E35 = codes "E35"
 code_text E36 = codes "E36"
+code_text E37 = codes "E37"

@@ -45,8 +45,6 @@ pub enum Code {
     E18,
     /// A set is omitted where it has to be written.
     E19,
-    /// The module uses a form, or deserves a code, that is not built yet.
-    E20,
     /// A module's text is too long.
     E30,
     /// There are too many modules.
@@ -61,6 +59,8 @@ pub enum Code {
     E35,
     /// The derivation is too large to be printed.
     E36,
+    /// The entry is not permitted.
+    E37,
 }
 
 /// As `E03`.
@@ -97,7 +97,6 @@ impl Code {
             Code::E17 => "E17",
             Code::E18 => "E18",
             Code::E19 => "E19",
-            Code::E20 => "E20",
             Code::E30 => "E30",
             Code::E31 => "E31",
             Code::E32 => "E32",
@@ -105,6 +104,7 @@ impl Code {
             Code::E34 => "E34",
             Code::E35 => "E35",
             Code::E36 => "E36",
+            Code::E37 => "E37",
         }
     }
 }

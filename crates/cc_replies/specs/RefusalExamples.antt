@@ -76,10 +76,10 @@ RefusedBeforeAbsent =
 pub code_texts :
     map code_text (
     code.E01 ∷ code.E02 ∷ code.E03 ∷ code.E04 ∷ code.E05 ∷ code.E06 ∷ code.E07 ∷ code.E08 ∷ code.E09 ∷ code.E10 ∷
-    code.E11 ∷ code.E12 ∷ code.E13 ∷ code.E14 ∷ code.E15 ∷ code.E16 ∷ code.E17 ∷ code.E18 ∷ code.E19 ∷ code.E20 ∷
-    code.E30 ∷ code.E31 ∷ code.E32 ∷ code.E33 ∷ code.E34 ∷ code.E35 ∷ code.E36 ∷ [])
+    code.E11 ∷ code.E12 ∷ code.E13 ∷ code.E14 ∷ code.E15 ∷ code.E16 ∷ code.E17 ∷ code.E18 ∷ code.E19 ∷
+    code.E30 ∷ code.E31 ∷ code.E32 ∷ code.E33 ∷ code.E34 ∷ code.E35 ∷ code.E36 ∷ code.E37 ∷ [])
     ≡ codes "E01" ∷ codes "E02" ∷ codes "E03" ∷ codes "E04" ∷ codes "E05" ∷ codes "E06" ∷ codes "E07" ∷ codes "E08"
     ∷ codes "E09" ∷ codes "E10" ∷ codes "E11" ∷ codes "E12" ∷ codes "E13" ∷ codes "E14" ∷ codes "E15" ∷ codes "E16"
-    ∷ codes "E17" ∷ codes "E18" ∷ codes "E19" ∷ codes "E20" ∷ codes "E30" ∷ codes "E31" ∷ codes "E32" ∷ codes "E33"
-    ∷ codes "E34" ∷ codes "E35" ∷ codes "E36" ∷ []
+    ∷ codes "E17" ∷ codes "E18" ∷ codes "E19" ∷ codes "E30" ∷ codes "E31" ∷ codes "E32" ∷ codes "E33"
+    ∷ codes "E34" ∷ codes "E35" ∷ codes "E36" ∷ codes "E37" ∷ []
 code_texts = refl
