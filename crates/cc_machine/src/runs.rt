@@ -28,8 +28,8 @@ impl<'a> Machine<'a> {
         steps < fuel && !self.is_final()
     }
 
-    // How a run ends that takes no further step.
-    fn end(&self) -> End<'a>
+    /// How a run ends that takes no further step.
+    pub fn end(&self) -> End<'a>
         ensures { HasEnd (held_by self.now) (end_of result) }
     {
         if self.is_final() {

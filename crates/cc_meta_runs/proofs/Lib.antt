@@ -3,6 +3,7 @@ pub mod Authority
 pub mod CanonicalForms
 pub mod DeviceTable
 pub mod DevicesFirst
+pub mod EntryRuns
 pub mod EntryTasks
 pub mod Erasure
 pub mod Finality
