@@ -1,0 +1,3 @@
+pub mod Reports
+pub mod SoundTasks
+pub mod Tasks
