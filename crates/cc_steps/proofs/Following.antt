@@ -4,10 +4,8 @@ use Rattle.std.proofs.Common.{◌≡◌, ℕ, suc, ◌+◌, ◌<◌, ◌≤◌, 
 use Rattle.std.proofs.lemmas.List.{length-append}
 use Rattle.cc_core.specs.declared.terms.Node.{Node}
 use Rattle.cc_core.specs.Views.{term_of}
-use Rattle.cc_device.specs.Devices.{Devices}
 use Rattle.cc_device.specs.Events.{Event}
-use Rattle.cc_meta_runs.specs.Machine.{configured, Outcome, Stuck, Final, Next, Ask}
-use Rattle.cc_meta_runs.specs.Runs.{closed}
+use Rattle.cc_meta_runs.specs.Machine.{configured, Outcome}
 use Rattle.cc_steps.specs.declared.links.Link.{Link}
 use Rattle.cc_steps.specs.declared.parts.Cell.{Cell}
 use Rattle.cc_steps.specs.declared.parts.Frame.{Frame}
@@ -15,7 +13,7 @@ use Rattle.cc_steps.specs.declared.parts.Focus.TheVariants as focuses
 use Rattle.cc_steps.specs.declared.parts.Parts.{Parts}
 use Rattle.cc_steps.specs.Environments.{extended, follow}
 use Rattle.cc_steps.specs.Growing.{Enters, Adds, Waits}
-use Rattle.cc_steps.specs.Lines.{GoesAs, Goes, MovesAs, GoesWith, state_in}
+use Rattle.cc_steps.specs.Lines.{GoesAs, Goes}
 use Rattle.cc_steps.specs.Parts.{focus_in, store_of, stack_of, configuration_in, configuration_of, cell_environment, frame_environment, focus_environment, frame_begun, frame_wanted, AreLinked, IsLinked, HasRoom, UsesOne}
 use Rattle.cc_steps.specs.Putting.{put_all}
 use Rattle.cc_steps.proofs.Linking.{linked_node, linked_cell, linked_frame, entered}
@@ -38,19 +36,6 @@ uses_none parts = record {
 
 pub stays : (x : Outcome) (parts : Parts) (event : Option Event) → IsLinked parts → GoesAs x event (configuration_of parts) → Goes x parts event parts
 stays x parts event linked follows = record { linked = linked; uses = uses_none parts; follows = follows }
-
--- a step without a device is a move
-moves_as : (x : Outcome) (after : Parts) (event : Option Event) (devices : Devices) → GoesAs x event (configuration_of after)
-    → MovesAs (closed devices x) event (state_in after devices)
-moves_as Stuck after event devices h = tt
-moves_as Final after event devices h = tt
-moves_as (Next e n) after event devices h = (h.0, λ j. record { configuration = h.1 j; devices = devices })
-moves_as (Ask d o a r) after event devices h = absurd h
-
-pub goes_moves : (x : Outcome) (before after : Parts) (event : Option Event) (devices : Devices) → Goes x before event after
-    → GoesWith (closed devices x) before event after devices
-goes_moves x before after event devices goes =
-    record { linked = goes.linked; uses = goes.uses; moves = moves_as x after event devices goes.follows }
 
 -- Cells and frames were added, one of each at most. The focus is what it was, or is yet to be set.
 pub record Grows (before middle : Parts) : Type 0 where

@@ -1,32 +1,22 @@
 -- The lines of the step table, for terms in their environments.
-use Rattle.std.proofs.Common.{◌≡◌, ℕ, ℤ, Bool, true, false, cond, List, ◌∷◌, Option, Some, None, option_map, refl, sym, ap, ◌∙◌, subst}
-use Rattle.std.specs.Prelude.{◌&&◌}
-use Rattle.std.specs.List.{slice_get}
-use Rattle.cc_base.specs.declared.literal.Base.{Base}
-use Rattle.cc_base.specs.declared.literal.Op.{Op}
-use Rattle.cc_base.specs.declared.literal.Op.TheVariants as operations
+use Rattle.std.proofs.Common.{◌≡◌, ℕ, ℤ, Bool, true, false, cond, ◌∷◌, Option, Some, None, refl, sym, ap, ◌∙◌, subst}
 use Rattle.cc_base.specs.declared.literal.Operator.{Operator}
-use Rattle.cc_base.specs.Literals.{Literal, UnitLiteral, TruthLiteral, NumberLiteral, TextLiteral}
+use Rattle.cc_base.specs.Literals.{Literal, TruthLiteral, NumberLiteral}
 use Rattle.cc_capture.specs.declared.var.Var.{Var}
-use Rattle.cc_capture.specs.declared.var.Var.TheVariants.{Bound, Free}
+use Rattle.cc_capture.specs.declared.var.Var.TheVariants.{Free}
 use Rattle.cc_core.specs.Shapes.{Shape, AnyShape}
 use Rattle.cc_core.specs.Terms.{Term, VariableTerm, LiteralTerm, FunctionTerm, TypeFunctionTerm, BoxTerm, Application, TypeApplication, Unboxing, Let, Primitive, Conditional, Repetition, Operation, Boundary, Leave}
 use Rattle.cc_core.specs.declared.terms.Form.{Form}
 use Rattle.cc_core.specs.declared.terms.Form.TheVariants as forms
 use Rattle.cc_core.specs.Captured.{is_value}
-use Rattle.cc_core.specs.Contexts.{lookup}
-use Rattle.cc_core.specs.Stores.{ValueCell, DeviceCell, LabelCell, Store, cell_at}
-use Rattle.cc_core.specs.Typing.{base_operated, base_taken}
+use Rattle.cc_core.specs.Stores.{ValueCell, LabelCell, Store}
 use Rattle.cc_core.specs.Views.{form_of}
 use Rattle.cc_capture.specs.Sets.{Set}
-use Rattle.cc_device.specs.Devices.{DeviceState, Console, File, Counter, Devices, Reply, answer_of, operate, reply_of, replying}
-use Rattle.cc_device.specs.Events.{Event, Operated, Ended, Exited, literal_shown}
+use Rattle.cc_device.specs.Events.{Ended, Exited}
 use Rattle.cc_meta_runs.specs.Answers.{is_answer}
-use Rattle.cc_meta_runs.specs.Machine.{LetFrame, ScopeFrame, RepetitionFrame, Stack, Configuration, configured, Stuck, Next, Ask, going, bound_to_new, let_step, apply_step, type_apply_step, literal_in, result_of, primitive_step, conditional_step, repeat_step, same_base, is_taken, operation_step, below_scope, exit_to, exit_step, term_step}
-use Rattle.cc_meta_runs.specs.Runs.{State, closed, answered}
+use Rattle.cc_meta_runs.specs.Machine.{LetFrame, ScopeFrame, RepetitionFrame, Stack, Configuration, configured, Stuck, Next, going, bound_to_new, let_step, apply_step, type_apply_step, literal_in, result_of, primitive_step, conditional_step, repeat_step, below_scope, exit_to, exit_step, term_step}
 use Rattle.cc_steps.specs.Environments.{Environment, extended}
-use Rattle.cc_steps.specs.Lines.{GoesAs, MovesAs, number_in, truth_in, text_in, given}
-use Rattle.cc_steps.specs.Operands.{HoldsFreeContent}
+use Rattle.cc_steps.specs.Lines.{GoesAs, number_in, truth_in}
 use Rattle.cc_steps.specs.Parts.{literal_of_term}
 use Rattle.cc_steps.specs.Putting.{put_all}
 use Rattle.cc_steps.proofs.PutBodies.{put_in-body, type_body}
@@ -187,125 +177,6 @@ module _ (st : Store) (k : Stack) (made : ℕ) where
   pub not_left : (v : Var) (n : ℕ) → below_scope n k ≡ None → exit_step st k made v (Some (LabelCell n)) ≡ Stuck
   not_left v n is = ap (exit_to st made v n) is
 
-  -- an operation with an argument that the device answers, and with one that it does not
-  both_ways : (op : Op) (n : ℕ) (a : Option Literal) (devices : Devices) (t : Bool) (event : Option Event) (after : State)
-      → MovesAs (answered n op a (λ answer. configured st k made (LiteralTerm answer)) (operate devices n op a)) event after
-      → MovesAs (closed devices (cond t (Ask n op a (λ answer. configured st k made (LiteralTerm answer))) Stuck)) event after
-  both_ways op n a devices true event after h = h
-  both_ways op n a devices false event after h = tt
-
-  pub operated : (op : Op) (n : ℕ) (b : Base) (x : Option (Option Literal)) (a : Option Literal) (devices : Devices) (event : Option Event) (after : State)
-      → x ≡ Some a
-      → MovesAs (answered n op a (λ answer. configured st k made (LiteralTerm answer)) (operate devices n op a)) event after
-      → MovesAs (closed devices (operation_step st k made op (Some (DeviceCell n b)) x)) event after
-  operated op n b x a devices event after is h =
-      subst (λ y. MovesAs (closed devices (operation_step st k made op (Some (DeviceCell n b)) y)) event after) (sym is)
-      (both_ways op n a devices (same_base b (base_operated op) && is_taken (base_taken op) a) event after h)
-
-  pub device_answers : (op : Op) (n : ℕ) (a : Option Literal) (devices : Devices) (event : Option Event) (after : State) (reply : Reply)
-      → operate devices n op a ≡ Some reply
-      → Some (Operated n op (literal_shown a reply.literal)) ≡ event
-      → (record { configuration = configured st k made (LiteralTerm reply.literal); devices = reply.devices }) ≡ after
-      → MovesAs (answered n op a (λ answer. configured st k made (LiteralTerm answer)) (operate devices n op a)) event after
-  device_answers op n a devices event after reply is e f =
-      subst (λ r. MovesAs (answered n op a (λ answer. configured st k made (LiteralTerm answer)) r) event after) (sym is) (e, f)
-
-  pub device_silent : (op : Op) (n : ℕ) (a : Option Literal) (devices : Devices) (event : Option Event) (after : State)
-      → operate devices n op a ≡ None
-      → MovesAs (answered n op a (λ answer. configured st k made (LiteralTerm answer)) (operate devices n op a)) event after
-  device_silent op n a devices event after is =
-      subst (λ r. MovesAs (answered n op a (λ answer. configured st k made (LiteralTerm answer)) r) event after) (sym is) tt
-
-  -- an operation that takes no argument
-  nothing_taken : (op : Op) (n : ℕ) (l : Literal) (devices : Devices) (event : Option Event) (after : State) (t : Bool)
-      → MovesAs (closed devices (cond (t && false) (Ask n op (Some l) (λ answer. configured st k made (LiteralTerm answer))) Stuck)) event after
-  nothing_taken op n l devices event after true = tt
-  nothing_taken op n l devices event after false = tt
-
-  pub operated_alone : (op : Op) (n : ℕ) (b : Base) (x : Option (Option Literal)) (devices : Devices) (event : Option Event) (after : State)
-      → base_taken op ≡ None
-      → MovesAs (answered n op None (λ answer. configured st k made (LiteralTerm answer)) (operate devices n op None)) event after
-      → MovesAs (closed devices (operation_step st k made op (Some (DeviceCell n b)) x)) event after
-  operated_alone op n b None devices event after none h = tt
-  operated_alone op n b (Some None) devices event after none h = operated op n b (Some None) None devices event after refl h
-  operated_alone op n b (Some (Some l)) devices event after none h =
-      subst (λ o. MovesAs (closed devices (cond (same_base b (base_operated op) && is_taken o (Some l)) (Ask n op (Some l) (λ answer. configured st k made (LiteralTerm answer))) Stuck)) event after)
-      (sym none) (nothing_taken op n l devices event after (same_base b (base_operated op)))
-
--- the argument that is given, where it is a number or a text
-of_number : (o : Option Literal) (n : ℤ) → number_in o ≡ Some n → o ≡ Some (NumberLiteral n)
-of_number (Some (NumberLiteral m)) n is = cc
-of_number (Some UnitLiteral) n is = cc
-of_number (Some (TruthLiteral t)) n is = cc
-of_number (Some (TextLiteral t)) n is = cc
-of_number None n is = cc
-
-of_text : (o : Option Literal) (n : List ℕ) → text_in o ≡ Some n → o ≡ Some (TextLiteral n)
-of_text (Some (TextLiteral m)) n is = cc
-of_text (Some UnitLiteral) n is = cc
-of_text (Some (TruthLiteral t)) n is = cc
-of_text (Some (NumberLiteral t)) n is = cc
-of_text None n is = cc
-
-pub number_argument : (x : Option (Option Literal)) (n : ℤ) → number_in (given x) ≡ Some n → x ≡ Some (Some (NumberLiteral n))
-number_argument (Some o) n is = ap (λ y. Some y) (of_number o n is)
-number_argument None n is = cc
-
-pub text_argument : (x : Option (Option Literal)) (n : List ℕ) → text_in (given x) ≡ Some n → x ≡ Some (Some (TextLiteral n))
-text_argument (Some o) n is = ap (λ y. Some y) (of_text o n is)
-text_argument None n is = cc
-
--- no device answers without it
-unanswered : (devices : Devices) (n : ℕ) (op : Op) (a : Option Literal) (o : Option DeviceState)
-    → ((d : DeviceState) → answer_of d op a ≡ None) → reply_of devices n op a o ≡ None
-unanswered devices n op a None h = refl
-unanswered devices n op a (Some d) h = ap (option_map (replying devices n)) (h d)
-
-not_printed : (d : DeviceState) (a : Option Literal) → number_in a ≡ None → answer_of d operations.Print a ≡ None
-not_printed d (Some (NumberLiteral m)) is = cc
-not_printed d (Some UnitLiteral) is = refl
-not_printed d (Some (TruthLiteral t)) is = refl
-not_printed d (Some (TextLiteral t)) is = refl
-not_printed d None is = refl
-
-not_said : (d : DeviceState) (a : Option Literal) → text_in a ≡ None → answer_of d operations.Say a ≡ None
-not_said d (Some (NumberLiteral m)) is = refl
-not_said d (Some UnitLiteral) is = refl
-not_said d (Some (TruthLiteral t)) is = refl
-not_said d (Some (TextLiteral t)) is = cc
-not_said d None is = refl
-
-not_written : (d : DeviceState) (a : Option Literal) → number_in a ≡ None → answer_of d operations.Write a ≡ None
-not_written (Console ls) a is = refl
-not_written (Counter c) a is = refl
-not_written (File ns p) (Some (NumberLiteral m)) is = cc
-not_written (File ns p) (Some UnitLiteral) is = refl
-not_written (File ns p) (Some (TruthLiteral t)) is = refl
-not_written (File ns p) (Some (TextLiteral t)) is = refl
-not_written (File ns p) None is = refl
-
-module _ (st : Store) (k : Stack) (made : ℕ) (n : ℕ) (b : Base) (devices : Devices) (event : Option Event) (after : State) where
-  pub nothing_printed : (x : Option (Option Literal)) → number_in (given x) ≡ None
-      → MovesAs (closed devices (operation_step st k made operations.Print (Some (DeviceCell n b)) x)) event after
-  nothing_printed None is = tt
-  nothing_printed (Some a) is =
-      operated st k made operations.Print n b (Some a) a devices event after refl
-      (device_silent st k made operations.Print n a devices event after (unanswered devices n operations.Print a (slice_get devices n) (λ d. not_printed d a is)))
-
-  pub nothing_said : (x : Option (Option Literal)) → text_in (given x) ≡ None
-      → MovesAs (closed devices (operation_step st k made operations.Say (Some (DeviceCell n b)) x)) event after
-  nothing_said None is = tt
-  nothing_said (Some a) is =
-      operated st k made operations.Say n b (Some a) a devices event after refl
-      (device_silent st k made operations.Say n a devices event after (unanswered devices n operations.Say a (slice_get devices n) (λ d. not_said d a is)))
-
-  pub nothing_written : (x : Option (Option Literal)) → number_in (given x) ≡ None
-      → MovesAs (closed devices (operation_step st k made operations.Write (Some (DeviceCell n b)) x)) event after
-  nothing_written None is = tt
-  nothing_written (Some a) is =
-      operated st k made operations.Write n b (Some a) a devices event after refl
-      (device_silent st k made operations.Write n a devices event after (unanswered devices n operations.Write a (slice_get devices n) (λ d. not_written d a is)))
-
 -- an answer that is no variable is a value
 pub value_of_answer : (e : Environment) (form : Form) → is_answer (form_of form) ≡ true → ((v : Var) → form ≡ forms.Var v → ⊥)
     → is_value (put_all e (form_of form)) ≡ true
@@ -324,8 +195,3 @@ value_of_answer e (forms.Repeat count function) is other = cc
 value_of_answer e (forms.Operate operation receiver argument) is other = cc
 value_of_answer e (forms.Boundary' gives p body at first second) is other = cc
 value_of_answer e (forms.Leave gives exit value) is other = cc
-
--- the content of a box at a variable
-pub content_at : (st : Store) → ((p : ℕ) → HoldsFreeContent (lookup st p)) → (v : Var) → HoldsFreeContent (cell_at st v)
-content_at st contents (Free p) = contents p
-content_at st contents (Bound i) = tt

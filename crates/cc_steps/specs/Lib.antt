@@ -1,3 +1,4 @@
+pub mod Asking
 pub mod Environments
 pub mod ExampleEnvironments
 pub mod Finding

@@ -63,8 +63,3 @@ truth_in _ = None
 abbrev pub text_in : Option Literal → Option (List ℕ)
 text_in (Some (TextLiteral text)) = Some text
 text_in _ = None
-
--- the literal of an argument, if there is an argument that is one
-abbrev pub given : Option (Option Literal) → Option Literal
-given (Some argument) = argument
-given None = None

@@ -1,264 +1,110 @@
 //! Operations of devices.
-ghost use Rattle.std.specs.Prelude.{◌≡◌, IfOk, IsOk, OnErr, option_map};
-ghost use Rattle.std.specs.Rc.{rc_str_bytes};
-ghost use Rattle.std.specs.Str.{chars};
-ghost use Rattle.cc_base.specs.declared.literal.Op.TheVariants as operations;
-ghost use Rattle.cc_core.specs.Stores as stores;
-ghost use Rattle.cc_core.specs.Stores.{DeviceCell};
+ghost use Rattle.std.specs.Prelude.{◌≡◌, ◌&&◌, None, Some, IfOk, IsOk, OnErr, option_map};
+ghost use Rattle.cc_base.specs.Literals.{literal_of};
 ghost use Rattle.cc_device.specs.Calls.{TakesNoMemory};
-ghost use Rattle.cc_device.specs.Views.{event_of};
+ghost use Rattle.cc_device.specs.Events.{Operated, literal_shown};
+ghost use Rattle.cc_device.specs.Views.{event_of, shown_literal};
 ghost use Rattle.cc_meta_runs.specs.Machine as table;
-ghost use Rattle.cc_meta_runs.specs.Runs.{closed};
-ghost use Rattle.cc_steps.specs.Lines.{GoesWith, given, number_in, text_in, on};
+ghost use Rattle.cc_meta_runs.specs.Runs.{move};
+ghost use Rattle.cc_steps.specs.Asking.{IsAnswerTo, Resumes, question_in, question_of};
+ghost use Rattle.cc_steps.specs.Lines.{GoesWith, state_in, text_in};
 ghost use Rattle.cc_steps.specs.Parts as views;
 ghost use Rattle.cc_steps.specs.Parts.{IsLinked};
-ghost use Rattle.cc_steps.specs.Placing.{variable_in};
 
-use crate::parts::{Cell, Focus, Parts, Small};
-use cc_base::literal::{Base, Lit, Op};
-use cc_capture::Var;
-use cc_device::{Devices, Event};
+use crate::asking::Wanted;
+use crate::parts::{Focus, Parts, Small};
+use cc_base::literal::Lit;
+use cc_device::table::answer;
+use cc_device::{Devices, Event, ShownLit};
 use std::alloc::AllocError;
-use std::rc::RcStr;
+
+// The literal, with a text of its own. Fails only for want of memory.
+fn owned(literal: ShownLit) -> Result<Lit, AllocError>
+    ensures literal { IfOk result (λ own. literal_of own ≡ shown_literal literal.entry) }
+    ensures no_memory { text_in (Some (shown_literal literal.entry)) ≡ None → IsOk result }
+{
+    match literal {
+        ShownLit::Unit => Ok(Lit::Unit),
+        ShownLit::Bool(truth) => Ok(Lit::Bool(truth)),
+        ShownLit::Int(number) => Ok(Lit::Int(number)),
+        ShownLit::Str(text) => {
+            let own = text.clone()?;
+            Ok(Lit::Str(own))
+        }
+    }
+}
+
+impl<'a> Wanted<'a> {
+    /// The argument, if there is one, with a text of its own. Fails only for want of memory, which a text alone takes.
+    pub fn own_argument(&self) -> Result<Option<Lit>, AllocError>
+        ensures argument { IfOk result (λ own. option_map literal_of own ≡ (question_of self.now).argument) }
+        ensures no_memory { text_in (question_of self.now).argument ≡ None → IsOk result }
+    {
+        match self.argument {
+            Some(literal) => {
+                let own = owned(literal)?;
+                Ok(Some(own))
+            }
+            None => Ok(None),
+        }
+    }
+
+    /// The event of the operation, which has its argument or else the answer.
+    pub fn event(&self, argument: Option<Lit>, answer: Lit) -> Event
+        ensures { event_of result ≡ Operated self.now.device self.now.operation (literal_shown (option_map literal_of argument) (literal_of answer)) }
+    {
+        match argument {
+            Some(literal) => Event::Device {
+                device: self.device,
+                op: self.operation,
+                lit: literal,
+            },
+            None => Event::Device {
+                device: self.device,
+                op: self.operation,
+                lit: answer,
+            },
+        }
+    }
+}
 
 impl<'a> Parts<'a> {
-    // The number of the argument, if it is one.
-    fn number_given(&self, environment: usize, argument: Option<Var>) -> Option<i64>
-        ensures { result ≡ number_in (given (table.argument_at (views.configuration_of self.now).store (option_map (variable_in self.now environment) argument))) }
+    /// Goes on with an answer to what is wanted.
+    pub fn resume(&mut self, answer: &Lit)
+        requires linked { IsLinked self.old }
+        requires answer { IsAnswerTo (question_in (table.step (views.configuration_of self.old))) (literal_of answer.now) }
+        ensures { Resumes (table.step (views.configuration_of self.old)) (literal_of answer.now) self.old self.new }
     {
-        match argument {
-            Some(variable) => self.number_at(environment, variable),
-            None => None,
+        match answer {
+            Lit::Unit => self.focus = Focus::Small(Small::Unit),
+            Lit::Bool(truth) => self.focus = Focus::Small(Small::Truth(*truth)),
+            Lit::Int(number) => self.focus = Focus::Small(Small::Number(*number)),
+            // No operation is answered by a text.
+            Lit::Str(_) => unreachable!(),
         }
     }
 
-    // The text of the argument, if it is one.
-    fn text_given(&self, environment: usize, argument: Option<Var>) -> Option<&'a RcStr>
-        ensures { option_map (λ text. chars (rc_str_bytes text.now)) result ≡ text_in (given (table.argument_at (views.configuration_of self.now).store (option_map (variable_in self.now environment) argument))) }
-    {
-        match argument {
-            Some(variable) => self.text_at(environment, variable),
-            None => None,
-        }
-    }
-
-    // The console of the number takes a number.
-    fn print(
-        &mut self,
-        devices: &mut Devices,
-        device: u32,
-        base: Base,
-        environment: usize,
-        argument: Option<Var>,
-    ) -> Result<Option<Event>, AllocError>
-        requires { IsLinked self.old }
-        ensures moves { IfOk result (λ event. GoesWith (closed devices.old (on self.old (λ store stack made. table.operation_step store stack made operations.Print (Some (DeviceCell device base)) (table.argument_at store (option_map (variable_in self.old environment) argument))))) self.old (option_map event_of event) self.new devices.new) }
-        ensures kept { OnErr result (self.new ≡ self.old) }
-        ensures devices { OnErr result (devices.new ≡ devices.old) }
-    {
-        match self.number_given(environment, argument) {
-            Some(number) => {
-                if devices.print(device, number)? {
-                    self.focus = Focus::Small(Small::Unit);
-                    Ok(Some(Event::Device {
-                        device,
-                        op: Op::Print,
-                        lit: Lit::Int(number),
-                    }))
-                } else {
-                    Ok(None)
-                }
-            }
-            None => Ok(None),
-        }
-    }
-
-    // The console of the number takes a text.
-    fn say(
-        &mut self,
-        devices: &mut Devices,
-        device: u32,
-        base: Base,
-        environment: usize,
-        argument: Option<Var>,
-    ) -> Result<Option<Event>, AllocError>
-        requires { IsLinked self.old }
-        ensures moves { IfOk result (λ event. GoesWith (closed devices.old (on self.old (λ store stack made. table.operation_step store stack made operations.Say (Some (DeviceCell device base)) (table.argument_at store (option_map (variable_in self.old environment) argument))))) self.old (option_map event_of event) self.new devices.new) }
-        ensures kept { OnErr result (self.new ≡ self.old) }
-        ensures devices { OnErr result (devices.new ≡ devices.old) }
-    {
-        match self.text_given(environment, argument) {
-            Some(text) => {
-                let said = text.clone()?;
-                let shown = text.clone()?;
-                if devices.say(device, said)? {
-                    self.focus = Focus::Small(Small::Unit);
-                    Ok(Some(Event::Device {
-                        device,
-                        op: Op::Say,
-                        lit: Lit::Str(shown),
-                    }))
-                } else {
-                    Ok(None)
-                }
-            }
-            None => Ok(None),
-        }
-    }
-
-    // The file of the number takes a number.
-    fn write(
-        &mut self,
-        devices: &mut Devices,
-        device: u32,
-        base: Base,
-        environment: usize,
-        argument: Option<Var>,
-    ) -> Result<Option<Event>, AllocError>
-        requires { IsLinked self.old }
-        ensures moves { IfOk result (λ event. GoesWith (closed devices.old (on self.old (λ store stack made. table.operation_step store stack made operations.Write (Some (DeviceCell device base)) (table.argument_at store (option_map (variable_in self.old environment) argument))))) self.old (option_map event_of event) self.new devices.new) }
-        ensures kept { OnErr result (self.new ≡ self.old) }
-        ensures devices { OnErr result (devices.new ≡ devices.old) }
-    {
-        match self.number_given(environment, argument) {
-            Some(number) => {
-                if devices.write(device, number)? {
-                    self.focus = Focus::Small(Small::Unit);
-                    Ok(Some(Event::Device {
-                        device,
-                        op: Op::Write,
-                        lit: Lit::Int(number),
-                    }))
-                } else {
-                    Ok(None)
-                }
-            }
-            None => Ok(None),
-        }
-    }
-
-    // The file of the number gives its next number.
-    fn read(
-        &mut self,
-        devices: &mut Devices,
-        device: u32,
-        base: Base,
-        environment: usize,
-        argument: Option<Var>,
-    ) -> Option<Event>
-        requires { IsLinked self.old }
-        ensures { GoesWith (closed devices.old (on self.old (λ store stack made. table.operation_step store stack made operations.Read (Some (DeviceCell device base)) (table.argument_at store (option_map (variable_in self.old environment) argument))))) self.old (option_map event_of result) self.new devices.new }
-    {
-        match devices.read(device) {
-            Some(number) => {
-                self.focus = Focus::Small(Small::Number(number));
-                Some(Event::Device {
-                    device,
-                    op: Op::Read,
-                    lit: Lit::Int(number),
-                })
-            }
-            None => None,
-        }
-    }
-
-    // The counter of the number counts one.
-    fn tick(
-        &mut self,
-        devices: &mut Devices,
-        device: u32,
-        base: Base,
-        environment: usize,
-        argument: Option<Var>,
-    ) -> Option<Event>
-        requires { IsLinked self.old }
-        ensures { GoesWith (closed devices.old (on self.old (λ store stack made. table.operation_step store stack made operations.Tick (Some (DeviceCell device base)) (table.argument_at store (option_map (variable_in self.old environment) argument))))) self.old (option_map event_of result) self.new devices.new }
-    {
-        match devices.tick(device) {
-            Some(number) => {
-                self.focus = Focus::Small(Small::Number(number));
-                Some(Event::Device {
-                    device,
-                    op: Op::Tick,
-                    lit: Lit::Int(number),
-                })
-            }
-            None => None,
-        }
-    }
-
-    // The device of the number, which is of the base shape, is operated.
-    fn operate_device(
-        &mut self,
-        devices: &mut Devices,
-        operation: Op,
-        device: u32,
-        base: Base,
-        environment: usize,
-        argument: Option<Var>,
-    ) -> Result<Option<Event>, AllocError>
-        requires { IsLinked self.old }
-        ensures moves { IfOk result (λ event. GoesWith (closed devices.old (on self.old (λ store stack made. table.operation_step store stack made operation (Some (DeviceCell device base)) (table.argument_at store (option_map (variable_in self.old environment) argument))))) self.old (option_map event_of event) self.new devices.new) }
-        ensures kept { OnErr result (self.new ≡ self.old) }
-        ensures devices { OnErr result (devices.new ≡ devices.old) }
-        ensures no_memory { TakesNoMemory operation → IsOk result }
-    {
-        match operation {
-            Op::Print => self.print(devices, device, base, environment, argument),
-            Op::Say => self.say(devices, device, base, environment, argument),
-            Op::Read => Ok(self.read(devices, device, base, environment, argument)),
-            Op::Write => self.write(devices, device, base, environment, argument),
-            Op::Tick => Ok(self.tick(devices, device, base, environment, argument)),
-        }
-    }
-
-    // The device in the cell is operated.
-    fn operate_cell(
-        &mut self,
-        devices: &mut Devices,
-        operation: Op,
-        cell: Cell<'a>,
-        environment: usize,
-        argument: Option<Var>,
-    ) -> Result<Option<Event>, AllocError>
-        requires { IsLinked self.old }
-        ensures moves { IfOk result (λ event. GoesWith (closed devices.old (on self.old (λ store stack made. table.operation_step store stack made operation (Some (views.cell_in self.old.links.items cell.entry)) (table.argument_at store (option_map (variable_in self.old environment) argument))))) self.old (option_map event_of event) self.new devices.new) }
-        ensures kept { OnErr result (self.new ≡ self.old) }
-        ensures devices { OnErr result (devices.new ≡ devices.old) }
-        ensures no_memory { TakesNoMemory operation → IsOk result }
-    {
-        match cell {
-            Cell::Device(device, base) => self.operate_device(
-                devices,
-                operation,
-                device,
-                base,
-                environment,
-                argument,
-            ),
-            Cell::Code(_, _) => Ok(None),
-            Cell::Small(_) => Ok(None),
-            Cell::Label(_) => Ok(None),
-        }
-    }
-
-    /// A device is operated.
+    /// One step on the devices where one is asked: it operates, and its answer is gone on with. Fails only for want of
+    /// memory, and then all is as before.
     pub fn operate(
         &mut self,
         devices: &mut Devices,
-        operation: Op,
-        environment: usize,
-        receiver: Var,
-        argument: Option<Var>,
+        wanted: Wanted<'a>,
     ) -> Result<Option<Event>, AllocError>
-        requires { IsLinked self.old }
-        ensures moves { IfOk result (λ event. GoesWith (closed devices.old (on self.old (λ store stack made. table.operation_step store stack made operation (stores.cell_at store (variable_in self.old environment receiver)) (table.argument_at store (option_map (variable_in self.old environment) argument))))) self.old (option_map event_of event) self.new devices.new) }
+        requires linked { IsLinked self.old }
+        requires wanted { Some (question_of wanted) ≡ question_in (table.step (views.configuration_of self.old)) }
+        ensures moves { IfOk result (λ event. GoesWith (move (state_in self.old devices.old)) self.old (option_map event_of event) self.new devices.new) }
         ensures kept { OnErr result (self.new ≡ self.old) }
         ensures devices { OnErr result (devices.new ≡ devices.old) }
-        ensures no_memory { TakesNoMemory operation → IsOk result }
+        ensures no_memory { TakesNoMemory wanted.entry.operation → IsOk result }
     {
-        match self.cell_of(environment, receiver) {
-            Some(cell) => self.operate_cell(devices, operation, cell, environment, argument),
+        let taken = wanted.own_argument()?;
+        let shown = wanted.own_argument()?;
+        match answer(devices, wanted.device, wanted.operation, taken)? {
+            Some(answer) => {
+                self.resume(&answer);
+                Ok(Some(wanted.event(shown, answer)))
+            }
             None => Ok(None),
         }
     }

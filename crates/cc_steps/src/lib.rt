@@ -2,6 +2,7 @@
 #![tactic(auto)]
 
 pub mod answers;
+pub mod asking;
 pub mod calls;
 pub mod choices;
 pub mod devices;
@@ -14,5 +15,6 @@ pub mod reading;
 pub mod scopes;
 pub mod stepping;
 
+pub use asking::Wanted;
 pub use links::Link;
 pub use parts::{Cell, Focus, Frame, Parts, Small};

@@ -1,7 +1,5 @@
 //! What stands in cells, and the literals there.
 ghost use Rattle.std.specs.Prelude.{◌≡◌, Some, None, List, slice_get, option_map};
-ghost use Rattle.std.specs.Rc.{rc_str_bytes};
-ghost use Rattle.std.specs.Str.{chars};
 ghost use Rattle.cc_base.specs.Literals.{literal_of};
 ghost use Rattle.cc_core.specs.Stores as stores;
 ghost use Rattle.cc_core.specs.Views.{term_of};
@@ -10,7 +8,7 @@ ghost use Rattle.cc_meta_runs.specs.Answers as answers;
 ghost use Rattle.cc_meta_runs.specs.Machine.{literal_in};
 ghost use Rattle.cc_steps.specs.declared.links.Link.{Link};
 ghost use Rattle.cc_steps.specs.Environments.{follow};
-ghost use Rattle.cc_steps.specs.Lines.{number_in, truth_in, text_in};
+ghost use Rattle.cc_steps.specs.Lines.{number_in, truth_in};
 ghost use Rattle.cc_steps.specs.Parts.{cell_in, configuration_of, literal_of_term, small_literal};
 ghost use Rattle.cc_steps.specs.Finding.{held_at};
 ghost use Rattle.cc_steps.specs.Putting.{resolved};
@@ -21,7 +19,6 @@ use cc_base::literal::Lit;
 use cc_capture::Var;
 use cc_core::{Form, Node};
 use cc_device::ShownLit;
-use std::rc::RcStr;
 
 /// Whether the term is a variable or a value.
 pub fn is_answer(node: &Node) -> bool
@@ -141,16 +138,6 @@ impl<'a> Parts<'a> {
             None => None,
         }
     }
-
-    /// The text that the variable stands for in the environment, if it stands for one.
-    pub fn text_at(&self, environment: usize, variable: Var) -> Option<&'a RcStr>
-        ensures { option_map (λ text. chars (rc_str_bytes text.now)) result ≡ text_in (literal_in (stores.cell_at (configuration_of self.now).store (resolved (follow self.now.links.items environment) variable))) }
-    {
-        match self.literal_at(environment, variable) {
-            Some(literal) => text_of(literal),
-            None => None,
-        }
-    }
 }
 
 // The number that the literal is, if it is one.
@@ -174,17 +161,5 @@ fn truth_of(literal: ShownLit) -> Option<bool>
         ShownLit::Unit => None,
         ShownLit::Int(_) => None,
         ShownLit::Str(_) => None,
-    }
-}
-
-// The text that the literal is, if it is one.
-fn text_of<'a>(literal: ShownLit<'a>) -> Option<&'a RcStr>
-    ensures { option_map (λ text. chars (rc_str_bytes text.now)) result ≡ text_in (Some (shown_literal literal.entry)) }
-{
-    match literal {
-        ShownLit::Str(text) => Some(text),
-        ShownLit::Unit => None,
-        ShownLit::Bool(_) => None,
-        ShownLit::Int(_) => None,
     }
 }

@@ -1,11 +1,12 @@
 //! One step of the machine.
-ghost use Rattle.std.specs.Prelude.{◌≡◌, ◌≤◌, ℕ, IfOk, IsOk, OnErr, length, option_map};
+ghost use Rattle.std.specs.Prelude.{◌≡◌, ◌≤◌, ℕ, None, IfOk, IsOk, OnErr, length, option_map};
 ghost use Rattle.cc_core.specs.Contexts.{lookup};
 ghost use Rattle.cc_device.specs.Views.{event_of};
 ghost use Rattle.cc_meta_runs.specs.Machine as table;
-ghost use Rattle.cc_meta_runs.specs.Runs.{closed, move};
+ghost use Rattle.cc_meta_runs.specs.Runs.{move};
 ghost use Rattle.cc_steps.specs.declared.parts.Focus.TheVariants as focuses;
-ghost use Rattle.cc_steps.specs.Lines.{GoesWith, IsWriting, on, state_in};
+ghost use Rattle.cc_steps.specs.Asking.{question_in};
+ghost use Rattle.cc_steps.specs.Lines.{Goes, GoesWith, IsWriting, on, state_in};
 ghost use Rattle.cc_steps.specs.Operands.{HasFreeOperands, HoldsFreeContent};
 ghost use Rattle.cc_steps.specs.Parts as views;
 ghost use Rattle.cc_steps.specs.Parts.{IsLinked, HasRoom};
@@ -17,62 +18,74 @@ use cc_device::{Devices, Event};
 use std::alloc::AllocError;
 
 impl<'a> Parts<'a> {
-    // One step where a term of the program runs.
-    fn step_code(
-        &mut self,
-        devices: &mut Devices,
-        node: &'a Node,
-        environment: usize,
-    ) -> Result<Option<Event>, AllocError>
+    // One step where a term of the program runs and asks nothing.
+    fn advance_code(&mut self, node: &'a Node, environment: usize) -> Option<Event>
         requires linked { IsLinked self.old }
         requires room { HasRoom self.old 1 }
         requires focus { self.old.focus ≡ focuses.Code node environment }
         requires operands { HasFreeOperands (term_in self.old environment node.now) }
         requires contents { (position : ℕ) → HoldsFreeContent (lookup (views.configuration_of self.old).store position) }
-        ensures moves { IfOk result (λ event. GoesWith (closed devices.old (on self.old (λ store stack made. table.term_step store stack made (term_in self.old environment node.now)))) self.old (option_map event_of event) self.new devices.new) }
-        ensures kept { OnErr result (self.new ≡ self.old) }
-        ensures devices { OnErr result (devices.new ≡ devices.old) }
-        ensures no_memory { (IsWriting (term_in self.old environment node.now) → ⊥) → IsOk result }
+        requires unasked { question_in (on self.old (λ store stack made. table.term_step store stack made (term_in self.old environment node.now))) ≡ None }
+        ensures { Goes (on self.old (λ store stack made. table.term_step store stack made (term_in self.old environment node.now))) self.old (option_map event_of result) self.new }
     {
         match &node.form {
-            Form::Var(_) => Ok(self.answered()),
-            Form::Lit(_) => Ok(self.answered()),
-            Form::Fun(_, _) => Ok(self.answered()),
-            Form::TFun(_, _) => Ok(self.answered()),
-            Form::Boxed(_) => Ok(self.answered()),
+            Form::Var(_) => self.answered(),
+            Form::Lit(_) => self.answered(),
+            Form::Fun(_, _) => self.answered(),
+            Form::TFun(_, _) => self.answered(),
+            Form::Boxed(_) => self.answered(),
             Form::App(function, argument) => {
                 self.apply(environment, *function, *argument);
-                Ok(None)
+                None
             }
             Form::TApp(function, _) => {
                 self.instantiate(environment, *function);
-                Ok(None)
+                None
             }
             Form::Unbox(_, held) => {
                 self.open(environment, *held);
-                Ok(None)
+                None
             }
             Form::Let(_, right, body) => {
                 self.bind(right, body, environment);
-                Ok(None)
+                None
             }
             Form::Prim(operator, left, right) => {
                 self.compute(environment, *operator, *left, *right);
-                Ok(None)
+                None
             }
             Form::If(_, test, positive, negative) => {
                 self.choose(environment, *test, positive, negative);
-                Ok(None)
+                None
             }
             Form::Repeat(count, function) => {
                 self.repeat(environment, *count, *function);
-                Ok(None)
+                None
             }
-            Form::Operate(operation, receiver, argument) => {
-                self.operate(devices, *operation, environment, *receiver, *argument)
+            // An operation that asks nothing is stuck.
+            Form::Operate(_, _, _) => None,
+            Form::Boundary(_, body) => self.begin(body, environment),
+            Form::Leave(_, exit, value) => self.leave(environment, *exit, *value),
+        }
+    }
+
+    /// One step where no device is asked.
+    pub fn advance(&mut self) -> Option<Event>
+        requires linked { IsLinked self.old }
+        requires room { HasRoom self.old 1 }
+        requires operands { HasFreeOperands (views.configuration_of self.old).term }
+        requires contents { (position : ℕ) → HoldsFreeContent (lookup (views.configuration_of self.old).store position) }
+        requires unasked { question_in (table.step (views.configuration_of self.old)) ≡ None }
+        ensures { Goes (table.step (views.configuration_of self.old)) self.old (option_map event_of result) self.new }
+    {
+        match self.focus {
+            Focus::Code(node, environment) => self.advance_code(node, environment),
+            Focus::Position(_) => self.answered(),
+            Focus::Small(_) => self.answered(),
+            Focus::Apply(function, argument) => {
+                self.apply_at(function, argument);
+                None
             }
-            Form::Boundary(_, body) => Ok(self.begin(body, environment)),
-            Form::Leave(_, exit, value) => Ok(self.leave(environment, *exit, *value)),
         }
     }
 
@@ -87,14 +100,9 @@ impl<'a> Parts<'a> {
         ensures devices { OnErr result (devices.new ≡ devices.old) }
         ensures no_memory { (IsWriting (views.configuration_of self.old).term → ⊥) → IsOk result }
     {
-        match self.focus {
-            Focus::Code(node, environment) => self.step_code(devices, node, environment),
-            Focus::Position(_) => Ok(self.answered()),
-            Focus::Small(_) => Ok(self.answered()),
-            Focus::Apply(function, argument) => {
-                self.apply_at(function, argument);
-                Ok(None)
-            }
+        match self.wanted() {
+            Some(wanted) => self.operate(devices, wanted),
+            None => Ok(self.advance()),
         }
     }
 }
