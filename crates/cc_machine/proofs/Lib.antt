@@ -1,5 +1,6 @@
 pub mod FinalStates
 pub mod FreeOperands
+pub mod GivenAnswers
 pub mod Keeping
 pub mod LoadedCells
 pub mod RunLemmas

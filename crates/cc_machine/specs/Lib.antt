@@ -1,3 +1,4 @@
+pub mod Answering
 pub mod Loading
 pub mod Machines
 pub mod Reports

@@ -3,9 +3,10 @@ ghost use Rattle.cc_machine.specs.Standing.{StandsSoundly};
 ghost use Rattle.cc_steps.specs.Parts.{configuration_of, IsLinked, HasRoom};
 
 use crate::loading::{add_devices, add_values};
+use cc_base::literal::Lit;
 use cc_device::{Devices, Event, Shown};
 use cc_program::Program;
-use cc_steps::{Cell, Focus, Parts, Small};
+use cc_steps::{Cell, Focus, Parts, Small, Wanted};
 use std::alloc::{AllocError, Global};
 
 /// A machine that runs a program. Each variable is looked up in an environment, and no step copies a term.
@@ -22,16 +23,20 @@ pub struct Machine<'a> {
 }
 
 impl<'a> Machine<'a> {
-    ghost use Rattle.std.specs.Prelude.{◌≡◌, ◌≢◌, ◌<◌, ◌≤◌, ◌+◌, ◌↔◌, max, Some, IfOk, IsOk, IsTrue, OnErr, OnOk, option_map};
+    ghost use Rattle.std.specs.Prelude.{◌≡◌, ◌≢◌, ◌<◌, ◌≤◌, ◌+◌, ◌↔◌, max, Some, None, IfOk, IsOk, IsTrue, OnErr, OnOk, option_map};
+    ghost use Rattle.cc_base.specs.Literals.{literal_of};
     ghost use Rattle.cc_device.specs.Views.{event_of, shown_of};
+    ghost use Rattle.cc_machine.specs.Answering.{AdvancesAlike, AnswersAlike, GoesOnWith};
     ghost use Rattle.cc_machine.specs.Machines.{count_cells, held_by, spare_of};
-    ghost use Rattle.cc_machine.specs.Standing.{KeepsShapes, StepsAlike, with_devices};
+    ghost use Rattle.cc_machine.specs.Standing.{KeepsShapes, StandsFor, StepsAlike, with_devices};
     ghost use Rattle.cc_meta_runs.specs.Alike.{erased_configuration};
     ghost use Rattle.cc_meta_runs.specs.Answers.{shown};
     ghost use Rattle.cc_meta_runs.specs.Machine as table;
+    ghost use Rattle.cc_meta_runs.specs.Machine.{Configuration};
     ghost use Rattle.cc_meta_runs.specs.Runs.{Moves, move};
     ghost use Rattle.cc_meta_runs.specs.SoundRuns.{HasShapesOfCells};
     ghost use Rattle.cc_program.specs.Programs.{start_of};
+    ghost use Rattle.cc_steps.specs.Asking.{IsAnswerTo, asked_text, question_in, question_of};
     ghost use Rattle.cc_steps.specs.Lines.{IsWriting};
 
     /// The machine at the start of the program. Fails only for want of memory.
@@ -104,5 +109,52 @@ impl<'a> Machine<'a> {
         let event = self.parts.step(devices)?;
         self.spare = self.spare.saturating_sub(1);
         Ok(event)
+    }
+
+    /// What a device is asked next, if one is: exactly where the step of the definitions asks.
+    pub fn wanted(&self) -> Option<Wanted<'a>>
+        ensures held { option_map question_of result ≡ question_in (table.step (held_by self.now)) }
+        ensures alike { (configuration : Configuration) → StandsFor (held_by self.now) configuration → option_map question_of result ≡ question_in (table.step configuration) }
+    {
+        self.parts.wanted()
+    }
+
+    /// Takes one step where no device is asked. Fails only for want of memory, and then the machine is as before.
+    pub fn advance(&mut self) -> Result<Option<Event>, AllocError>
+        requires positions { count_cells self.old < 4294967295 }
+        requires unasked { question_in (table.step (held_by self.old)) ≡ None }
+        requires running { table.step (held_by self.old) ≢ table.Final }
+        ensures next { IfOk result (λ event. table.step (held_by self.old) ≡ table.Next (option_map event_of event) (held_by self.new)) }
+        ensures steps { IfOk result (λ event. AdvancesAlike (held_by self.old) (option_map event_of event) (held_by self.new)) }
+        ensures kept { OnErr result (held_by self.new ≡ held_by self.old) }
+        ensures cells { count_cells self.new ≤ count_cells self.old + 1 }
+        ensures spare { OnOk result (spare_of self.old ≤ spare_of self.new + 1) }
+        ensures no_memory { 0 < spare_of self.old → IsOk result }
+    {
+        self.parts.reserve(1)?;
+        let event = self.parts.advance();
+        self.spare = self.spare.saturating_sub(1);
+        Ok(event)
+    }
+
+    /// Takes one step with the answer to what is asked, which is of the operation's kind, in the place of a device's.
+    /// Fails only for want of memory, which a text that is the argument alone takes, and then the machine is as before.
+    pub fn answer(&mut self, answer: Lit) -> Result<Event, AllocError>
+        requires { IsAnswerTo (question_in (table.step (held_by self.old))) (literal_of answer) }
+        ensures next { IfOk result (λ event. GoesOnWith (literal_of answer) (held_by self.old) (event_of event) (held_by self.new)) }
+        ensures steps { IfOk result (λ event. AnswersAlike (held_by self.old) (literal_of answer) (event_of event) (held_by self.new)) }
+        ensures kept { OnErr result (held_by self.new ≡ held_by self.old) }
+        ensures cells { count_cells self.new ≡ count_cells self.old }
+        ensures spare { spare_of self.new ≡ spare_of self.old }
+        ensures no_memory { asked_text (question_in (table.step (held_by self.old))) ≡ None → IsOk result }
+    {
+        match self.parts.wanted() {
+            Some(wanted) => {
+                let argument = wanted.own_argument()?;
+                self.parts.resume(&answer);
+                Ok(wanted.event(argument, answer))
+            }
+            None => unreachable!(),
+        }
     }
 }
