@@ -132,8 +132,9 @@ impl<'a> Machine<'a> {
         ensures no_memory { 0 < spare_of self.old → IsOk result }
     {
         self.parts.reserve(1)?;
+        let left = self.spare.saturating_sub(1);
         let event = self.parts.advance();
-        self.spare = self.spare.saturating_sub(1);
+        self.spare = left;
         Ok(event)
     }
 

@@ -33,8 +33,8 @@ advance-event-requires-clause-unasked c = subst (λ h. question_in (step h) ≡ 
 pub invariant_of-self-2 : goal.invariant_of-self-2
 invariant_of-self-2 c = record {
   linked = c.advance-event.ensures.linked;
-  room = room_after c.args.self.now.spare c.saturating_sub-self.result (c.reserve.ensures.same.room c.args.self.now.spare c.args.self.now.room)
-      c.in_ok-reserve.ensures.room c.advance-event.ensures.uses c.saturating_sub-self.ensures;
+  room = room_after c.args.self.now.spare c.saturating_sub-left.result (c.reserve.ensures.same.room c.args.self.now.spare c.args.self.now.room)
+      c.in_ok-reserve.ensures.room c.advance-event.ensures.uses c.saturating_sub-left.ensures;
   sound = advanced_stands (option_map event_of c.advance-event.result) c.reserve.ensures.same c.advance-event.ensures c.args.self.now.sound c.requires.running;
 }
 
