@@ -21,7 +21,7 @@ use Rattle.cc_core.specs.Terms.{LiteralTerm, VariableTerm, FunctionTerm}
 use Rattle.cc_core.specs.Contexts.{entry_of}
 use Rattle.cc_core.specs.WellFormed.{Kind, kinds_of, is_well_formed_shape}
 use Rattle.cc_core.specs.Derivations.{t-var, OfType}
-use Rattle.cc_job.specs.Reading.{name_of, number_of}
+use Rattle.cc_words.specs.Words.{name_of, number_of}
 use Rattle.cc_print.specs.TypeTexts.{shape_under}
 use Rattle.cc_certificate_text.specs.Certificates.{Line, Opens, Binds, States, Concludes, Stage, Start, Binding, Proving, Fits, AllFit, IsWhole, Stops, behind_line, behind_lines, binder_number, line_text, lines_text, IsBadLine}
 use Rattle.cc_certificate_text.specs.Heights.{shape_height}

@@ -10,7 +10,7 @@ use Rattle.cc_core.specs.Shapes.{capturing}
 use Rattle.cc_core.specs.Occurrences.{HasNoHoleInSet}
 use Rattle.cc_certificate_text.specs.Certificates.{Binding, Proving, Opens, States, Concludes, Fits, IsBadLine}
 use Rattle.std.specs.List.{IsDistinct}
-use Rattle.cc_job.specs.Reading.{number_of}
+use Rattle.cc_words.specs.Words.{number_of}
 use Rattle.cc_certificate_text.specs.Reading.{Wrong, begun, word_at, exact_at, number_at, same_number_at}
 use Rattle.cc_certificate_text.specs.LineReading.{next_line, line_at, node_at, numbered_node_at, rule_at, rule_of, numbers_at, numbers_of, ends_with}
 use Rattle.cc_certificate_text.proofs.Certified.{stops_there}

@@ -5,38 +5,22 @@ ghost use Rattle.std.specs.Str.{bytes_eq};
 ghost use Rattle.std.specs.List.{list_any};
 ghost use Rattle.cc_core.specs.Places.{places_of};
 ghost use Rattle.cc_core.specs.Views.{term_of, context_of};
-ghost use Rattle.cc_job.specs.Reading.{name_of};
 ghost use Rattle.cc_certificate_text.specs.Certificates.{States};
 ghost use Rattle.cc_certificate_text.specs.LineReading.{name_at, bind_at, statement_at};
 ghost use Rattle.cc_certificate_terms.specs.FirstPlaces.{AreFirst};
 ghost use Rattle.cc_certificate_types.specs.Agreement.{Agrees};
 ghost use Rattle.cc_certificate_reading.specs.Views.{bind_line_of};
 
-use cc_base::name::{Name, NameError};
+use cc_base::name::Name;
 use cc_certificate_terms::terms::read_term;
 use cc_certificate_types::sets::Locals;
 use cc_certificate_types::stop::{Reading, Stop};
 use cc_certificate_types::types::read_type;
-use cc_certificate_types::words::{cut_at, read_exact};
+use cc_certificate_types::words::read_exact;
 use cc_core::wellformed::{wf, wf_term};
 use cc_core::{Ctx, Node, Ty};
-use std::alloc::{AllocError, Global};
-use std::str;
-
-// The name that a word is, if it is one.
-#[tactic(auto, unfolding(cc_job::specs::Reading::name_of))]
-fn name_of(alloc: Global, word: &[u8]) -> Result<Option<Name>, AllocError>
-    ensures { IfOk result (λ name. name ≡ name_of word.now) }
-{
-    let Ok(text) = str::from_utf8(word) else {
-        return Ok(None);
-    };
-    match Name::read(alloc, text) {
-        Ok(name) => Ok(Some(name)),
-        Err(NameError::NotAName) => Ok(None),
-        Err(NameError::NoMemory) => Err(AllocError),
-    }
-}
+use cc_words::words::{cut_at, name_of};
+use std::alloc::Global;
 
 // A name, and the colon behind it.
 #[tactic(auto, unfolding(cc_certificate_text::specs::LineReading::name_at))]

@@ -26,13 +26,13 @@ ghost use Rattle.cc_certificate_types.specs.Agreement.{Agrees};
 ghost use Rattle.cc_certificate_reading.specs.Views.{numbered_of, kind_of};
 
 use cc_base::name::Name;
-use cc_certificate_types::numbers::number_of;
 use cc_certificate_types::sets::{Locals, read_set};
 use cc_certificate_types::stop::{Reading, Stop};
 use cc_certificate_types::types::{read_shape, read_type};
-use cc_certificate_types::words::{behind, read_exact, word_at};
+use cc_certificate_types::words::{read_exact, word_at};
 use cc_core::{Shape, Ty};
 use cc_derivation::Claim;
+use cc_words::words::{behind, number_of};
 use std::alloc::Global;
 use std::rc::Rc;
 

@@ -1,7 +1,7 @@
 //! Nodes.
 
 ghost use Rattle.std.specs.Prelude.{◌≡◌, ◌≤◌, ◌<◌, ◌+◌, map, length, option_map, IfOk};
-ghost use Rattle.cc_job.specs.Reading.{all_of, number_of};
+ghost use Rattle.cc_words.specs.Words.{all_of, number_of};
 ghost use Rattle.cc_derivation.specs.Views as plain;
 ghost use Rattle.cc_certificate_text.specs.LineReading.{numbers_of, some_numbers, numbers_at, ends_with, conclusion_at, numbered_node_at, node_at};
 ghost use Rattle.cc_certificate_types.specs.Agreement.{Agrees};
@@ -11,10 +11,11 @@ use crate::certificate::CertNode;
 use crate::claims::read_claim;
 use crate::rules::{kind_of, read_rule};
 use cc_base::name::Name;
-use cc_certificate_types::numbers::{number_of, read_same};
+use cc_certificate_types::numbers::read_same;
 use cc_certificate_types::stop::{Reading, Stop};
-use cc_certificate_types::words::{cut_at, read_exact, split_at};
+use cc_certificate_types::words::read_exact;
 use cc_derivation::Rule;
+use cc_words::words::{cut_at, number_of, split_at};
 use std::alloc::{AllocError, Global};
 
 // The numbers that words write, if each writes one.

@@ -16,8 +16,9 @@ use crate::certificate::{Cert, CertNode, ReadCertError};
 use crate::nodes::read_node;
 use cc_base::name::Name;
 use cc_certificate_types::stop::{Reading, Stop};
-use cc_certificate_types::words::{behind, read_exact};
+use cc_certificate_types::words::read_exact;
 use cc_core::{Bind, Ctx, Node, Ty};
+use cc_words::words::behind;
 use std::alloc::{AllocError, Global};
 use std::rc::Rc;
 

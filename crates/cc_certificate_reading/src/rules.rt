@@ -10,8 +10,8 @@ ghost use Rattle.cc_certificate_reading.specs.Views.{kind_of};
 
 use crate::claims::ClaimKind;
 use cc_certificate_types::stop::{Reading, Stop};
-use cc_certificate_types::words::cut_at;
 use cc_derivation::Rule;
+use cc_words::words::cut_at;
 
 // The last rules.
 fn last_rule_of(word: &[u8]) -> Option<Rule>

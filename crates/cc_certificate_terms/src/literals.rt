@@ -8,7 +8,7 @@ ghost use Rattle.cc_lex.specs.Forms.{stands_in_string};
 ghost use Rattle.cc_certificate_text.specs.Reading.{literal_where, text_of, number_literal, literal_of};
 
 use cc_base::literal::Lit;
-use cc_certificate_types::numbers::number_of;
+use cc_words::words::number_of;
 use std::alloc::{AllocError, Global};
 use std::rc::RcStr;
 use std::str;

@@ -47,8 +47,9 @@ use cc_certificate_types::numbers::read_same;
 use cc_certificate_types::sets::{Locals, read_set, variable_of};
 use cc_certificate_types::stop::{Reading, Stop};
 use cc_certificate_types::types::{read_shape, read_type};
-use cc_certificate_types::words::{behind, cut_at, read_exact, word_at};
+use cc_certificate_types::words::{read_exact, word_at};
 use cc_core::{Form, Node, Note};
+use cc_words::words::{behind, cut_at};
 use std::alloc::Global;
 use std::rc::Rc;
 

@@ -11,9 +11,9 @@ use Rattle.cc_core.specs.Terms.{Term}
 use Rattle.cc_core.specs.Contexts.{Bind, Context, entry_of}
 use Rattle.cc_core.specs.WellFormed.{Kind, TermKind, kinds_of, is_well_formed_type, is_well_formed_term}
 use Rattle.cc_core.proofs.KindFacts.{IsKindedType-from, IsKindedTerm-from}
-use Rattle.cc_job.specs.Reading.{after_prefix, cut_at, name_of}
-use Rattle.cc_job.proofs.Steps.{cut_at_gives, cut_at-append, name_of_gives}
-use Rattle.cc_job.proofs.NameBytes.{Lacks-name, name_of-encoded}
+use Rattle.cc_words.specs.Words.{after_prefix, cut_at, name_of}
+use Rattle.cc_words.proofs.Steps.{cut_at_gives, cut_at-append, name_of_gives}
+use Rattle.cc_words.proofs.NameBytes.{Lacks-name, name_of-encoded}
 use Rattle.cc_print.specs.TypeTexts.{type_text, type_under}
 use Rattle.cc_print.proofs.Words.{clash}
 use Rattle.cc_certificate_text.specs.Heights.{shape_height, term_height}

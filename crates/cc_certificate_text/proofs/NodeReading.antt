@@ -11,11 +11,10 @@ use Rattle.cc_base.specs.Names.{IsName}
 use Rattle.cc_capture.specs.Sets.{Set, empty, image}
 use Rattle.cc_core.specs.Shapes.{Shape, CapturingType}
 use Rattle.cc_core.specs.Derivations.{Rule, ByElement, ByVariable, BySet, ByReflexivity, ByTransitivity, ByTypeVariable, ByTop, ByFunction, ByTypeFunction, ByBox, ByCapturing, t-var, t-lit, t-abs, t-tabs, t-app, t-tapp, t-box, t-unbox, t-let, t-prim, t-if, t-repeat, t-op, t-boundary, t-exit, t-sub, Claim, SetBelow, ShapeBelow, TypeBelow, OfType}
-use Rattle.cc_job.specs.Jobs.{joined}
-use Rattle.cc_job.specs.Reading.{after_prefix, cut_at, split_at, all_of, number_of}
-use Rattle.cc_job.proofs.Steps.{cut_at_gives, cut_at-append, Lacks}
-use Rattle.cc_job.proofs.Numbers.{number_of_gives, number_of-decimal, all_of_gives, all_of-map, AllLack-map}
-use Rattle.cc_job.proofs.Splits.{Lacks-test, AllLack, joined-split_at, split_at-joined, Lacks-joined}
+use Rattle.cc_words.specs.Words.{joined, after_prefix, cut_at, split_at, all_of, number_of}
+use Rattle.cc_words.proofs.Steps.{cut_at_gives, cut_at-append, Lacks}
+use Rattle.cc_words.proofs.Numbers.{number_of_gives, number_of-decimal, all_of_gives, all_of-map, AllLack-map}
+use Rattle.cc_words.proofs.Splits.{Lacks-test, AllLack, joined-split_at, split_at-joined, Lacks-joined}
 use Rattle.cc_print.specs.TypeTexts.{set_under, elements_text}
 use Rattle.cc_print.proofs.Words.{IsWord, EndsWord, word_decimal, is_word_byte}
 use Rattle.cc_certificate_text.specs.NodeTexts.{rule_text, claim_text, other_numbers, numbers_text, node_line}

@@ -13,12 +13,11 @@ use Rattle.cc_capture.specs.declared.var.Var.{Var}
 use Rattle.cc_capture.specs.declared.var.Var.TheVariants.{Bound, Free}
 use Rattle.cc_capture.specs.declared.var.Elem.{Elem}
 use Rattle.cc_capture.specs.declared.var.Elem.TheVariants.{Var as Variable, Cap, Hole}
-use Rattle.cc_job.specs.Jobs.{joined}
-use Rattle.cc_job.specs.Reading.{after_prefix, cut_at, split_at, first_and_rest, all_of, number_of, ◌>>=◌}
-use Rattle.cc_job.proofs.Steps.{some_from_bind, after_prefix_gives, after_prefix-append, cut_at_gives, cut_at-append, Lacks, Lacks-append}
-use Rattle.cc_job.proofs.NameBytes.{Lacks-name}
-use Rattle.cc_job.proofs.Numbers.{Lacks-decimal, all_of_gives, all_of-map, AllLack-map}
-use Rattle.cc_job.proofs.Splits.{AllLack, joined-split_at, split_at-joined, Lacks-joined}
+use Rattle.cc_words.specs.Words.{joined, after_prefix, cut_at, split_at, first_and_rest, all_of, number_of, ◌>>=◌}
+use Rattle.cc_words.proofs.Steps.{some_from_bind, after_prefix_gives, after_prefix-append, cut_at_gives, cut_at-append, Lacks, Lacks-append}
+use Rattle.cc_words.proofs.NameBytes.{Lacks-name}
+use Rattle.cc_words.proofs.Numbers.{Lacks-decimal, all_of_gives, all_of-map, AllLack-map}
+use Rattle.cc_words.proofs.Splits.{AllLack, joined-split_at, split_at-joined, Lacks-joined}
 use Rattle.cc_print.specs.TypeTexts.{numbered, position_text, variable_text, element_text, others_text, elements_text}
 use Rattle.cc_print.proofs.ElementTexts.{ends_differ}
 use Rattle.cc_print.proofs.Words.{is_word_byte, IsWord, EndsWord, clash, word_append, word_name, word_decimal, name_no_low_line, name_some, name_not_reserved}

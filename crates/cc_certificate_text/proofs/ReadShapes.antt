@@ -7,7 +7,7 @@ use Rattle.cc_base.specs.Names.{IsName}
 use Rattle.cc_base.specs.declared.literal.Base.TheVariants as bases
 use Rattle.cc_capture.specs.declared.var.Var.{Var}
 use Rattle.cc_capture.specs.declared.var.Var.TheVariants.{Bound, Free}
-use Rattle.cc_job.specs.Reading.{after_prefix}
+use Rattle.cc_words.specs.Words.{after_prefix}
 use Rattle.cc_core.specs.Shapes.{Shape, BaseShape, AnyShape, TypeVariable, FunctionShape, TypeFunctionShape, BoxShape, ExitShape, CapturingType, capturing}
 use Rattle.cc_print.specs.TypeTexts.{numbered}
 use Rattle.cc_print.proofs.Words.{EndsWord, word_decimal}

@@ -17,8 +17,8 @@ use Rattle.cc_capture.specs.Sets.{Set, image, empty}
 use Rattle.cc_capture.proofs.Images.{image-identity, image-congruent}
 use Rattle.cc_core.specs.Shapes.{Shape, BaseShape, AnyShape, TypeVariable, FunctionShape, TypeFunctionShape, BoxShape, ExitShape, CapturingType, capturing}
 use Rattle.cc_core.specs.Terms.{Note, Absent, Written, Own, Term, VariableTerm, LiteralTerm, FunctionTerm, TypeFunctionTerm, BoxTerm, Application, TypeApplication, Unboxing, Let, Primitive, Conditional, Repetition, Operation, Boundary, Leave}
-use Rattle.cc_job.specs.Reading.{after_prefix, cut_at}
-use Rattle.cc_job.proofs.Steps.{cut_at_gives, cut_at-append, Lacks}
+use Rattle.cc_words.specs.Words.{after_prefix, cut_at}
+use Rattle.cc_words.proofs.Steps.{cut_at_gives, cut_at-append, Lacks}
 use Rattle.cc_print.specs.TypeTexts.{numbered, variable_text, element_text, others_text, elements_text, set_under, shape_under, type_under}
 use Rattle.cc_print.proofs.Words.{IsWord, EndsWord, clash, first_same, same_words, name_not_reserved, low_line_not_reserved, is_word_byte}
 use Rattle.cc_certificate_text.specs.Heights.{shape_height, term_height}

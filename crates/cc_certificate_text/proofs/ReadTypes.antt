@@ -5,10 +5,9 @@ use Rattle.std.proofs.lemmas.Bool.{true≢false}
 use Rattle.cc_base.specs.Names.{IsName}
 use Rattle.cc_capture.specs.declared.var.Elem.{Elem}
 use Rattle.cc_capture.specs.Sets.{Set, from_list, image, empty}
-use Rattle.cc_job.specs.Jobs.{joined}
-use Rattle.cc_job.specs.Reading.{after_prefix, cut_at, split_at, ◌>>=◌ as ◌>>>◌}
-use Rattle.cc_job.proofs.Steps.{some_from_bind, cut_at_gives, cut_at-append, Lacks}
-use Rattle.cc_job.proofs.Splits.{joined-split_at}
+use Rattle.cc_words.specs.Words.{joined, after_prefix, cut_at, split_at, ◌>>=◌ as ◌>>>◌}
+use Rattle.cc_words.proofs.Steps.{some_from_bind, cut_at_gives, cut_at-append, Lacks}
+use Rattle.cc_words.proofs.Splits.{joined-split_at}
 use Rattle.cc_capture.proofs.Images.{image-empty}
 use Rattle.cc_core.specs.Shapes.{Shape, BaseShape, AnyShape, TypeVariable, FunctionShape, TypeFunctionShape, BoxShape, ExitShape, CapturingType, capturing}
 use Rattle.std.proofs.lemmas.Bool.Decides.{Decides-eqb}

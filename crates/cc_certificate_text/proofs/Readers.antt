@@ -2,9 +2,9 @@
 use Rattle.std.proofs.Common.{◌≡◌, ℕ, ◌^◌, ◌<◌, ◌≤◌, Bool, true, false, ◌==◌, List, [], ◌∷◌, ◌++◌, Option, Some, None, decimal, refl, sym, ap, subst, ◌∙◌, arith}
 use Rattle.std.proofs.lemmas.Bool.{true≢false}
 use Rattle.std.proofs.lemmas.Bool.Decides.{Decides-eqb}
-use Rattle.cc_job.specs.Reading.{after_prefix, number_of}
-use Rattle.cc_job.proofs.Steps.{after_prefix_gives, after_prefix-append}
-use Rattle.cc_job.proofs.Numbers.{number_of_gives, number_of-decimal}
+use Rattle.cc_words.specs.Words.{after_prefix, number_of}
+use Rattle.cc_words.proofs.Steps.{after_prefix_gives, after_prefix-append}
+use Rattle.cc_words.proofs.Numbers.{number_of_gives, number_of-decimal}
 use Rattle.cc_print.proofs.Words.{IsWord, EndsWord, word_decimal}
 use Rattle.cc_certificate_text.specs.Reading.{Found, Got, Wrong, Reader, ◌>>=◌, found_of, where_true, begun, is_word_byte, word_at, exact_at, number_at, same_number_at}
 

@@ -12,9 +12,9 @@ use Rattle.cc_capture.specs.declared.var.Elem.{Elem}
 use Rattle.cc_capture.specs.declared.var.Elem.TheVariants.{Var as Variable, Cap, Hole}
 use Rattle.cc_capture.specs.Elements.{element_order}
 use Rattle.cc_capture.specs.ElementOrder.{element_order-total, element_order-itself, element_order-Free, element_order-Bound}
-use Rattle.cc_job.specs.Reading.{number_of, ◌>>=◌}
-use Rattle.cc_job.proofs.Steps.{some_from_bind}
-use Rattle.cc_job.proofs.Numbers.{number_of_gives, number_of-decimal}
+use Rattle.cc_words.specs.Words.{number_of, ◌>>=◌}
+use Rattle.cc_words.proofs.Steps.{some_from_bind}
+use Rattle.cc_words.proofs.Numbers.{number_of_gives, number_of-decimal}
 use Rattle.cc_print.specs.TypeTexts.{numbered, variable_text}
 use Rattle.cc_certificate_text.specs.LocalNames.{local_position, local_element, IsNamed, IsNamedElement, IsLocal}
 use Rattle.cc_certificate_text.specs.Reading.{Locals, Printed, Counted, bound_where, local_at, local_of, is_less, stands_before}

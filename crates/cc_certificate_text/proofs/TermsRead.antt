@@ -13,8 +13,8 @@ use Rattle.cc_capture.specs.declared.var.Var.{Var}
 use Rattle.cc_capture.specs.declared.var.Var.TheVariants.{Bound, Free}
 use Rattle.cc_core.specs.Shapes.{Shape, capturing}
 use Rattle.cc_core.specs.Terms.{Note, Absent, Written, Own, Term, VariableTerm, LiteralTerm, FunctionTerm, TypeFunctionTerm, BoxTerm, Application, TypeApplication, Unboxing, Let, Primitive, Conditional, Repetition, Operation, Boundary, Leave}
-use Rattle.cc_job.specs.Reading.{after_prefix, cut_at}
-use Rattle.cc_job.proofs.Steps.{cut_at_gives, cut_at-append}
+use Rattle.cc_words.specs.Words.{after_prefix, cut_at}
+use Rattle.cc_words.proofs.Steps.{cut_at_gives, cut_at-append}
 use Rattle.cc_print.proofs.ElementTexts.{ends_differ}
 use Rattle.cc_print.proofs.Words.{IsWord, EndsWord, clash, same_words, word_decimal, word_from_test, rest_same, name_not_reserved, low_line_not_reserved}
 use Rattle.cc_certificate_text.specs.Heights.{shape_height, term_height}

@@ -14,9 +14,9 @@ use Rattle.unicode_ident.specs.Ident.{is_xid_start}
 use Rattle.unicode_ident.proofs.IdentLemmas.{is_xid_start-ascii}
 use Rattle.cc_base.specs.Names.{IsName, first_passes, is_reserved}
 use Rattle.cc_base.specs.Literals.{Literal, UnitLiteral, TruthLiteral, NumberLiteral, TextLiteral}
-use Rattle.cc_job.specs.Reading.{number_of}
-use Rattle.cc_job.proofs.Steps.{Lacks, Lacks-append}
-use Rattle.cc_job.proofs.Numbers.{number_of_gives, number_of-decimal}
+use Rattle.cc_words.specs.Words.{number_of}
+use Rattle.cc_words.proofs.Steps.{Lacks, Lacks-append}
+use Rattle.cc_words.proofs.Numbers.{number_of_gives, number_of-decimal}
 use Rattle.cc_lex.specs.Forms.{stands_in_string}
 use Rattle.cc_print.proofs.Words.{Begins, begins_append, both, clash, name_not_reserved}
 use Rattle.cc_certificate_text.specs.TermTexts.{literal_text}

@@ -14,7 +14,7 @@ use Rattle.cc_core.specs.Derivations.{ByTop, ByFunction, ByTypeFunction, ByBox, 
 use Rattle.cc_core.specs.Derivations.{t-tabs}
 use Rattle.cc_core.specs.Derivations.{t-app, t-tapp, t-box, t-unbox, t-let, t-prim, t-if, t-repeat, t-op, t-boundary}
 use Rattle.cc_core.specs.Derivations.{t-exit, t-sub, Claim, SetBelow, ShapeBelow, TypeBelow, OfType}
-use Rattle.cc_job.specs.Reading.{after_prefix, cut_at, split_at, all_of, number_of, name_of}
+use Rattle.cc_words.specs.Words.{after_prefix, cut_at, split_at, all_of, number_of, name_of}
 use Rattle.cc_certificate_text.specs.NodeTexts.{rule_text}
 use Rattle.cc_certificate_text.specs.LocalNames.{has_binder}
 use Rattle.cc_certificate_text.specs.Certificates.{CertificateNode, Line, Opens, Binds, States, Concludes, Stage, Start}

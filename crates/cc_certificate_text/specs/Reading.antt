@@ -26,7 +26,7 @@ use Rattle.cc_core.specs.Shapes.{ExitShape, CapturingType, capturing}
 use Rattle.cc_core.specs.Terms.{Note, Absent, Written, Term, VariableTerm, LiteralTerm, FunctionTerm}
 use Rattle.cc_core.specs.Terms.{TypeFunctionTerm, BoxTerm, Application, TypeApplication, Unboxing, Let, Primitive}
 use Rattle.cc_core.specs.Terms.{Conditional, Repetition, Operation, Boundary, Leave}
-use Rattle.cc_job.specs.Reading.{after_prefix, cut_at, split_at, first_and_rest, all_of, number_of, ◌>>=◌ as ◌>>>◌}
+use Rattle.cc_words.specs.Words.{after_prefix, cut_at, split_at, first_and_rest, all_of, number_of, ◌>>=◌ as ◌>>>◌}
 use Rattle.cc_lex.specs.Forms.{stands_in_string}
 use Rattle.cc_print.specs.TypeTexts.{is_arrow}
 use Rattle.cc_certificate_text.specs.Certificates.{takes_argument}

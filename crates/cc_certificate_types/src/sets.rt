@@ -1,7 +1,7 @@
 //! Variables, elements and sets.
 
 ghost use Rattle.std.specs.Prelude.{◌≡◌, ◌≤◌, ◌<◌, ◌∷◌, length, map, IfOk, IfSome, option_map};
-ghost use Rattle.cc_job.specs.Reading.{all_of};
+ghost use Rattle.cc_words.specs.Words.{all_of};
 ghost use Rattle.cc_certificate_text.specs.Reading.{
   local_at,
   local_of,
@@ -22,11 +22,10 @@ ghost use Rattle.cc_capture.specs.declared.var.Elem.TheVariants as elems;
 ghost use Rattle.cc_certificate_types.specs.Agreement.{Agrees};
 ghost use Rattle.cc_certificate_types.specs.Numberings.{locals_of, follows};
 
-use crate::numbers::number_of;
 use crate::stop::{Reading, Stop};
-use crate::words::{behind, cut_at, first_and_rest, split_at};
 use cc_base::name::Name;
 use cc_capture::{CapSet, Elem, Var, compare_elem};
+use cc_words::words::{behind, cut_at, first_and_rest, number_of, split_at};
 use std::alloc::{AllocError, Global};
 
 /// How the local variables are numbered.

@@ -26,11 +26,12 @@ ghost use Rattle.cc_certificate_types.specs.Numberings.{locals_of};
 use crate::numbers::read_same;
 use crate::sets::{Locals, local_of, read_some_set};
 use crate::stop::{Reading, Stop};
-use crate::words::{behind, read_exact, word_at};
+use crate::words::{read_exact, word_at};
 use cc_base::literal::Base;
 use cc_base::name::Name;
 use cc_capture::CapSet;
 use cc_core::{Shape, Ty};
+use cc_words::words::behind;
 use std::alloc::Global;
 use std::rc::Rc;
 

@@ -1,19 +1,11 @@
 //! Words and texts at the front of bytes.
 
-ghost use Rattle.std.specs.Prelude.{◌≡◌, map, IfOk, option_map};
-ghost use Rattle.cc_job.specs.Reading.{after_prefix, cut_at, split_at, first_and_rest};
+ghost use Rattle.std.specs.Prelude.{◌≡◌};
 ghost use Rattle.cc_certificate_text.specs.Reading.{is_word_byte, word_at, exact_at};
 ghost use Rattle.cc_certificate_types.specs.Agreement.{Agrees};
 
 use crate::stop::{Reading, Stop};
-use std::alloc::{AllocError, Global};
-
-/// What stands behind the prefix, where the bytes begin with it.
-pub fn behind<'a>(bytes: &'a [u8], prefix: &str) -> Option<&'a [u8]>
-    ensures { option_map (λ rest. rest.now) result ≡ after_prefix bytes.now prefix.now }
-{
-    bytes.strip_prefix(prefix.as_bytes())
-}
+use cc_words::words::behind;
 
 /// This text.
 #[tactic(auto, unfolding(cc_certificate_text::specs::Reading::exact_at, cc_certificate_text::specs::Reading::begun))]
@@ -44,40 +36,4 @@ pub fn word_at(bytes: &[u8]) -> (&[u8], &[u8])
         }
     }
     (bytes, &bytes[bytes.len()..])
-}
-
-/// The bytes before the first separator, and those behind it.
-pub fn cut_at(bytes: &[u8], separator: u8) -> Option<(&[u8], &[u8])>
-    ensures { option_map (λ cut. (cut.0.now, cut.1.now)) result ≡ cut_at separator bytes.now }
-{
-    for (at, byte) in bytes.iter().enumerate() {
-        if *byte == separator {
-            return Some((&bytes[..at], &bytes[at + 1..]));
-        }
-    }
-    None
-}
-
-/// What stands between the separators.
-pub fn split_at(alloc: Global, bytes: &[u8], separator: u8) -> Result<Vec<&[u8]>, AllocError>
-    ensures { IfOk result (λ words. map (λ word. word.now) words.items ≡ split_at separator bytes.now) }
-{
-    let mut words = Vec::new(alloc);
-    let mut rest = bytes;
-    while let Some((word, behind)) = cut_at(rest, separator) {
-        words.push(word)?;
-        rest = behind;
-    }
-    words.push(rest)?;
-    Ok(words)
-}
-
-/// The first word, and those behind it.
-pub fn first_and_rest<'a, 'b>(words: &'b [&'a [u8]]) -> Option<(&'a [u8], &'b [&'a [u8]])>
-    ensures { option_map (λ it. (it.0.now, map (λ word. word.now) it.1.now)) result ≡ first_and_rest (map (λ word. word.now) words.now) }
-{
-    if words.is_empty() {
-        return None;
-    }
-    Some((words[0], &words[1..]))
 }

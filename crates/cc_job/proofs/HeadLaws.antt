@@ -16,13 +16,15 @@ use Rattle.cc_job.specs.declared.job.Command.{Command}
 use Rattle.cc_job.specs.declared.job.Command.TheVariants.{Put, Drop, Check, Sig, Derive, Run, Tasks}
 use Rattle.cc_job.specs.declared.head.Head.{Head}
 use Rattle.cc_job.specs.declared.head.Head.TheVariants.{Device, Put as PutHead, Command as CommandHead}
-use Rattle.cc_job.specs.Jobs.{Line, lines_of, AreWholeLines, joined, Item, Declares, Commands, pair_text, kind_words, command_words, item_words, command_text, item_text, has_64_bits, IsKind, covers, IsSchedule, IsPair, IsCommand, IsItem}
-use Rattle.cc_job.specs.Reading.{◌>>=◌, split_at, first_and_rest, one_of, two_of, name_of, number_of, signed_of, all_of, pair_of, is_schedule, schedule_of, turns_of, file_of, kind_with, kind_of, device_of, put_of, drop_of, check_of, sig_of, derive_of, run_of, tasks_of, command_with, head_with, head_of, text_size}
-use Rattle.cc_job.proofs.Steps.{some_from_bind, passed, both, name_of_gives}
-use Rattle.cc_job.proofs.NameBytes.{name_of-encoded, Lacks-name}
-use Rattle.cc_job.proofs.Splits.{AllLack, Lacks-test, Lacks-joined, split_at-joined, joined-split_at}
-use Rattle.cc_job.proofs.LineLists.{terminated, terminated-lines_of}
-use Rattle.cc_job.proofs.Numbers.{Lacks-decimal, Lacks-signed, number_of_gives, number_of-decimal, signed_of_gives, signed_of-decimal, all_of_gives, all_of-map, AllLack-map, Lacks-pair, two_of_gives, pair_of_gives, pair_of-text}
+use Rattle.cc_words.specs.Words.{joined, pair_text, has_64_bits, IsPair, ◌>>=◌, split_at, first_and_rest, one_of, two_of, name_of, number_of, signed_of, all_of, pair_of}
+use Rattle.cc_words.specs.Lines.{Line, lines_of, AreWholeLines}
+use Rattle.cc_job.specs.Jobs.{Item, Declares, Commands, kind_words, command_words, item_words, command_text, item_text, IsKind, covers, IsSchedule, IsCommand, IsItem}
+use Rattle.cc_job.specs.Reading.{is_schedule, schedule_of, turns_of, file_of, kind_with, kind_of, device_of, put_of, drop_of, check_of, sig_of, derive_of, run_of, tasks_of, command_with, head_with, head_of, text_size}
+use Rattle.cc_words.proofs.Steps.{some_from_bind, passed, both, name_of_gives}
+use Rattle.cc_words.proofs.NameBytes.{name_of-encoded, Lacks-name}
+use Rattle.cc_words.proofs.Splits.{AllLack, Lacks-test, Lacks-joined, split_at-joined, joined-split_at}
+use Rattle.cc_words.proofs.LineLists.{terminated, terminated-lines_of}
+use Rattle.cc_words.proofs.Numbers.{Lacks-decimal, Lacks-signed, number_of_gives, number_of-decimal, signed_of_gives, signed_of-decimal, all_of_gives, all_of-map, AllLack-map, Lacks-pair, two_of_gives, pair_of_gives, pair_of-text}
 
 leb_holds : (m n : ℕ) → m ≤ n → nat_le m n ≡ true
 leb_holds m n h = grind (arith, nat_tests)

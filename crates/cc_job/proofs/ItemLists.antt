@@ -2,10 +2,12 @@
 use Rattle.std.proofs.Common.{◌≡◌, ℕ, List, [], ◌∷◌, ◌++◌, length, Some, refl, sym, ap, ◌∙◌, subst, arith}
 use Rattle.std.specs.Prelude.{unwrap_or}
 use Rattle.std.proofs.lemmas.List.{append_assoc}
-use Rattle.cc_job.specs.Jobs.{Line, lines_of, AreWholeLines, joined, Item, Declares, Commands, item_words, item_text, item_lines, IsCommand, IsItem, skipped, AreItems}
+use Rattle.cc_words.specs.Words.{joined}
+use Rattle.cc_words.specs.Lines.{Line, lines_of, AreWholeLines}
+use Rattle.cc_job.specs.Jobs.{Item, Declares, Commands, item_words, item_text, item_lines, IsCommand, IsItem, skipped, AreItems}
 use Rattle.cc_job.specs.declared.job.Command.TheVariants.{Put, Drop, Check, Sig, Derive, Run, Tasks}
 use Rattle.cc_job.specs.Reading.{head_of, text_size}
-use Rattle.cc_job.proofs.LineLists.{terminated, terminated-lines_of, cons_parts}
+use Rattle.cc_words.proofs.LineLists.{terminated, terminated-lines_of, cons_parts}
 use Rattle.cc_job.proofs.HeadLaws.{item_from, head_for, item_from-head, text_size-head, head_of-item}
 
 command_whole : (command : _) → IsCommand command → AreWholeLines (item_text (Commands command))

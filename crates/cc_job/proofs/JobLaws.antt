@@ -12,10 +12,12 @@ use Rattle.cc_job.specs.declared.job.Job.{Job}
 use Rattle.cc_job.specs.declared.job.Command.{Command}
 use Rattle.cc_job.specs.declared.head.Head.{Head}
 use Rattle.cc_job.specs.declared.head.Head.TheVariants.{Device, Put as PutHead, Command as CommandHead}
-use Rattle.cc_job.specs.Jobs.{Line, lines_of, is_whole_behind, joined, Item, Declares, Commands, item_words, item_text, item_lines, IsItem, AreItems, items_of, last_text, first_line, IsJob, BeginsJob, IsBadAt, BytesHaveOneJob, BytesHaveOneBadLine}
-use Rattle.cc_job.specs.Reading.{head_of, text_size, text_cut, next_line, has_device, admits, is_admitted, devices_with, commands_with, Read, BadLine, CutShort, next_text, next_head, next_in, next_item}
-use Rattle.cc_job.proofs.Splits.{AllLack}
-use Rattle.cc_job.proofs.LineLists.{terminated, is_whole-append, FirstLine, next_line-first, lines_of-terminated, is_whole-terminated, lines_of-whole, lines-lack, AllLack-append, AllLack-front, AllLack-back, lines-length, cons_parts, Cut, text_cut_gives, text_cut-short}
+use Rattle.cc_words.specs.Words.{joined}
+use Rattle.cc_words.specs.Lines.{Line, lines_of, is_whole_behind, text_cut, next_line}
+use Rattle.cc_job.specs.Jobs.{Item, Declares, Commands, item_words, item_text, item_lines, IsItem, AreItems, items_of, last_text, first_line, IsJob, BeginsJob, IsBadAt, BytesHaveOneJob, BytesHaveOneBadLine}
+use Rattle.cc_job.specs.Reading.{head_of, text_size, has_device, admits, is_admitted, devices_with, commands_with, Read, BadLine, CutShort, next_text, next_head, next_in, next_item}
+use Rattle.cc_words.proofs.Splits.{AllLack}
+use Rattle.cc_words.proofs.LineLists.{terminated, is_whole-append, FirstLine, next_line-first, lines_of-terminated, is_whole-terminated, lines_of-whole, lines-lack, AllLack-append, AllLack-front, AllLack-back, lines-length, cons_parts, Cut, text_cut_gives, text_cut-short}
 use Rattle.cc_job.proofs.HeadLaws.{item_from, head_for, item_from-head, text_size-head, IsLineOf, head_of-item}
 use Rattle.cc_job.proofs.ItemLists.{AreItems-none, AreItems-one, Leads, leads-nothing, leads-blank, leads-item}
 use Rattle.cc_job.proofs.Standing.{names_of, items_in, Stands, job_with, whole_job, begins_take, begins_earlier, last_text-push, Added, added, item_lines_are, line_of_text, append_empty}

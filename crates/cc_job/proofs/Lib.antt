@@ -1,8 +1,4 @@
-pub mod Steps
-pub mod NameBytes
-pub mod Splits
-pub mod LineLists
-pub mod Numbers
+pub mod TaskCovering
 pub mod HeadLaws
 pub mod ItemLists
 pub mod Standing

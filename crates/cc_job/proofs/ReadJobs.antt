@@ -4,8 +4,9 @@ use Rattle.std.specs.Str.{bytes_eq}
 use Rattle.cc_base.specs.declared.device.DeviceDecl.{DeviceDecl}
 use Rattle.cc_job.specs.declared.job.Job.{Job}
 use Rattle.cc_job.specs.declared.job.Command.{Command}
-use Rattle.cc_job.specs.Jobs.{lines_of, first_line, IsJob, IsBadAt, BytesAreAJobOrBad}
-use Rattle.cc_job.specs.Reading.{Next, Read, BadLine, CutShort, next_item, next_line}
+use Rattle.cc_words.specs.Lines.{lines_of, next_line}
+use Rattle.cc_job.specs.Jobs.{first_line, IsJob, IsBadAt, BytesAreAJobOrBad}
+use Rattle.cc_job.specs.Reading.{Next, Read, BadLine, CutShort, next_item}
 use Rattle.cc_job.proofs.Standing.{Stands, job_with}
 use Rattle.cc_job.proofs.JobLaws.{Turn, stands_more, stands_bad, stands_short, stands_whole, first_bad, first_good}
 

@@ -13,11 +13,12 @@ use Rattle.cc_job.specs.declared.job.Command.{Command}
 use Rattle.cc_job.specs.declared.job.Command.TheVariants.{Put}
 use Rattle.cc_job.specs.declared.head.Head.{Head}
 use Rattle.cc_job.specs.declared.head.Head.TheVariants.{Device, Put as PutHead, Command as CommandHead}
-use Rattle.cc_job.specs.Jobs.{Line, lines_of, is_whole_behind, Item, Declares, Commands, item_text, item_lines, AreItems, last_text, first_line, IsJob, BeginsJob}
+use Rattle.cc_words.specs.Lines.{Line, lines_of, is_whole_behind}
+use Rattle.cc_job.specs.Jobs.{Item, Declares, Commands, item_text, item_lines, AreItems, last_text, first_line, IsJob, BeginsJob}
 use Rattle.cc_job.specs.Reading.{head_of, text_size, has_device, admits, is_admitted, devices_with, commands_with}
-use Rattle.cc_job.proofs.Steps.{both}
-use Rattle.cc_job.proofs.Splits.{AllLack, Lacks-test}
-use Rattle.cc_job.proofs.LineLists.{terminated, lines_of-whole, whole-terminated, lines-lack, AllLack-front}
+use Rattle.cc_words.proofs.Steps.{both}
+use Rattle.cc_words.proofs.Splits.{AllLack, Lacks-test}
+use Rattle.cc_words.proofs.LineLists.{terminated, lines_of-whole, whole-terminated, lines-lack, AllLack-front}
 use Rattle.cc_job.proofs.HeadLaws.{item_from, IsLineOf, head_of_gives}
 use Rattle.cc_job.proofs.ItemLists.{Leads}
 

@@ -5,12 +5,14 @@ use Rattle.std.proofs.lemmas.List.{append-nil, append_assoc}
 use Rattle.std.proofs.lemmas.Bool.{cases_lt}
 use Rattle.cc_job.specs.declared.job.Job.{Job}
 use Rattle.cc_job.specs.declared.job.Command.{Command}
-use Rattle.cc_job.specs.Jobs.{Line, lines_of, joined, Item, Declares, Commands, command_words, item_lines, IsItem, skipped, AreItems, items_of, item_text, first_line, IsJob}
+use Rattle.cc_words.specs.Words.{joined}
+use Rattle.cc_words.specs.Lines.{Line, lines_of}
+use Rattle.cc_job.specs.Jobs.{Item, Declares, Commands, command_words, item_lines, IsItem, skipped, AreItems, items_of, item_text, first_line, IsJob}
 use Rattle.cc_job.specs.Unbuilt.{is_built, IsBuilt, IsUnbuiltAt, JobsAreBuiltOrNot, BuiltJobsHaveNoUnbuiltLine, JobsHaveOneUnbuiltLine}
 use Rattle.cc_job.proofs.ItemLists.{Leads, leads-nothing, leads-blank, leads-item, skipped-item, command_begins}
-use Rattle.cc_job.proofs.LineLists.{cons_parts}
+use Rattle.cc_words.proofs.LineLists.{cons_parts}
 use Rattle.cc_job.proofs.Standing.{map-append}
-use Rattle.cc_job.proofs.Steps.{both}
+use Rattle.cc_words.proofs.Steps.{both}
 use Rattle.cc_job.proofs.UnbuiltLines.{items_led}
 
 leads-append : (front back : List Line) (xs ys : List Item) → Leads front xs → Leads back ys → Leads (front ++ back) (xs ++ ys)

@@ -9,15 +9,17 @@ use Rattle.cc_job.specs.declared.job.Command.{Command}
 use Rattle.cc_job.specs.declared.job.Command.TheVariants.{Put}
 use Rattle.cc_job.specs.declared.head.Head.{Head}
 use Rattle.cc_job.specs.declared.head.Head.TheVariants.{Device, Put as PutHead, Command as CommandHead}
-use Rattle.cc_job.specs.Jobs.{Line, lines_of, joined, Item, Declares, Commands, command_words, AreItems, first_line}
-use Rattle.cc_job.specs.Reading.{head_of, text_size, text_cut, next_line, has_device, admits, is_admitted, devices_with, commands_with, Read, BadLine, next_text, next_head, next_in, next_item, ends_unbuilt, first_unbuilt}
+use Rattle.cc_words.specs.Words.{joined}
+use Rattle.cc_words.specs.Lines.{Line, lines_of, text_cut, next_line}
+use Rattle.cc_job.specs.Jobs.{Item, Declares, Commands, command_words, AreItems, first_line}
+use Rattle.cc_job.specs.Reading.{head_of, text_size, has_device, admits, is_admitted, devices_with, commands_with, Read, BadLine, next_text, next_head, next_in, next_item, ends_unbuilt, first_unbuilt}
 use Rattle.cc_job.specs.Unbuilt.{is_built, IsUnbuiltAt, HasUnbuilt}
 use Rattle.cc_job.proofs.HeadLaws.{IsLineOf}
 use Rattle.cc_job.proofs.ItemLists.{Leads}
 use Rattle.cc_job.proofs.JobLaws.{read_parts}
-use Rattle.cc_job.proofs.LineLists.{FirstLine, next_line-first, terminated, Cut, text_cut_gives}
+use Rattle.cc_words.proofs.LineLists.{FirstLine, next_line-first, terminated, Cut, text_cut_gives}
 use Rattle.cc_job.proofs.Standing.{items_in, Stands, job_with, line_of_text}
-use Rattle.cc_job.proofs.Steps.{both}
+use Rattle.cc_words.proofs.Steps.{both}
 
 pub built_push : (commands : List Command) (command : Command) → list_all is_built commands ≡ true → is_built command ≡ true
     → list_all is_built (commands ++ command ∷ []) ≡ true

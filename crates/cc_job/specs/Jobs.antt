@@ -1,57 +1,25 @@
 -- The text of a job: a list of lines, which declare devices and then give commands.
-use Rattle.std.specs.Prelude.{◌≡◌, ℕ, zero, suc, ◌+◌, ◌<◌, ◌≤◌, Bool, true, ◌==◌, nat_lt, ◌&&◌, ◌⊎◌, ℤ, pos, negsuc}
+use Rattle.std.specs.Prelude.{◌≡◌, ℕ, zero, suc, ◌+◌, ◌<◌, ◌≤◌, Bool, true, ◌==◌, ◌&&◌, ◌⊎◌}
 use Rattle.std.specs.Prelude.{List, [], ◌∷◌, ◌++◌, length, map, take, codes, encode_utf8_all, IsTrue, Result, Ok, Err}
-use Rattle.std.specs.Prelude.{if◌then◌else◌}
-use Rattle.std.specs.List.{list_any, flat_map, AllByRecursion, IsDistinct}
+use Rattle.std.specs.List.{list_any, AllByRecursion, IsDistinct}
 use Rattle.std.specs.Fmt.{decimal, signed_decimal}
 use Rattle.std.specs.Str.{bytes_eq}
 use Rattle.cc_base.specs.Names.{IsName}
 use Rattle.cc_base.specs.declared.device.Kind.{Kind}
 use Rattle.cc_base.specs.declared.device.Kind.TheVariants.{Console, File, Counter}
 use Rattle.cc_base.specs.declared.device.DeviceDecl.{DeviceDecl}
+use Rattle.cc_words.specs.Words.{joined, has_64_bits, IsPair, pair_text}
+use Rattle.cc_words.specs.Lines.{Line, lines_of, AreWholeLines}
 use Rattle.cc_job.specs.declared.job.Command.{Command}
 use Rattle.cc_job.specs.declared.job.Command.TheVariants.{Put, Drop, Check, Sig, Derive, Run, Tasks}
 use Rattle.cc_job.specs.declared.job.Job.{Job}
 use Rattle.cc_job.specs.declared.job.JobError.{JobError}
 use Rattle.cc_job.specs.declared.job.JobError.TheVariants.{BadJob, NoMemory}
 
--- a line or a word, as its bytes
-abbrev pub Line : Type 0
-Line = List ℕ
-
--- the byte before all that stands in the first line
-abbrev pub before_first_line : ℕ → List Line → List Line
-before_first_line byte [] = (byte ∷ []) ∷ []
-before_first_line byte (line ∷ lines) = (byte ∷ line) ∷ lines
-
--- The lines of a text. A line ends before a line feed; what stands behind the last line feed is a line where it is
--- not empty.
-abbrev pub lines_of : List ℕ → List Line
-lines_of [] = []
-lines_of (byte ∷ bytes) = if byte == 10 then [] ∷ lines_of bytes else before_first_line byte (lines_of bytes)
-
--- whether each line of a text has its line feed, where what stands before the text ends with one or not
-abbrev pub is_whole_behind : Bool → List ℕ → Bool
-is_whole_behind before [] = before
-is_whole_behind before (byte ∷ bytes) = is_whole_behind (byte == 10) bytes
-
--- each line of the text has its line feed
-abbrev pub AreWholeLines : List ℕ → Type 0
-AreWholeLines text = IsTrue (is_whole_behind true text)
-
--- the words with the byte between them
-abbrev pub joined : ℕ → List (List ℕ) → List ℕ
-joined byte [] = []
-joined byte (word ∷ words) = word ++ flat_map (λ other. byte ∷ other) words
-
 -- What a job says line by line: a device is declared, or a command is given.
 pub data Item : Type 0 where
   Declares : (device : DeviceDecl) → Item
   Commands : (command : Command) → Item
-
--- MODULE.DEFINITION
-abbrev pub pair_text : List ℕ × List ℕ → List ℕ
-pair_text pair = encode_utf8_all pair.0 ++ codes "." ++ encode_utf8_all pair.1
 
 abbrev pub kind_words : Kind → List (List ℕ)
 kind_words Console = codes "console" ∷ []
@@ -91,11 +59,6 @@ item_text (Commands command) = command_text command
 abbrev pub item_lines : Item → List Line
 item_lines item = joined 32 (item_words item) ∷ lines_of (item_text item)
 
--- the number has 64 bits with its sign
-abbrev pub has_64_bits : ℤ → Bool
-has_64_bits (pos n) = nat_lt n 9223372036854775808
-has_64_bits (negsuc n) = nat_lt n 9223372036854775808
-
 abbrev pub IsKind : Kind → Type 0
 IsKind Console = Unit {0}
 IsKind (File numbers) = AllByRecursion (λ number. IsTrue (has_64_bits number)) numbers
@@ -111,10 +74,6 @@ abbrev pub IsSchedule : ℕ → List ℕ → Type 0
 IsSchedule tasks schedule =
     (1 ≤ length schedule) × (length schedule ≤ 64) × AllByRecursion (λ number. number < tasks) schedule
     × IsTrue (covers tasks schedule)
-
--- two names
-abbrev pub IsPair : List ℕ × List ℕ → Type 0
-IsPair pair = IsName pair.0 × IsName pair.1
 
 -- what a command may be
 abbrev pub IsCommand : Command → Type 0

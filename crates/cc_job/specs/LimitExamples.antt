@@ -5,7 +5,8 @@ use Rattle.cc_base.specs.declared.device.Kind.TheVariants.{Console, File}
 use Rattle.cc_base.specs.declared.device.DeviceDecl.{DeviceDecl}
 use Rattle.cc_job.specs.declared.job.Command.{Command}
 use Rattle.cc_job.specs.declared.job.Command.TheVariants.{Put, Check, Run, Tasks}
-use Rattle.cc_job.specs.Jobs.{joined, IsJob, IsBadAt}
+use Rattle.cc_words.specs.Words.{joined}
+use Rattle.cc_job.specs.Jobs.{IsJob, IsBadAt}
 use Rattle.cc_job.specs.Examples.{text}
 
 -- the text of a job with this one line behind its first

@@ -8,8 +8,9 @@ use Rattle.cc_job.specs.declared.job.Job.{Job}
 use Rattle.cc_job.specs.declared.job.JobError.{JobError}
 use Rattle.cc_job.specs.declared.job.JobError.TheVariants.{BadJob, NoMemory}
 use Rattle.cc_job.specs.declared.job.JobReading.{JobReading}
-use Rattle.cc_job.specs.Jobs.{Line, lines_of, joined, Declares, Commands, command_words, AreItems, first_line}
-use Rattle.cc_job.specs.Jobs.{IsJob, IsBadAt}
+use Rattle.cc_words.specs.Words.{joined}
+use Rattle.cc_words.specs.Lines.{Line, lines_of}
+use Rattle.cc_job.specs.Jobs.{Declares, Commands, command_words, AreItems, first_line, IsJob, IsBadAt}
 
 -- whether the program carries the command out
 abbrev pub is_built : Command → Bool

@@ -5,12 +5,12 @@ ghost use Rattle.std.specs.Option.{option_map};
 ghost use Rattle.cc_job.specs.Reading.{covers, is_schedule, schedule_of, file_of, kind_of, kind_with, device_of, put_of, drop_of, check_of, sig_of, derive_of, run_of, turns_of, tasks_of, command_with, head_with, head_of};
 
 use crate::job::{Command, EntryList, Schedule};
-use crate::words::{
+use cc_base::device::{DeviceDecl, Kind, Numbers};
+use cc_base::name::Name;
+use cc_words::words::{
     first_and_rest, name_of, number_of, numbers_of, one_of, pair_of, pairs_of, signed_numbers_of,
     split_at, two_of,
 };
-use cc_base::device::{DeviceDecl, Kind, Numbers};
-use cc_base::name::Name;
 use std::alloc::{AllocError, Global};
 
 /// What a line says: the text of a put stands behind it.

@@ -4,6 +4,4 @@
 pub mod head;
 pub mod job;
 pub mod laws;
-mod lines;
 pub mod read;
-mod words;

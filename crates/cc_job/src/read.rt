@@ -7,9 +7,9 @@ ghost use Rattle.cc_job.specs.Reading.{text_size, ends_unbuilt, first_unbuilt, h
 
 use crate::head::{Head, head_of};
 use crate::job::{Command, CommandList, DeviceList, Job, JobError, JobReading};
-use crate::lines::{line_count, next_line, text_cut};
 use cc_base::device::DeviceDecl;
 use cc_base::text::Text;
+use cc_words::lines::{line_count, next_line, text_cut};
 use std::alloc::{AllocError, Global};
 
 // How many lines of text stand behind the line.

@@ -3,7 +3,8 @@ use Rattle.std.proofs.Common.{List, [], ◌∷◌, ◌++◌, map}
 use Rattle.std.specs.List.{AllByRecursion}
 use Rattle.cc_base.specs.Names.{IsName}
 use Rattle.cc_base.specs.declared.device.DeviceDecl.{DeviceDecl}
-use Rattle.cc_job.specs.Jobs.{Line, Item, Declares, Commands, AreItems}
+use Rattle.cc_words.specs.Lines.{Line}
+use Rattle.cc_job.specs.Jobs.{Item, Declares, Commands, AreItems}
 use Rattle.cc_mnf.specs.CoreModules.{device_names}
 use Rattle.cc_meta_limits.specs.ModuleCertificates.{DevicesOfJobsAreNamed}
 

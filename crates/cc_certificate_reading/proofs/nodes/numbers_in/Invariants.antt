@@ -1,6 +1,6 @@
 use Rattle.std.proofs.Common.{◌≡◌, drop, map}
-use Rattle.cc_job.specs.Reading.{all_of, number_of}
-use Rattle.cc_job.proofs.Numbers.{before_all}
+use Rattle.cc_words.specs.Words.{all_of, number_of}
+use Rattle.cc_words.proofs.Numbers.{before_all}
 use Rattle.cc_certificate_reading.proofs.nodes.numbers_in.Given as goal
 
 abbrev pub invariant-loop-word : goal.invariant-loop-word

@@ -1,6 +1,6 @@
 use Rattle.std.proofs.Common.{◌≡◌, ◌∷◌, drop, map, option_map}
-use Rattle.cc_job.specs.Reading.{all_of}
-use Rattle.cc_job.proofs.Numbers.{before_all}
+use Rattle.cc_words.specs.Words.{all_of}
+use Rattle.cc_words.proofs.Numbers.{before_all}
 use Rattle.cc_certificate_text.specs.Reading.{other_of}
 use Rattle.cc_certificate_types.specs.Numberings.{locals_of}
 use Rattle.cc_certificate_types.proofs.sets.elements_behind.Given as goal

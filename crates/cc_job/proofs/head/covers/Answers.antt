@@ -1,5 +1,5 @@
 use Rattle.std.proofs.Common.{sym, ◌∙◌}
-use Rattle.cc_job.proofs.Numbers.{covers_lacks}
+use Rattle.cc_job.proofs.TaskCovering.{covers_lacks}
 use Rattle.cc_job.proofs.head.covers.Goals as goal
 
 pub returns-then-not-contains : goal.returns-then-not-contains

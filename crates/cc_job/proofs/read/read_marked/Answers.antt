@@ -4,9 +4,10 @@ use Rattle.cc_job.specs.Unbuilt.{HasUnbuilt}
 use Rattle.cc_job.proofs.UnbuiltLines.{marked}
 use Rattle.cc_job.specs.Jobs.{IsBadAt, IsJob, first_line}
 use Rattle.std.specs.Str.{bytes_eq}
-use Rattle.cc_job.specs.Reading.{IsStep, first_unbuilt, next_item, next_line}
+use Rattle.cc_words.specs.Lines.{next_line}
+use Rattle.cc_job.specs.Reading.{IsStep, first_unbuilt, next_item}
 use Rattle.cc_job.proofs.Standing.{Stands, job_with, not_false, not_true}
-use Rattle.cc_job.proofs.LineLists.{lines-length}
+use Rattle.cc_words.proofs.LineLists.{lines-length}
 use Rattle.cc_job.proofs.JobLaws.{turn, bad, cut_short, all_read, more_lines, stands_low, first_bad, first_good}
 use Rattle.cc_job.proofs.read.read_marked.Goals as goal
 

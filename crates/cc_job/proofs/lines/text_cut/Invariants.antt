@@ -1,7 +1,0 @@
-use Rattle.std.proofs.Common.{◌≡◌, take, drop}
-use Rattle.cc_job.specs.Reading.{text_cut}
-use Rattle.cc_job.proofs.Steps.{before_cut}
-use Rattle.cc_job.proofs.lines.text_cut.Given as goal
-
-abbrev pub invariant-loop-at : goal.invariant-loop-at
-invariant-loop-at l = before_cut (take l.at l.bytes) (text_cut l.left (drop l.at l.bytes)) ≡ text_cut l.count l.bytes

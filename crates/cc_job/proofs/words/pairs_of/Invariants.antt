@@ -1,8 +1,0 @@
-use Rattle.std.proofs.Common.{◌≡◌, drop, map}
-use Rattle.cc_job.specs.Reading.{all_of, pair_of}
-use Rattle.cc_job.proofs.Numbers.{before_all}
-use Rattle.cc_job.proofs.words.pairs_of.Given as goal
-
-abbrev pub invariant-loop-word : goal.invariant-loop-word
-invariant-loop-word l =
-    before_all l.pairs.items (all_of pair_of (map (λ it. it.now) (drop l.word-index l.words))) ≡ all_of pair_of (map (λ it. it.now) l.words)

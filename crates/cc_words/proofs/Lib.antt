@@ -1,0 +1,5 @@
+pub mod Steps
+pub mod NameBytes
+pub mod Splits
+pub mod LineLists
+pub mod Numbers

@@ -1,0 +1,8 @@
+use Rattle.std.proofs.Common.{◌≡◌, drop, map}
+use Rattle.cc_words.specs.Words.{all_of, number_of}
+use Rattle.cc_words.proofs.Numbers.{before_all}
+use Rattle.cc_words.proofs.words.numbers_of.Given as goal
+
+abbrev pub invariant-loop-word : goal.invariant-loop-word
+invariant-loop-word l =
+    before_all l.numbers.items (all_of (number_of l.most) (map (λ it. it.now) (drop l.word-index l.words))) ≡ all_of (number_of l.most) (map (λ it. it.now) l.words)
