@@ -1,5 +1,5 @@
 -- What an entry stands for.
-use Rattle.cc_entry.specs.PresentEntries.{CheckedEntry}
+use Rattle.cc_meta_entries.specs.PresentEntries.{CheckedEntry}
 use Rattle.cc_entry.specs.declared.entry.Entry.{Entry}
 use Rattle.cc_entry.specs.Modules.{entry_in}
 

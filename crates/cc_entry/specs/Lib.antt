@@ -1,4 +1,2 @@
 pub mod Entries
-pub mod ExampleEntries
 pub mod Modules
-pub mod PresentEntries

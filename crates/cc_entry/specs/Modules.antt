@@ -2,7 +2,7 @@
 use Rattle.std.specs.Prelude.{ℕ, List, map}
 use Rattle.cc_base.specs.declared.literal.Base.{Base}
 use Rattle.cc_entry.specs.declared.modules.EntryModule.{EntryModule}
-use Rattle.cc_entry.specs.PresentEntries.{CheckedModule, CheckedEntry}
+use Rattle.cc_meta_entries.specs.PresentEntries.{CheckedModule, CheckedEntry}
 use Rattle.cc_module.specs.Judgements.{checked_definition_of}
 use Rattle.cc_parse.specs.Trees.{import_syntax}
 

@@ -1,7 +1,7 @@
 //! Entries.
 ghost use Rattle.cc_core.specs.Programs.{IsEntry};
 ghost use Rattle.cc_entry.specs.Modules.{entry_in};
-ghost use Rattle.cc_entry.specs.PresentEntries.{program_entry};
+ghost use Rattle.cc_meta_entries.specs.PresentEntries.{program_entry};
 
 use crate::modules::EntryModule;
 use cc_base::literal::Base;

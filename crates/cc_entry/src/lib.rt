@@ -3,7 +3,6 @@
 
 pub mod copies;
 pub mod entry;
-pub mod examples;
 pub mod modules;
 pub mod starting;
 

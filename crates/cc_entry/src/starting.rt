@@ -1,10 +1,10 @@
 //! What an entry needs beside its modules: the shapes of its devices, whether its definition takes a unit, and the
 //! devices that it may operate.
-ghost use Rattle.std.specs.Prelude.{◌≡◌, ◌++◌, ◌∷◌, [], map, IfOk, OnOk, if◌then◌else◌};
+ghost use Rattle.std.specs.Prelude.{◌≡◌, ◌++◌, ◌∷◌, [], IfOk, OnOk, if◌then◌else◌};
 ghost use Rattle.cc_core.specs.Stores as stores;
 ghost use Rattle.cc_core.specs.Views.{shape_of};
-ghost use Rattle.cc_entry.specs.PresentEntries as plain;
-ghost use Rattle.cc_meta_modules.specs.ModuleVerdicts.{base_of};
+ghost use Rattle.cc_device.specs.Declarations.{declared_base, declared_bases};
+ghost use Rattle.cc_meta_entries.specs.PresentEntries as plain;
 
 use cc_base::device::{DeviceDecl, Kind};
 use cc_capture::{CapSet, Elem, Var};
@@ -13,7 +13,7 @@ use std::alloc::{AllocError, Global};
 
 // The base shape of a device.
 fn shape_of_kind(kind: &Kind) -> Base
-    ensures { result ≡ base_of kind.now }
+    ensures { result ≡ declared_base kind.now }
 {
     match kind {
         Kind::Console => Base::Console,
@@ -24,7 +24,7 @@ fn shape_of_kind(kind: &Kind) -> Base
 
 /// The base shapes of declared devices, in order. Fails only for want of memory.
 pub fn shapes_of_devices(alloc: Global, devices: &[DeviceDecl]) -> Result<Vec<Base>, AllocError>
-    ensures { IfOk result (λ shapes. shapes.items ≡ map (λ device. base_of device.kind) devices.now) }
+    ensures { IfOk result (λ shapes. shapes.items ≡ declared_bases devices.now) }
 {
     let mut shapes = Vec::with_capacity(alloc, devices.len())?;
     for device in devices {

@@ -91,12 +91,6 @@ planned_same last n (first ∷ rest) below =
     ∙ ap (λ js. planned last first ∷ js)
     (planned_same last n rest (λ place at within is. below (suc place) at (omega arith) is))
 
-pub map-reverse : {A B : Type 0} (f : A → B) (xs : List A) → map f (reverse xs) ≡ reverse (map f xs)
-map-reverse f [] = refl
-map-reverse f (x ∷ xs) =
-    ap (map f) (reverse-append (x ∷ []) xs) ∙ map_push f (reverse xs) x
-    ∙ ap (λ ys. ys ++ f x ∷ []) (map-reverse f xs) ∙ sym (reverse-append (f x ∷ []) (map f xs))
-
 pub front_within : (front : List (Option Plan)) (plan : Plan) (count : ℕ) → AreReady (front ++ Some plan ∷ []) count
     → (place at : ℕ) → place < length front → plan_at front place ≡ Some (Keep at) → at < left_by count plan
 front_within front (Judge name verdict grounds) count ready place at within is =

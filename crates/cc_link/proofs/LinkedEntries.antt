@@ -22,7 +22,7 @@ use Rattle.cc_capture.specs.Sets.{empty}
 use Rattle.cc_entry.specs.declared.entry.Entry.{Entry as DeclaredEntry}
 use Rattle.cc_entry.specs.declared.modules.EntryModule.{EntryModule}
 use Rattle.cc_entry.specs.Modules.{module_of}
-use Rattle.cc_entry.specs.PresentEntries.{program_module}
+use Rattle.cc_meta_entries.specs.PresentEntries.{program_module}
 use Rattle.cc_link.specs.declared.table.DefinitionTable.{DefinitionTable}
 use Rattle.cc_link.specs.declared.table.ModuleTable.{ModuleTable}
 use Rattle.cc_link.specs.Linking.{definition_of, module_in_program, entry_in_program, ArePositions, IsLinked, modules_before}

@@ -7,7 +7,7 @@ use Rattle.cc_entry.specs.declared.entry.Entry.{Entry as DeclaredEntry}
 use Rattle.cc_entry.specs.declared.modules.EntryModule.{EntryModule}
 use Rattle.cc_entry.specs.Entries.{entry_of}
 use Rattle.cc_entry.specs.Modules.{module_of}
-use Rattle.cc_entry.specs.PresentEntries.{program_module, program_entry}
+use Rattle.cc_meta_entries.specs.PresentEntries.{program_module, program_entry}
 use Rattle.cc_link.specs.declared.table.ModuleTable.{ModuleTable}
 use Rattle.cc_link.specs.Tables.{Finds}
 use Rattle.cc_meta_modules.specs.ModuleLaws.{in_program}

@@ -6,7 +6,7 @@ ghost use Rattle.cc_core.specs.Contexts.{entry_of as bind_of};
 ghost use Rattle.cc_core.specs.Terms.{Application};
 ghost use Rattle.cc_core.specs.Views.{term_of};
 ghost use Rattle.cc_entry.specs.Entries.{entry_of};
-ghost use Rattle.cc_entry.specs.PresentEntries.{program_entry};
+ghost use Rattle.cc_meta_entries.specs.PresentEntries.{program_entry};
 ghost use Rattle.cc_link.specs.Linking.{definition_of, modules_before, IsLinked};
 ghost use Rattle.cc_meta_runs.specs.Links.{linked_cell, program_start};
 ghost use Rattle.cc_program.specs.Programs.{shapes_of, start_of};

@@ -10,6 +10,7 @@ use Rattle.cc_base.specs.declared.literal.Base.{Base}
 use Rattle.cc_core.specs.Contexts.{Context, entry_of}
 use Rattle.cc_core.specs.Programs.{device_entry}
 use Rattle.cc_core.proofs.Lookups.{length_map}
+use Rattle.cc_device.specs.Declarations.{declared_bases}
 use Rattle.cc_grammar.specs.Syntax.{ImportSyntax}
 use Rattle.cc_mnf.specs.CoreModules.{device_names}
 use Rattle.cc_mnf.specs.ElaboratedModules.{CoreDefinition}
@@ -17,7 +18,7 @@ use Rattle.cc_mnf.specs.ElaborationLaws.{import_names, definition_names}
 use Rattle.cc_sets.specs.Verdicts.{Accepted}
 use Rattle.cc_sets.specs.Verdicts as definitions
 use Rattle.cc_meta_checking.specs.CheckingLaws.{Fits}
-use Rattle.cc_meta_modules.specs.ModuleVerdicts.{Finding, FoundDefinition, NoModule, InCycle, RefusedModule, NoDefinition, CheckedDefinition, ModuleVerdict, IsAccepted, first_missing, base_of, declared_context, with_finding, with_findings, to_be_checked, checked_as, AreJudged, no_more, refused_first, accepted_first}
+use Rattle.cc_meta_modules.specs.ModuleVerdicts.{Finding, FoundDefinition, NoModule, InCycle, RefusedModule, NoDefinition, CheckedDefinition, ModuleVerdict, IsAccepted, first_missing, declared_context, with_finding, with_findings, to_be_checked, checked_as, AreJudged, no_more, refused_first, accepted_first}
 use Rattle.cc_meta_modules.specs.ReadyDefinitions.{AreReady}
 use Rattle.cc_meta_modules.proofs.JudgedDefinitions.{first_fits, ready_more}
 use Rattle.cc_meta_limits.specs.ModuleLimits.{IsLowFinding}
@@ -37,7 +38,7 @@ devices_low [] = tt
 devices_low (base ∷ bases) = (omega arith, devices_low bases)
 
 pub declared_low : (devices : List DeviceDecl) → LowContext (declared_context devices)
-declared_low devices = devices_low (reverse (map (λ (device : DeviceDecl). base_of device.kind) devices))
+declared_low devices = devices_low (reverse (declared_bases devices))
 
 finding_low : (g : Context) (finding : Finding) → LowContext g → IsLowFinding finding
     → LowContext (with_finding g finding)

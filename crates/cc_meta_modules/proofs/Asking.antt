@@ -1,8 +1,8 @@
 -- Which modules' verdicts are asked for that of a module, and what follows from what those are.
-use Rattle.std.proofs.Common.{◌≡◌, ◌⊎◌, ℕ, Bool, true, false, List, [], ◌∷◌, length, map, Option, Some, None}
+use Rattle.std.proofs.Common.{◌≡◌, ◌⊎◌, ℕ, Bool, true, false, List, [], ◌∷◌, ◌++◌, length, map, reverse, Option, Some, None}
 use Rattle.std.proofs.Common.{ap, ◌∙◌, sym, subst, refl, inl, inr, if◌then◌else◌}
 use Rattle.std.proofs.lemmas.Bool.{cases_Bool}
-use Rattle.std.proofs.lemmas.List.{length-map}
+use Rattle.std.proofs.lemmas.List.{length-map, map_push, reverse-append}
 use Rattle.std.specs.List.{AllByRecursion}
 use Rattle.std.specs.Option.{unwrap_or, is_some}
 use Rattle.std.specs.Str.{bytes_eq}
@@ -42,6 +42,12 @@ map_same f g [] same = refl
 map_same f g (x ∷ xs) same =
     ap (λ y. y ∷ map f xs) (same x (inl refl))
     ∙ ap (λ ys. g x ∷ ys) (map_same f g xs (λ y among. same y (inr among)))
+
+pub map-reverse : {A B : Type 0} (f : A → B) (xs : List A) → map f (reverse xs) ≡ reverse (map f xs)
+map-reverse f [] = refl
+map-reverse f (x ∷ xs) =
+    ap (map f) (reverse-append (x ∷ []) xs) ∙ map_push f (reverse xs) x
+    ∙ ap (λ ys. ys ++ f x ∷ []) (map-reverse f xs) ∙ sym (reverse-append (f x ∷ []) (map f xs))
 
 pub all_mapped : {A B : Type 0} (P : B → Type 0) (f : A → B) (xs : List A) → ((x : A) → IsAmong x xs → P (f x))
     → AllByRecursion P (map f xs)

@@ -18,6 +18,7 @@ use Rattle.cc_core.proofs.Lookups.{length_map}
 use Rattle.cc_core.proofs.Moving.{Member-single}
 use Rattle.cc_core.proofs.Sorts.{TypeSort}
 use Rattle.cc_core.proofs.WellFormedness.{more-well_formed}
+use Rattle.cc_device.specs.Declarations.{declared_base, declared_bases}
 use Rattle.cc_grammar.specs.Syntax.{ImportSyntax}
 use Rattle.cc_meta_checking.specs.FillingLaws.{AreGlobals}
 use Rattle.cc_meta_checking.specs.CheckingLaws.{oldest}
@@ -26,7 +27,7 @@ use Rattle.cc_mnf.specs.CoreModules.{device_names}
 use Rattle.cc_mnf.specs.ElaboratedModules.{CoreModule, IsElaborated, elaboration}
 use Rattle.cc_grammar.specs.Syntax.{ModuleSyntax}
 use Rattle.cc_meta_modules.specs.ModuleLaws.{FitsDevices}
-use Rattle.cc_meta_modules.specs.ModuleVerdicts.{Finding, FoundDefinition, NoModule, InCycle, RefusedModule, NoDefinition, first_missing, base_of, declared_context, with_finding, with_findings}
+use Rattle.cc_meta_modules.specs.ModuleVerdicts.{Finding, FoundDefinition, NoModule, InCycle, RefusedModule, NoDefinition, first_missing, declared_context, with_finding, with_findings}
 use Rattle.cc_meta_modules.specs.ReadyDefinitions.{EachIsReady, AreReady}
 use Rattle.cc_meta_modules.proofs.ReadyModules.{values, kinds_of_globals, elaborated_ready}
 
@@ -70,13 +71,13 @@ devices_alone [] = tt
 devices_alone (base ∷ bases) = (tt, cap_alone, devices_alone bases)
 
 -- the devices alone
-pub declared_base : (devices : List DeviceDecl) → HasBase (declared_context devices) (declared_context devices)
-declared_base devices =
+pub devices_base : (devices : List DeviceDecl) → HasBase (declared_context devices) (declared_context devices)
+devices_base devices =
     record {
       later = [];
       is = refl;
-      formed = devices_formed (reverse (map (λ (device : DeviceDecl). base_of device.kind) devices));
-      globals_alone = devices_alone (reverse (map (λ (device : DeviceDecl). base_of device.kind) devices));
+      formed = devices_formed (reverse (declared_bases devices));
+      globals_alone = devices_alone (reverse (declared_bases devices));
     }
 
 finding_base : (devices : List DeviceDecl) (g : Context) (finding : Finding) → HasBase (declared_context devices) g
@@ -96,7 +97,7 @@ findings_base devices g (first ∷ rest) h fit =
 -- the devices, and what is found for the imports
 pub found_base : (devices : List DeviceDecl) (findings : List Finding) → AllByRecursion (FitsDevices devices) findings
     → HasBase (declared_context devices) (with_findings (declared_context devices) findings)
-found_base devices findings fit = findings_base devices (declared_context devices) findings (declared_base devices) fit
+found_base devices findings fit = findings_base devices (declared_context devices) findings (devices_base devices) fit
 
 found_count : (g : Context) (imports : List ImportSyntax) (findings : List Finding)
     → length findings ≡ length imports → first_missing imports findings ≡ None
@@ -113,9 +114,9 @@ found_count g (one ∷ imports) (NoDefinition ∷ findings) l n = cc
 
 pub count_devices : (devices : List DeviceDecl) → length (declared_context devices) ≡ length devices
 count_devices devices =
-    let bases : List Base = map (λ (device : DeviceDecl). base_of device.kind) devices in
+    let bases : List Base = declared_bases devices in
     length_map device_entry (reverse bases) ∙ length-reverse bases
-    ∙ length_map (λ (device : DeviceDecl). base_of device.kind) devices
+    ∙ length_map (λ (device : DeviceDecl). declared_base device.kind) devices
 
 -- the definitions of a module are ready in the context of the devices and of what is found
 pub module_ready : (devices : List DeviceDecl) (tree : ModuleSyntax) (findings : List Finding) (core : CoreModule)

@@ -11,6 +11,7 @@ use Rattle.cc_core.specs.Programs.{AreTyped, NamesDevicesOnly}
 use Rattle.cc_core.proofs.Lookups.{length_map}
 use Rattle.cc_core.proofs.Sorts.{TypeSort}
 use Rattle.cc_core.proofs.WellFormedness.{well_formed-positions_below}
+use Rattle.cc_device.specs.Declarations.{declared_base, declared_bases}
 use Rattle.cc_grammar.specs.Syntax.{ModuleSyntax}
 use Rattle.cc_mnf.specs.CoreModules.{device_names}
 use Rattle.cc_mnf.specs.ElaboratedModules.{CoreModule, Elaboration, elaboration}
@@ -18,7 +19,7 @@ use Rattle.cc_mnf.specs.ElaboratedModules as elaborated
 use Rattle.cc_mnf.specs.ElaborationLaws.{import_names, definition_names}
 use Rattle.cc_mnf.proofs.SecondNames.{names_differ}
 use Rattle.cc_meta_modules.specs.ModuleLaws.{AreFit, IsOverDevices, FitsDevices, in_program, AreSound, ModuleVerdictsExist, ModuleVerdictsAreUnique, AcceptedModulesAreSound}
-use Rattle.cc_meta_modules.specs.ModuleVerdicts.{Finding, Refusal, CheckedDefinition, ModuleVerdict, IsAccepted, IsRefused, first_missing, base_of, declared_context, with_findings, AreJudged, HasModuleVerdict, is_no_module, import_is_missing, is_not_elaborated, is_judged}
+use Rattle.cc_meta_modules.specs.ModuleVerdicts.{Finding, Refusal, CheckedDefinition, ModuleVerdict, IsAccepted, IsRefused, first_missing, declared_context, with_findings, AreJudged, HasModuleVerdict, is_no_module, import_is_missing, is_not_elaborated, is_judged}
 use Rattle.cc_meta_modules.specs.Readings.{TextReading, IsTree, IsNoModule, HasReading, reading_of_text, imports_in}
 use Rattle.cc_meta_modules.proofs.GlobalContexts.{found_base, module_ready, count_devices}
 use Rattle.cc_meta_modules.proofs.JudgedDefinitions.{judged_exist, judged_alike, accepted_follow}
@@ -122,11 +123,11 @@ distinct_behind (x ∷ xs) ys h = distinct_behind xs ys h.1
 
 names_devices : (devices : List DeviceDecl) (checked : List CheckedDefinition)
     → AllByRecursion (λ one. IsOverDevices devices one.accepted.signature) checked
-    → AllByRecursion (λ one. NamesDevicesOnly (map (λ device. base_of device.kind) devices) one.accepted.signature) checked
+    → AllByRecursion (λ one. NamesDevicesOnly (declared_bases devices) one.accepted.signature) checked
 names_devices devices [] all = tt
 names_devices devices (one ∷ checked) all = (
   subst (λ n. MeetsInType (positions_below n) 0 one.accepted.signature)
-      (count_devices devices ∙ sym (length_map (λ (device : DeviceDecl). base_of device.kind) devices))
+      (count_devices devices ∙ sym (length_map (λ (device : DeviceDecl). declared_base device.kind) devices))
       (well_formed-positions_below TypeSort (declared_context devices) one.accepted.signature all.0.0),
   names_devices devices checked all.1,
 )

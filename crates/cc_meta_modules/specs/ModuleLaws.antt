@@ -9,10 +9,11 @@ use Rattle.cc_core.specs.Occurrences.{HasNoHoleInType}
 use Rattle.cc_core.specs.Programs.{Definition, AreTyped, NamesDevicesOnly, is_definable}
 use Rattle.cc_core.specs.Shapes.{CapturingType}
 use Rattle.cc_core.specs.WellFormed.{IsWellFormedType}
+use Rattle.cc_device.specs.Declarations.{declared_bases}
 use Rattle.cc_mnf.specs.CoreModules.{device_names}
 use Rattle.cc_meta_modules.specs.Readings.{imports_of}
 use Rattle.cc_meta_modules.specs.ModuleVerdicts.{Finding, FoundDefinition, CheckedDefinition, ModuleVerdict, IsAccepted}
-use Rattle.cc_meta_modules.specs.ModuleVerdicts.{HasModuleVerdict, base_of, declared_context, with_findings}
+use Rattle.cc_meta_modules.specs.ModuleVerdicts.{HasModuleVerdict, declared_context, with_findings}
 use Rattle.cc_meta_modules.specs.PresentTexts.{Texts, ArePresent, text_of, findings_for, AreVerdicts}
 
 -- the names of the devices differ
@@ -64,7 +65,7 @@ pub record AreSound (devices : List DeviceDecl) (findings : List Finding) (defin
   pub values : AllByRecursion (λ one. IsTrue (is_definable (in_program one))) definitions
   pub over_devices : AllByRecursion (λ one. IsOverDevices devices one.accepted.signature) definitions
   pub name_devices : AllByRecursion
-      (λ one. NamesDevicesOnly (map (λ device. base_of device.kind) devices) one.accepted.signature) definitions
+      (λ one. NamesDevicesOnly (declared_bases devices) one.accepted.signature) definitions
   pub typed : AreTyped (with_findings (declared_context devices) findings) (reverse (map in_program definitions))
 
 abbrev pub AcceptedModulesAreSound : Type 0

@@ -1,16 +1,13 @@
 -- The verdict of a module's text, where it is known what is found for its imports.
-use Rattle.std.specs.Prelude.{◌≡◌, ℕ, Bool, List, [], ◌∷◌, length, map, reverse, Option, Some, None}
+use Rattle.std.specs.Prelude.{◌≡◌, ℕ, Bool, List, [], ◌∷◌, length, Option, Some, None}
 use Rattle.cc_base.specs.declared.code.Code.{Code}
 use Rattle.cc_base.specs.declared.code.Code.TheVariants.{E05, E06, E07, E08}
 use Rattle.cc_base.specs.declared.device.DeviceDecl.{DeviceDecl}
-use Rattle.cc_base.specs.declared.device.Kind.{Kind}
-use Rattle.cc_base.specs.declared.device.Kind.TheVariants as kinds
-use Rattle.cc_base.specs.declared.literal.Base.{Base}
-use Rattle.cc_base.specs.declared.literal.Base.TheVariants as bases
 use Rattle.cc_base.specs.declared.place.Place.{Place}
 use Rattle.cc_core.specs.Shapes.{CapturingType}
 use Rattle.cc_core.specs.Contexts.{Context, entry_of}
 use Rattle.cc_core.specs.Programs.{device_context}
+use Rattle.cc_device.specs.Declarations.{declared_bases}
 use Rattle.cc_grammar.specs.Syntax.{ImportSyntax, ModuleSyntax}
 use Rattle.cc_mnf.specs.CoreModules.{device_names}
 use Rattle.cc_mnf.specs.ElaboratedModules.{CoreDefinition, CoreModule, elaboration}
@@ -64,15 +61,9 @@ first_missing (first ∷ rest) [] = None
 first_missing (first ∷ rest) (finding ∷ findings) =
     missing_or first.at (code_of finding) (first_missing rest findings)
 
--- the base shape of a device of the kind
-abbrev pub base_of : Kind → Base
-base_of kinds.Console = bases.Console
-base_of (kinds.File numbers) = bases.File
-base_of kinds.Counter = bases.Counter
-
 -- the context of the declared devices, in order
 abbrev pub declared_context : List DeviceDecl → Context
-declared_context devices = device_context (map (λ device. base_of device.kind) devices)
+declared_context devices = device_context (declared_bases devices)
 
 -- the context with one more import, if a definition is found for it
 abbrev pub with_finding : Context → Finding → Context

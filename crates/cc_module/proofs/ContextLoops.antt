@@ -5,7 +5,8 @@ use Rattle.cc_base.specs.declared.device.DeviceDecl.{DeviceDecl}
 use Rattle.cc_base.specs.declared.literal.Import.{Import}
 use Rattle.cc_core.specs.Contexts.{Context}
 use Rattle.cc_core.specs.Programs.{device_entry}
-use Rattle.cc_meta_modules.specs.ModuleVerdicts.{Refusal, base_of, declared_context, code_of, missing_or, first_missing}
+use Rattle.cc_device.specs.Declarations.{declared_base, declared_bases}
+use Rattle.cc_meta_modules.specs.ModuleVerdicts.{Refusal, declared_context, code_of, missing_or, first_missing}
 use Rattle.cc_module.specs.declared.finding.Finding.{Finding as DeclaredFinding}
 use Rattle.cc_module.specs.Findings.{finding_of}
 use Rattle.cc_parse.specs.Trees.{import_syntax}
@@ -20,16 +21,16 @@ drop_next list index item below is =
 
 -- the context of one device more
 one_device : (devices : List DeviceDecl) (device : DeviceDecl)
-    → declared_context (devices ++ device ∷ []) ≡ device_entry (base_of device.kind) ∷ declared_context devices
+    → declared_context (devices ++ device ∷ []) ≡ device_entry (declared_base device.kind) ∷ declared_context devices
 one_device devices device =
-    ap (λ bases. map device_entry (reverse bases)) (map-append (λ (d : DeviceDecl). base_of d.kind) devices (device ∷ []))
-    ∙ ap (map device_entry) (reverse-append (map (λ (d : DeviceDecl). base_of d.kind) devices) (base_of device.kind ∷ []))
+    ap (λ bases. map device_entry (reverse bases)) (map-append (λ (d : DeviceDecl). declared_base d.kind) devices (device ∷ []))
+    ∙ ap (map device_entry) (reverse-append (declared_bases devices) (declared_base device.kind ∷ []))
 
 pub device_more : (devices : List DeviceDecl) (index : ℕ) (device : DeviceDecl) (g more : Context)
     → index < length devices → device ≡ get_or devices index device → g ≡ declared_context (take index devices)
-    → more ≡ device_entry (base_of device.kind) ∷ g → more ≡ declared_context (take (index + 1) devices)
+    → more ≡ device_entry (declared_base device.kind) ∷ g → more ≡ declared_context (take (index + 1) devices)
 device_more devices index device g more below is was new =
-    new ∙ ap (λ x. device_entry (base_of device.kind) ∷ x) was
+    new ∙ ap (λ x. device_entry (declared_base device.kind) ∷ x) was
     ∙ sym (ap declared_context (take_more devices index device below ∙ ap (λ d. take index devices ++ d ∷ []) (sym is))
     ∙ one_device (take index devices) device)
 

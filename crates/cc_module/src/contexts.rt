@@ -4,6 +4,7 @@ ghost use Rattle.std.specs.Prelude.{◌≡◌, ◌∷◌, map, IfOk};
 ghost use Rattle.cc_core.specs.Contexts.{entry_of};
 ghost use Rattle.cc_core.specs.Programs.{device_entry};
 ghost use Rattle.cc_core.specs.Views.{type_of, context_of};
+ghost use Rattle.cc_device.specs.Declarations.{declared_base};
 ghost use Rattle.cc_meta_modules.specs.ModuleVerdicts as plain;
 ghost use Rattle.cc_module.specs.Findings.{finding_of};
 
@@ -16,7 +17,7 @@ use std::rc::Rc;
 
 // The base shape of a device.
 fn base_of(kind: &Kind) -> Base
-    ensures { result ≡ plain.base_of kind.now }
+    ensures { result ≡ declared_base kind.now }
 {
     match kind {
         Kind::Console => Base::Console,
@@ -37,7 +38,7 @@ fn device_type(alloc: Global, base: Base) -> Result<Ty, AllocError>
 
 // The context with one device more.
 fn with_device(alloc: Global, ctx: &Ctx, kind: &Kind) -> Result<Ctx, AllocError>
-    ensures { IfOk result (λ c. context_of c ≡ device_entry (plain.base_of kind.now) ∷ context_of ctx.now) }
+    ensures { IfOk result (λ c. context_of c ≡ device_entry (declared_base kind.now) ∷ context_of ctx.now) }
 {
     let ty = device_type(alloc, base_of(kind))?;
     let more = ctx.push(alloc, Bind::Var(ty))?;

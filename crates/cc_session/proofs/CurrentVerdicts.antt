@@ -9,7 +9,7 @@ use Rattle.std.specs.Str.{bytes_eq}
 use Rattle.cc_base.specs.declared.code.Code.{Code}
 use Rattle.cc_base.specs.declared.code.Code.TheVariants.{E32}
 use Rattle.cc_base.specs.declared.device.DeviceDecl.{DeviceDecl}
-use Rattle.cc_entry.specs.PresentEntries.{started_or, started_by, started_in}
+use Rattle.cc_meta_entries.specs.PresentEntries.{started_or, started_by, started_in}
 use Rattle.cc_graph.proofs.NameLemmas.{same_name, is_same_name}
 use Rattle.cc_graph.proofs.Paths.{IsAmong}
 use Rattle.cc_judge.specs.declared.grounds.Grounds.{Grounds}

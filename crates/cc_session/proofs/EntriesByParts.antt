@@ -1,27 +1,28 @@
 -- The entry of the parts that the code makes.
-use Rattle.std.proofs.Common.{◌≡◌, ℕ, true, List, length, map, Some, Ok, refl}
+use Rattle.std.proofs.Common.{◌≡◌, ℕ, true, List, length, Some, Ok, refl}
 use Rattle.cc_base.specs.declared.device.DeviceDecl.{DeviceDecl}
 use Rattle.cc_base.specs.declared.literal.Base.{Base}
 use Rattle.cc_core.specs.Programs.{IsEntry}
 use Rattle.cc_core.specs.Stores.{authority}
+use Rattle.cc_device.specs.Declarations.{declared_bases}
 use Rattle.cc_entry.specs.declared.modules.EntryModule.{EntryModule}
 use Rattle.cc_entry.specs.Modules.{entry_in}
-use Rattle.cc_entry.specs.PresentEntries.{program_entry, takes_unit, started_or}
+use Rattle.cc_meta_entries.specs.PresentEntries.{program_entry, takes_unit, started_or}
 use Rattle.cc_meta_modules.specs.ModuleLaws.{NamesOfDevicesDiffer}
-use Rattle.cc_meta_modules.specs.ModuleVerdicts.{CheckedDefinition, base_of}
+use Rattle.cc_meta_modules.specs.ModuleVerdicts.{CheckedDefinition}
 use Rattle.cc_meta_modules.specs.PresentTexts.{Texts, ArePresent}
 use Rattle.cc_module.specs.declared.judgement.ModuleVerdict.{ModuleVerdict as DeclaredVerdict}
 use Rattle.cc_session.specs.EntryParts.{AreReachedModules, HaveCurrentVerdicts, IsStarted, IsCurrentEntry}
-use Rattle.cc_session.proofs.AcceptedEntries.{present_entries}
+use Rattle.cc_meta_entries.proofs.AcceptedEntries.{present_entries}
 use Rattle.cc_session.proofs.CurrentVerdicts.{have_verdicts}
-use Rattle.cc_session.proofs.MadeEntries.{made_entry}
+use Rattle.cc_meta_entries.proofs.MadeEntries.{made_entry}
 
 module _ (devices : List DeviceDecl) (texts : Texts) (verdicts : List (List ℕ × DeclaredVerdict))
     (differ : NamesOfDevicesDiffer devices) (sorted : ArePresent texts)
     (current : HaveCurrentVerdicts devices texts verdicts) (module_name name : List ℕ) (started : CheckedDefinition)
     (starts : IsStarted devices texts module_name name started) (modules : List EntryModule)
     (reached : AreReachedModules texts verdicts module_name modules) (shapes : List Base)
-    (shapes_are : shapes ≡ map (λ device. base_of device.kind) devices) (its_module its_name : List ℕ)
+    (shapes_are : shapes ≡ declared_bases devices) (its_module its_name : List ℕ)
     (same_module : its_module ≡ module_name) (same_name : its_name ≡ name) (permitted : List ℕ)
     (permits : permitted ≡ authority (length devices) started.accepted.signature.set) where
   -- it is that of the present texts

@@ -1,17 +1,5 @@
-pub mod AcceptedImports
-pub mod AcceptedModules
-pub mod ChosenOrders
-pub mod LinkedModules
 pub mod SessionFacts
 pub mod TextChanges
-pub mod PlainEntries
-pub mod AcceptedEntries
 pub mod CurrentVerdicts
-pub mod EntryLinks
-pub mod EntryModules
-pub mod EntryNames
-pub mod MadeEntries
-pub mod StartedDefinitions
-pub mod OneEntry
 pub mod PresentModules
 pub mod EntriesByParts

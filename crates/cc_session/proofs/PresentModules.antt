@@ -1,30 +1,23 @@
 -- The modules of an entry as the code makes them, one after another.
-use Rattle.std.proofs.Common.{◌≡◌, ℕ, ◌+◌, ◌<◌, Bool, true, List, [], ◌∷◌, ◌++◌, length, get_or, map, take, Some}
-use Rattle.std.proofs.Common.{Option, None, Vec, refl, sym, ap, ◌∙◌, subst, inl, inr, arith, if◌then◌else◌}
+use Rattle.std.proofs.Common.{◌≡◌, ℕ, ◌+◌, ◌<◌, Bool, List, [], ◌∷◌, ◌++◌, length, get_or, map, take, Some}
+use Rattle.std.proofs.Common.{Option, Vec, sym, ap, ◌∙◌, subst, arith, if◌then◌else◌}
 use Rattle.std.specs.Prelude.{zero, suc}
-use Rattle.std.proofs.lemmas.Bool.{cases_Bool}
 use Rattle.std.proofs.lemmas.List.{get_or_default, get_or-map, map-append, take_more}
 use Rattle.std.proofs.lemmas.List.Elements.{filter-append}
 use Rattle.std.specs.List.{AllByRecursion, filter, slice_get}
 use Rattle.std.specs.Map.{keys_of}
-use Rattle.std.specs.Option.{unwrap_or, is_some, option_map}
-use Rattle.std.specs.Str.{bytes_eq}
+use Rattle.std.specs.Option.{unwrap_or, option_map}
 use Rattle.std.specs.declared.alloc.Global.{Global}
 use Rattle.cc_base.specs.declared.literal.Import.{Import}
 use Rattle.cc_entry.specs.declared.modules.EntryModule.{EntryModule}
 use Rattle.cc_entry.specs.Modules.{module_of}
-use Rattle.cc_entry.specs.PresentEntries.{definitions_of, present_module}
-use Rattle.cc_grammar.specs.Syntax.{ImportSyntax}
-use Rattle.cc_graph.specs.Graph.{ImportMap, is_present, IsOrder}
-use Rattle.cc_graph.proofs.OrderLaws.{orders_list_present_modules}
-use Rattle.cc_graph.proofs.OrderLemmas.{listed_among}
-use Rattle.cc_graph.proofs.Paths.{IsAmong}
+use Rattle.cc_meta_entries.specs.PresentEntries.{definitions_of, present_module}
 use Rattle.cc_judge.specs.Dependencies.{AreRead}
 use Rattle.cc_judge.specs.Places.{entry_at}
 use Rattle.cc_judge.proofs.Graphs.{reading_of_place}
 use Rattle.cc_judge.proofs.TextPlaces.{text_of_place, place_of_key}
 use Rattle.cc_meta_modules.specs.ModuleVerdicts.{ModuleVerdict}
-use Rattle.cc_meta_modules.specs.PresentTexts.{Texts, ArePresent, text_of, with_module, graph_of}
+use Rattle.cc_meta_modules.specs.PresentTexts.{Texts, ArePresent, text_of}
 use Rattle.cc_meta_modules.specs.Readings.{imports_of}
 use Rattle.cc_module.specs.declared.judgement.ModuleVerdict.{ModuleVerdict as DeclaredVerdict}
 use Rattle.cc_module.specs.Judgements.{checked_definition_of, module_verdict_of}
@@ -82,44 +75,3 @@ pub all_at : {A : Type 0} (P : A → Type 0) (xs : List A) (i : ℕ) (x : A) →
 all_at P [] i x within is all = absurd (omega arith)
 all_at P (y ∷ ys) zero x within is all = subst P (sym is) all.0
 all_at P (y ∷ ys) (suc i) x within is all = all_at P ys i x (omega arith) is all.1
-
--- ---- what is in the graph is present
-in_rest : (first : List ℕ × List ℕ) (rest : Texts) (name : List ℕ) → is_some (text_of rest name) ≡ true
-    → is_some (text_of (first ∷ rest) name) ≡ true
-in_rest first rest name present =
-    elim (cases_Bool (bytes_eq name first.0)) [ inl same ↦ rw same refl | inr other ↦ rw other present ]
-
-in_texts : (first : List ℕ × List ℕ) (rest : Texts) (name : List ℕ) (imports : Option (List ImportSyntax))
-    → (is_present (graph_of rest) name ≡ true → is_some (text_of rest name) ≡ true)
-    → is_present (with_module first.0 imports (graph_of rest)) name ≡ true
-    → is_some (text_of (first ∷ rest) name) ≡ true
-in_texts first rest name None behind present = in_rest first rest name (behind present)
-in_texts first rest name (Some imports) behind present =
-    elim (cases_Bool (bytes_eq name first.0)) [
-      | inl same ↦ rw same refl
-      | inr other ↦ in_rest first rest name (behind (rw other at present))
-    ]
-
-pub graph_present : (texts : Texts) (name : List ℕ) → is_present (graph_of texts) name ≡ true
-    → is_some (text_of texts name) ≡ true
-unfolding graph_of
-graph_present [] name present = cc
-graph_present (first ∷ rest) name present =
-    in_texts first rest name (imports_of first.1) (graph_present rest name) present
-
-each_present : (texts : Texts) (names xs : List (List ℕ)) → IsOrder (graph_of texts) names
-    → ((x : List ℕ) → IsAmong x xs → IsAmong x names) → AllByRecursion (λ x. is_some (text_of texts x) ≡ true) xs
-each_present texts names [] order inside = tt
-each_present texts names (x ∷ xs) order inside = (
-  graph_present texts x
-      (sym ((orders_list_present_modules (graph_of texts) names order).1 x)
-      ∙ listed_among names x (inside x (inl refl))),
-  each_present texts names xs order (λ y among. inside y (inr among)),
-)
-
--- the names of an order are those of present modules
-pub order_present : (texts : Texts) (graph : ImportMap) (names : List (List ℕ)) → graph ≡ graph_of texts
-    → IsOrder graph names → AllByRecursion (λ x. is_some (text_of texts x) ≡ true) names
-order_present texts graph names same order =
-    let O : ImportMap → Type 0 = λ g. IsOrder g names in
-    each_present texts names names (subst O same order) (λ x among. among)

@@ -3,7 +3,7 @@ use Rattle.std.specs.Prelude.{◌≡◌, ℕ, List, Result, Ok, Err}
 use Rattle.cc_base.specs.declared.device.DeviceDecl.{DeviceDecl}
 use Rattle.cc_entry.specs.declared.entry.Entry.{Entry}
 use Rattle.cc_entry.specs.Entries.{entry_of}
-use Rattle.cc_entry.specs.PresentEntries.{started_in, IsEntryOf}
+use Rattle.cc_meta_entries.specs.PresentEntries.{started_in, IsEntryOf}
 use Rattle.cc_meta_modules.specs.ModuleVerdicts.{CheckedDefinition, ModuleVerdict}
 use Rattle.cc_meta_modules.specs.PresentTexts.{Texts, AreVerdicts}
 use Rattle.cc_session.specs.declared.entry.EntryError.{EntryError}

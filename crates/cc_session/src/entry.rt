@@ -5,7 +5,7 @@ ghost use Rattle.std.specs.List.{AllByRecursion};
 ghost use Rattle.std.specs.Option.{unwrap_or, is_some};
 ghost use Rattle.cc_entry.specs.Entries.{entry_of};
 ghost use Rattle.cc_entry.specs.Modules.{module_of};
-ghost use Rattle.cc_entry.specs.PresentEntries as plain;
+ghost use Rattle.cc_meta_entries.specs.PresentEntries as plain;
 ghost use Rattle.cc_judge.specs.Dependencies.{AreRead};
 ghost use Rattle.cc_meta_modules.specs.ModuleLaws.{NamesOfDevicesDiffer};
 ghost use Rattle.cc_meta_modules.specs.PresentTexts.{ArePresent, text_of};
@@ -13,7 +13,7 @@ ghost use Rattle.cc_module.specs.Judgements.{checked_definition_of, module_verdi
 ghost use Rattle.cc_parse.specs.Trees.{import_syntax, imports_syntax};
 ghost use Rattle.cc_session.specs.EntryParts.{ArePresentModules, AddsPresent, AreReachedModules, HaveCurrentVerdicts, IsStarted, IsDefinitionOf, IsCurrentEntry};
 ghost use Rattle.cc_session.specs.EntryAnswers.{AnswersEntry};
-ghost use Rattle.cc_session.specs.LinkOrders.{is_reached};
+ghost use Rattle.cc_meta_entries.specs.LinkOrders.{is_reached};
 
 use crate::refusals::Refused;
 use cc_base::code::Code;

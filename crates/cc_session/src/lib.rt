@@ -2,8 +2,6 @@
 #![tactic(auto)]
 
 pub mod entry;
-pub mod entry_laws;
-pub mod laws;
 pub mod refusals;
 pub mod session;
 mod texts;

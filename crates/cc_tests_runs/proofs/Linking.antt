@@ -47,7 +47,7 @@ use Rattle.cc_device.specs.Declarations.{declared_base, declared_bases}
 use Rattle.cc_meta_typing.proofs.FormedContexts.{IsKindedContext-test}
 use Rattle.cc_meta_typing.proofs.InternalConversions.{formed_type_from, internal_from, type_from}
 use Rattle.cc_meta_modules.specs.ModuleLaws.{AreSound, in_program}
-use Rattle.cc_meta_modules.specs.ModuleVerdicts.{base_of, declared_context}
+use Rattle.cc_meta_modules.specs.ModuleVerdicts.{declared_context}
 use Rattle.cc_meta_runs.specs.Links.{device_cells}
 use Rattle.cc_meta_runs.proofs.Links.{linked_store_typed}
 use Rattle.cc_meta_runs.proofs.LinkedPrograms.{all_reversed}
@@ -112,15 +112,6 @@ device_bases (d ∷ decls) = device_base d.kind (device_bases decls)
     device_base kinds.Console e = e
     device_base (kinds.File numbers) e = e
     device_base kinds.Counter e = e
-
-same_bases : (decls : List DeviceDecl) → map (λ d. base_of d.kind) decls ≡ declared_bases decls
-same_bases [] = refl
-same_bases (d ∷ decls) = λ j. same_base d.kind j ∷ same_bases decls j
-  where
-    same_base : (k : Kind) → base_of k ≡ declared_base k
-    same_base kinds.Console = refl
-    same_base (kinds.File numbers) = refl
-    same_base kinds.Counter = refl
 
 devices_stored : (devices : List Base) → list_all is_device_base devices ≡ true → HasStoreTyping (device_cells (reverse devices)) (device_context devices)
 devices_stored devices are = linked_store_typed devices [] (all_reversed is_device_base devices are) tt tt tt tt
@@ -248,8 +239,7 @@ linked_program decls defs values i last term sound are counted at takes is =
     let g : Context = device_context devices in
     let ds : List Definition = newest_first defs in
     let inner : Context = definition_context g ds in
-    let T : List Base → Type 0 = λ bs. AreTyped (device_context bs) ds in
-    let typed : AreTyped g ds = subst T (same_bases decls) sound.typed in
+    let typed : AreTyped g ds = sound.typed in
     let values_are : AllByRecursion (λ d. IsTrue (is_definable d)) ds =
     all_turned (λ d. IsTrue (is_definable d)) (map in_program (map checked_definition_of defs)) []
     (all_map (λ d. IsTrue (is_definable d)) in_program (map checked_definition_of defs) sound.values) tt in

@@ -4,7 +4,7 @@ use Rattle.std.specs.Option.{unwrap_or}
 use Rattle.std.proofs.lemmas.List.{length-map}
 use Rattle.std.proofs.lemmas.Simd.{map-map}
 use Rattle.cc_base.specs.declared.literal.Import.{Import}
-use Rattle.cc_entry.specs.PresentEntries.{import_of}
+use Rattle.cc_meta_entries.specs.PresentEntries.{import_of}
 use Rattle.cc_parse.specs.Trees.{import_syntax}
 use Rattle.cc_link.specs.Linking.{module_in_program}
 use Rattle.cc_meta_modules.specs.ModuleLaws.{in_program}

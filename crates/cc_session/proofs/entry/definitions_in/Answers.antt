@@ -1,6 +1,6 @@
 use Rattle.std.proofs.Common.{◌∙◌, ap, sym}
 use Rattle.std.proofs.lemmas.Result.{IfOk-weaker}
-use Rattle.cc_entry.specs.PresentEntries.{definitions_of}
+use Rattle.cc_meta_entries.specs.PresentEntries.{definitions_of}
 use Rattle.cc_session.proofs.entry.definitions_in.Goals as goal
 
 pub returns-in-Ok : goal.returns-in-Ok

@@ -2,7 +2,7 @@ use Rattle.std.proofs.Common.{◌≡◌, List, ℕ, true, sym, subst}
 use Rattle.std.specs.List.{AllByRecursion}
 use Rattle.std.specs.Option.{is_some}
 use Rattle.cc_meta_modules.specs.PresentTexts.{text_of}
-use Rattle.cc_session.proofs.PresentModules.{order_present}
+use Rattle.cc_meta_entries.proofs.OrderedTexts.{order_present}
 use Rattle.cc_session.proofs.entry.entry_modules.Goals as goal
 
 pub reached_modules-requires-clause-named : goal.reached_modules-requires-clause-named

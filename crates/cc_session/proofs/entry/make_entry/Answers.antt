@@ -1,6 +1,6 @@
 use Rattle.std.proofs.Common.{◌∙◌, sym, ap, subst}
 use Rattle.cc_core.specs.Stores.{authority}
-use Rattle.cc_entry.specs.PresentEntries.{CheckedEntry}
+use Rattle.cc_meta_entries.specs.PresentEntries.{CheckedEntry}
 use Rattle.cc_module.specs.Judgements.{checked_definition_of}
 use Rattle.cc_session.specs.EntryParts.{IsCurrentEntry}
 use Rattle.cc_session.proofs.EntriesByParts.{parts_are_current, parts_are_entry}

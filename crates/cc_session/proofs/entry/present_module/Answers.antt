@@ -1,6 +1,6 @@
 use Rattle.std.proofs.Common.{◌≡◌, ap, sym, ◌∙◌, true, false, ◌∷◌, [], List, ℕ}
 use Rattle.std.specs.Option.{is_some}
-use Rattle.cc_entry.specs.PresentEntries.{definitions_of}
+use Rattle.cc_meta_entries.specs.PresentEntries.{definitions_of}
 use Rattle.cc_judge.proofs.Entries.{lookup_absent}
 use Rattle.cc_module.specs.declared.judgement.ModuleVerdict.{ModuleVerdict}
 use Rattle.cc_module.specs.Judgements.{module_verdict_of}

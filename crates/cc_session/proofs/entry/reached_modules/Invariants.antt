@@ -1,7 +1,7 @@
 use Rattle.std.proofs.Common.{take}
 use Rattle.std.specs.List.{filter}
 use Rattle.cc_session.specs.EntryParts.{ArePresentModules}
-use Rattle.cc_session.specs.LinkOrders.{is_reached}
+use Rattle.cc_meta_entries.specs.LinkOrders.{is_reached}
 use Rattle.cc_session.proofs.entry.reached_modules.Given as goal
 
 abbrev pub invariant-loop-name : goal.invariant-loop-name

@@ -1,6 +1,6 @@
 use Rattle.std.proofs.Common.{◌≡◌, ◌∙◌, true, sym, ap}
 use Rattle.cc_core.specs.Views.{shape_of}
-use Rattle.cc_entry.specs.PresentEntries.{takes_unit}
+use Rattle.cc_meta_entries.specs.PresentEntries.{takes_unit}
 use Rattle.cc_module.specs.Judgements.{checked_definition_of}
 use Rattle.cc_session.proofs.EntriesByParts.{unit_starts}
 use Rattle.cc_session.proofs.entry.start_entry.Goals as goal

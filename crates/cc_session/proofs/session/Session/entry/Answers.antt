@@ -4,7 +4,7 @@ use Rattle.cc_meta_modules.specs.ModuleVerdicts as judged
 use Rattle.cc_meta_modules.specs.PresentTexts.{Texts, AreVerdicts}
 use Rattle.cc_module.specs.declared.judgement.ModuleVerdict.{ModuleVerdict}
 use Rattle.cc_module.specs.Judgements.{checked_definition_of}
-use Rattle.cc_entry.specs.PresentEntries.{started_in}
+use Rattle.cc_meta_entries.specs.PresentEntries.{started_in}
 use Rattle.cc_session.specs.EntryAnswers.{AnswersEntry}
 use Rattle.cc_session.specs.EntryParts.{HaveCurrentVerdicts, IsDefinitionOf}
 use Rattle.cc_session.specs.Sessions.{SessionState, IsUpToDate}

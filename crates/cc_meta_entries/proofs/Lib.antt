@@ -1,0 +1,15 @@
+pub mod AcceptedEntries
+pub mod AcceptedImports
+pub mod AcceptedModules
+pub mod AnyVerdicts
+pub mod ChosenOrders
+pub mod EntryLinks
+pub mod EntryModules
+pub mod EntryNames
+pub mod LinkedModules
+pub mod MadeEntries
+pub mod OneEntry
+pub mod OrderedTexts
+pub mod PlainEntries
+pub mod StartedDefinitions
+pub mod WorkedEntries
