@@ -1,0 +1,5 @@
+pub mod DefinitionCodes
+pub mod OtherCodes
+pub mod ShownVerdicts
+pub mod SoundFiles
+pub mod WorkedFiles

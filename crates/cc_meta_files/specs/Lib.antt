@@ -1,0 +1,2 @@
+pub mod ExampleFiles
+pub mod PresentFiles
