@@ -11,7 +11,7 @@ use Rattle.cc_grammar.specs.Syntax.{ImportSyntax}
 use Rattle.cc_graph.specs.Graph.{reaches}
 use Rattle.cc_graph.proofs.Paths.{IsAmong}
 use Rattle.cc_meta_modules.specs.Readings.{imports_of}
-use Rattle.cc_meta_modules.specs.ModuleVerdicts.{Finding, FoundDefinition, NoModule, InCycle, CheckedDefinition}
+use Rattle.cc_meta_modules.specs.ModuleVerdicts.{Finding, NoModule, InCycle, CheckedDefinition}
 use Rattle.cc_meta_modules.specs.ModuleVerdicts.{ModuleVerdict, IsAccepted, IsRefused, HasModuleVerdict}
 use Rattle.cc_meta_modules.specs.PresentTexts.{Texts, text_of, graph_of, definition_named, found_or_none, finding_in}
 use Rattle.cc_meta_modules.specs.PresentTexts.{finding_for, findings_for}

@@ -21,7 +21,7 @@ use Rattle.cc_meta_checking.proofs.VerdictsExist.{has_verdict}
 use Rattle.cc_mnf.specs.ElaboratedModules.{CoreDefinition}
 use Rattle.cc_meta_modules.specs.ModuleLaws.{IsOverDevices, in_program}
 use Rattle.cc_meta_modules.specs.ModuleVerdicts.{CheckedDefinition, ModuleVerdict, IsAccepted, IsRefused, declared_context, to_be_checked, checked_as, after_definition, AreJudged, no_more, refused_first, accepted_first}
-use Rattle.cc_meta_modules.specs.ReadyDefinitions.{EachIsReady, AreReady}
+use Rattle.cc_meta_modules.specs.ReadyDefinitions.{AreReady}
 use Rattle.cc_meta_modules.proofs.FilledValues.{accepted_right}
 use Rattle.cc_meta_modules.proofs.GlobalContexts.{HasBase, base_more, oldest_of_base}
 
@@ -119,13 +119,13 @@ judged_alike devices g (first ∷ rest) v w (accepted_first {accepted = one} {ve
     ap (λ (a : Accepted). after_definition (checked_as first a) x) same ∙ ap (after_definition (checked_as first other)) behind
 
 -- what an accepted verdict has behind its first definition
-after_parts : (one : CheckedDefinition) (v : ModuleVerdict) (checked : List CheckedDefinition)
+pub after_parts : (one : CheckedDefinition) (v : ModuleVerdict) (checked : List CheckedDefinition)
     → after_definition one v ≡ IsAccepted checked
     → (others : List CheckedDefinition) × (v ≡ IsAccepted others) × (checked ≡ one ∷ others)
 after_parts one (IsAccepted others) checked e = (others, refl, cc)
 after_parts one (IsRefused code at) checked e = cc
 
-accepted_parts : (one other : List CheckedDefinition) → IsAccepted one ≡ IsAccepted other → one ≡ other
+pub accepted_parts : (one other : List CheckedDefinition) → IsAccepted one ≡ IsAccepted other → one ≡ other
 accepted_parts one other e = cc
 
 -- What holds of accepted definitions that stand behind others.

@@ -1,8 +1,10 @@
 pub mod Asking
 pub mod FilledValues
+pub mod FoundStanding
 pub mod GlobalContexts
 pub mod JudgedDefinitions
 pub mod ModuleVerdictLaws
+pub mod PlacedDefinitions
 pub mod PresentLaws
 pub mod PresentVerdicts
 pub mod ReadingLaws

@@ -5,7 +5,6 @@ use Rattle.std.specs.Option.{unwrap_or}
 use Rattle.std.specs.Str.{bytes_eq}
 use Rattle.std.proofs.lemmas.List.{append-nil}
 use Rattle.cc_base.specs.declared.device.DeviceDecl.{DeviceDecl}
-use Rattle.cc_core.specs.Contexts.{Context}
 use Rattle.cc_core.specs.Occurrences.{MeetsInType, positions_below}
 use Rattle.cc_core.specs.Programs.{AreTyped, NamesDevicesOnly}
 use Rattle.cc_core.proofs.Lookups.{length_map}
@@ -18,7 +17,7 @@ use Rattle.cc_mnf.specs.ElaboratedModules.{CoreModule, Elaboration, elaboration}
 use Rattle.cc_mnf.specs.ElaboratedModules as elaborated
 use Rattle.cc_mnf.specs.ElaborationLaws.{import_names, definition_names}
 use Rattle.cc_mnf.proofs.SecondNames.{names_differ}
-use Rattle.cc_meta_modules.specs.ModuleLaws.{AreFit, IsOverDevices, FitsDevices, in_program, AreSound, ModuleVerdictsExist, ModuleVerdictsAreUnique, AcceptedModulesAreSound}
+use Rattle.cc_meta_modules.specs.ModuleLaws.{AreFit, IsOverDevices, in_program, AreSound, ModuleVerdictsExist, ModuleVerdictsAreUnique, AcceptedModulesAreSound}
 use Rattle.cc_meta_modules.specs.ModuleVerdicts.{Finding, Refusal, CheckedDefinition, ModuleVerdict, IsAccepted, IsRefused, first_missing, declared_context, with_findings, AreJudged, HasModuleVerdict, is_no_module, import_is_missing, is_not_elaborated, is_judged}
 use Rattle.cc_meta_modules.specs.Readings.{TextReading, IsTree, IsNoModule, HasReading, reading_of_text, imports_in}
 use Rattle.cc_meta_modules.proofs.GlobalContexts.{found_base, module_ready, count_devices}

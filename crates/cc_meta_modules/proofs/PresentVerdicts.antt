@@ -1,5 +1,5 @@
 -- The present modules have one verdict each.
-use Rattle.std.proofs.Common.{◌≡◌, ◌⊎◌, ℕ, Bool, true, false, List, [], ◌∷◌, Option, Some, None}
+use Rattle.std.proofs.Common.{◌≡◌, ℕ, true, false, List, [], ◌∷◌, Some, None}
 use Rattle.std.proofs.Common.{ap, ◌∙◌, sym, subst, refl, inl, inr, if◌then◌else◌}
 use Rattle.std.proofs.lemmas.Bool.{cases_Bool, false_from_ne_true}
 use Rattle.std.specs.List.{list_any}
@@ -16,7 +16,7 @@ use Rattle.cc_meta_modules.specs.PresentTexts.{Texts, ArePresent, text_of, findi
 use Rattle.cc_meta_modules.specs.ModuleLaws.{NamesOfDevicesDiffer, AreFit, ModuleVerdictsExist}
 use Rattle.cc_meta_modules.specs.ModuleLaws.{ModuleVerdictsAreUnique, AcceptedModulesAreSound}
 use Rattle.cc_meta_modules.proofs.Asking.{Asks, cases_option, some_of, findings_same, findings_fit, verdict_over}
-use Rattle.cc_meta_modules.proofs.Schedules.{IsSchedule, Schedule, schedule_closed, schedule_exists}
+use Rattle.cc_meta_modules.proofs.Schedules.{IsSchedule, schedule_closed, schedule_exists}
 
 -- a module has its verdict, with findings that fit
 pub record Deserved (devices : List DeviceDecl) (text : List ℕ) (findings : List Finding) (verdict : ModuleVerdict) :

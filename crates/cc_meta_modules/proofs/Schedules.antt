@@ -1,5 +1,5 @@
 -- Lists of modules in which each comes after those that are asked for its verdict.
-use Rattle.std.proofs.Common.{◌≡◌, ◌⊎◌, ℕ, Bool, true, false, List, [], ◌∷◌, ◌++◌, map, reverse, Option, Some, None}
+use Rattle.std.proofs.Common.{◌≡◌, ℕ, Bool, true, false, List, [], ◌∷◌, ◌++◌, map, reverse, Option, Some, None}
 use Rattle.std.proofs.Common.{ap, ◌∙◌, sym, subst, refl, inl, inr, append_assoc, append-nil}
 use Rattle.std.proofs.lemmas.Bool.{cases_Bool}
 use Rattle.std.proofs.lemmas.List.{reverse-append, reverse-reverse}
@@ -18,7 +18,7 @@ use Rattle.cc_graph.proofs.OrderLemmas.{clash, listed_among, among_listed, liste
 use Rattle.cc_graph.proofs.Paths.{IsAmong, path-reaches}
 use Rattle.cc_meta_modules.specs.Readings.{imports_of}
 use Rattle.cc_meta_modules.specs.PresentTexts.{Texts, ArePresent, text_of, with_module, graph_of}
-use Rattle.cc_meta_modules.proofs.Asking.{Asks, cases_option, some_of}
+use Rattle.cc_meta_modules.proofs.Asking.{Asks, some_of}
 
 -- each module, the latest first, comes after those that are asked for its verdict
 abbrev pub IsSchedule : Texts → List (List ℕ) → Type 0

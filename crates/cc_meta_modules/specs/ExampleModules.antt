@@ -3,7 +3,6 @@ use Rattle.std.specs.Prelude.{◌≡◌, ℕ, false, codes, List, [], ◌∷◌,
 use Rattle.cc_base.specs.declared.code.Code.TheVariants.{E05, E06, E13}
 use Rattle.cc_base.specs.declared.device.DeviceDecl.{DeviceDecl}
 use Rattle.cc_base.specs.declared.device.Kind.TheVariants as kinds
-use Rattle.cc_base.specs.declared.place.Place.{Place}
 use Rattle.cc_capture.specs.Sets.{empty}
 use Rattle.cc_core.specs.Shapes.{BoxShape, capturing}
 use Rattle.cc_sets.specs.Examples.{number}

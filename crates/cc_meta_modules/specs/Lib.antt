@@ -4,3 +4,5 @@ pub mod ModuleVerdicts
 pub mod PresentTexts
 pub mod ReadyDefinitions
 pub mod Readings
+pub mod StandingDefinitions
+pub mod StandingLaws

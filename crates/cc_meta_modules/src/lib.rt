@@ -5,3 +5,4 @@
 pub mod examples;
 pub mod module_laws;
 pub mod present_laws;
+pub mod standing_laws;
