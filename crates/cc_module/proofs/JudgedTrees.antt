@@ -1,5 +1,5 @@
 -- The verdict of a text, from what the calls for its parts answer.
-use Rattle.std.proofs.Common.{◌≡◌, ℕ, List, map, length, Some, None, refl, sym, ap, ◌∙◌, subst, Result, IfOk}
+use Rattle.std.proofs.Common.{◌≡◌, ℕ, List, map, length, Some, None, sym, ap, ◌∙◌, subst, Result, IfOk}
 use Rattle.std.proofs.lemmas.Result.{IfOk-weaker}
 use Rattle.std.specs.List.{AllByRecursion}
 use Rattle.std.specs.declared.alloc.AllocError.{AllocError}

@@ -7,3 +7,4 @@ pub mod imports;
 pub mod judgement;
 pub mod judging;
 mod reading;
+pub mod standing;

@@ -1,0 +1,8 @@
+use Rattle.std.proofs.Common.{◌≡◌, ◌++◌, map, take}
+use Rattle.cc_module.specs.Judgements.{checked_definition_of}
+use Rattle.cc_module.proofs.standing.put_definitions.Given as goal
+
+abbrev pub invariant-loop-def : goal.invariant-loop-def
+invariant-loop-def l =
+    l.names.items
+    ≡ l.fn.names.items ++ map (λ one. one.name) (map checked_definition_of (take l.def-index l.defs))
