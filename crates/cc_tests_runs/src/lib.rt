@@ -13,4 +13,6 @@ mod rows;
 #[cfg(test)]
 mod stepping;
 #[cfg(test)]
+mod tasks;
+#[cfg(test)]
 mod texts;

@@ -51,20 +51,29 @@ pub(crate) fn put_shown(alloc: Global, shown: Shown, text: &mut String) -> Resul
     }
 }
 
+/// Puts an end and the number of steps at the end of the text.
+pub(crate) fn put_end(
+    alloc: Global,
+    end: End,
+    steps: u32,
+    text: &mut String,
+) -> Result<(), AllocError> {
+    match end {
+        End::Done(shown) => {
+            text.push_str("done ")?;
+            put_shown(alloc, shown, text)?;
+        }
+        End::OutOfFuel => text.push_str("out of fuel")?,
+    }
+    text.push_str(&format!(in alloc; " after {steps}")?)
+}
+
 /// The events, the end and the number of steps of a report.
 pub(crate) fn report_text(alloc: Global, report: &RunReport) -> Result<String, AllocError> {
     let mut text = String::new(alloc);
     for event in &report.trace {
         put_event(alloc, event, &mut text)?;
     }
-    match report.end {
-        End::Done(shown) => {
-            text.push_str("done ")?;
-            put_shown(alloc, shown, &mut text)?;
-        }
-        End::OutOfFuel => text.push_str("out of fuel")?,
-    }
-    let steps = report.steps;
-    text.push_str(&format!(in alloc; " after {steps}")?)?;
+    put_end(alloc, report.end, report.steps, &mut text)?;
     Ok(text)
 }
