@@ -3,3 +3,4 @@ pub mod TextChanges
 pub mod CurrentVerdicts
 pub mod PresentModules
 pub mod EntriesByParts
+pub mod StandingFacts

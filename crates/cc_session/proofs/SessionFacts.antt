@@ -85,7 +85,7 @@ verdicts_shown (first ∷ rest) [] same = absurd (omega arith)
 verdicts_shown (first ∷ rest) (one ∷ others) same =
     ap (λ vs. named_verdict first ∷ vs) (verdicts_shown rest others (omega arith))
 
-apart_at : (keys : List (List ℕ)) (first name : List ℕ) (at : ℕ) → AllByRecursion (λ y. bytes_eq first y ≡ false) keys
+pub apart_at : (keys : List (List ℕ)) (first name : List ℕ) (at : ℕ) → AllByRecursion (λ y. bytes_eq first y ≡ false) keys
     → slice_get keys at ≡ Some name → bytes_eq first name ≡ false
 apart_at [] first name at apart stands = cc
 apart_at (key ∷ keys) first name zero apart stands =

@@ -3,3 +3,4 @@ pub mod Sessions
 pub mod Signatures
 pub mod EntryAnswers
 pub mod EntryParts
+pub mod StandingAnswers

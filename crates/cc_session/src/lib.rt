@@ -4,4 +4,5 @@
 pub mod entry;
 pub mod refusals;
 pub mod session;
+pub mod standing;
 mod texts;

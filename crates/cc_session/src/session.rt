@@ -1,22 +1,27 @@
 //! The session.
 
-ghost use Rattle.std.specs.Prelude.{◌≡◌, ◌<◌, ◌≤◌, ◌+◌, ◌↔◌, ℕ, List, [], map, length, false, not, IsTrue, IsOk, IsErr, IsErrOf, OnOk, OnErr, MatchResult, Some, None, Ok, Err};
+ghost use Rattle.std.specs.Prelude.{◌≡◌, ◌<◌, ◌≤◌, ◌+◌, ◌↔◌, ℕ, List, [], map, length, false, not, IsTrue, IsOk, IsErr, IsErrOf, IfOk, OnOk, OnErr, MatchResult, Some, None, Ok, Err};
 ghost use Rattle.std.specs.BTreeMap.{insert_entry};
 ghost use Rattle.std.specs.Map.{remove_entry};
 ghost use Rattle.std.specs.Str.{bytes_eq};
+ghost use Rattle.cc_core.specs.Views.{context_of};
+ghost use Rattle.cc_derive.specs.Accepting.{IsAcceptedIn};
 ghost use Rattle.cc_graph.specs.Graph.{compare_names};
 ghost use Rattle.cc_judge.specs.Judgements.{stale_count, verdicts_of};
 ghost use Rattle.cc_judge.specs.Kept.{named_verdicts};
 ghost use Rattle.cc_meta_modules.specs.ModuleLaws.{NamesOfDevicesDiffer};
 ghost use Rattle.cc_meta_modules.specs.ModuleVerdicts as judged;
 ghost use Rattle.cc_meta_modules.specs.PresentTexts.{text_of, AreVerdicts};
+ghost use Rattle.cc_meta_modules.specs.StandingDefinitions.{standing_in};
 ghost use Rattle.cc_module.specs.Judgements.{checked_definition_of};
 ghost use Rattle.cc_session.specs.EntryAnswers.{AnswersEntry};
 ghost use Rattle.cc_session.specs.Sessions.{IsUpToDate, HasTexts, others_present};
 ghost use Rattle.cc_session.specs.Signatures.{signature_of, definition_in};
+ghost use Rattle.cc_session.specs.StandingAnswers.{AnswersStanding};
 
 use crate::entry::{EntryError, start_entry};
 use crate::refusals::{NoSuchModule, PutRefused, Refused};
+use crate::standing::{Standing, StandingError, standing_in};
 use crate::texts::{put_text, remove_text};
 use cc_base::code::Code;
 use cc_base::device::DeviceDecl;
@@ -202,6 +207,17 @@ impl Session {
             },
             Err(refused) => Err(refused),
         }
+    }
+
+    /// The definition of the module where it stands: with the context of its right side, and the names of that.
+    ///
+    /// Refused as `definition` is. Fails besides only for want of memory, and only where it is not refused.
+    pub fn standing(&self, module: &Name, def: &Name) -> Result<Standing<'_>, StandingError>
+        requires { IsTrue self.now.checked }
+        ensures answer { (all : List ℕ → judged.ModuleVerdict) → AreVerdicts self.now.devices self.now.present all → AnswersStanding self.now.devices (standing_in self.now.present all «module».now def.now) result }
+        ensures accepted { IfOk result (λ answer. IsAcceptedIn (context_of answer.ctx) answer.def.now.checked) }
+    {
+        standing_in(self.alloc, self.devices.as_slice(), &self.last, module, def)
     }
 
     /// The entry of the definition of the module: what its program is linked from, and the devices that it may operate.
