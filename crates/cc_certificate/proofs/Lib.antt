@@ -3,6 +3,7 @@ pub mod ClaimTextLaws
 pub mod Lines
 pub mod LiteralTexts
 pub mod NodeLines
+pub mod OneLine
 pub mod SetTexts
 pub mod TermTextLaws
 pub mod TermWords

@@ -4,22 +4,21 @@ use Rattle.std.proofs.lemmas.Bool.{cases_lt}
 use Rattle.std.proofs.lemmas.List.{take_all, take-append-le}
 use Rattle.cc_core.specs.Contexts.{Bind, Context, lookup}
 use Rattle.cc_core.proofs.Lookups.{lookup-newest, lookup-other}
-use Rattle.cc_certificate.specs.Certificates.{line, lines_text, bind_line, lines_at, bind_lines}
+use Rattle.cc_certificate.specs.Certificates.{line, lines_behind, bind_line, lines_at, bind_lines}
 
-pub lines-append : (a b : List (List ℕ)) → lines_text (a ++ b) ≡ lines_text a ++ lines_text b
-lines-append [] b = refl
-lines-append (x ∷ a) b = ap (λ t. line x ++ t) (lines-append a b) ∙ sym (append_assoc (line x) (lines_text a) (lines_text b))
+pub lines-append : (front : List ℕ) (a b : List (List ℕ))
+    → lines_behind front (a ++ b) ≡ lines_behind front a ++ lines_behind front b
+lines-append front [] b = refl
+lines-append front (x ∷ a) b =
+    ap (λ t. line (front ++ x) ++ t) (lines-append front a b)
+    ∙ sym (append_assoc (line (front ++ x)) (lines_behind front a) (lines_behind front b))
 
-pub both_lines : (old middle new : List ℕ) (a b : List (List ℕ)) → middle ≡ old ++ lines_text a
-    → new ≡ middle ++ lines_text b → new ≡ old ++ lines_text (a ++ b)
-both_lines old middle new a b first second =
-    second ∙ ap (λ o. o ++ lines_text b) first ∙ append_assoc old (lines_text a) (lines_text b)
-    ∙ ap (λ t. old ++ t) (sym (lines-append a b))
-
-pub last_line : (old middle new : List ℕ) (a : List (List ℕ)) (x : List ℕ) → middle ≡ old ++ lines_text a
-    → new ≡ middle ++ line x → new ≡ old ++ lines_text (a ++ x ∷ [])
-last_line old middle new a x first second =
-    both_lines old middle new a (x ∷ []) first (second ∙ ap (λ t. middle ++ t) (sym (append-nil (line x))))
+pub both_lines : (front old middle new : List ℕ) (a b : List (List ℕ)) → middle ≡ old ++ lines_behind front a
+    → new ≡ middle ++ lines_behind front b → new ≡ old ++ lines_behind front (a ++ b)
+both_lines front old middle new a b first second =
+    second ∙ ap (λ o. o ++ lines_behind front b) first
+    ∙ append_assoc old (lines_behind front a) (lines_behind front b)
+    ∙ ap (λ t. old ++ t) (sym (lines-append front a b))
 
 bind_lines-length : (names : List (List ℕ)) (g : Context) → length (bind_lines names g) ≡ length g
 bind_lines-length names [] = refl
@@ -64,17 +63,18 @@ first_binds names (newest ∷ older) p low =
     (λ above. newest_bind names newest older p (omega arith)) (cases_lt p (length older))
 
 -- what is written for them
-pub more_binds : (names : List (List ℕ)) (g : Context) (p : ℕ) (old middle new : List ℕ) → p < length g
-    → middle ≡ old ++ lines_text (take p (bind_lines names g))
-    → new ≡ middle ++ lines_text (lines_at names p (lookup g p))
-    → new ≡ old ++ lines_text (take (p + 1) (bind_lines names g))
-more_binds names g p old middle new low first second =
-    both_lines old middle new (take p (bind_lines names g)) (lines_at names p (lookup g p)) first second
-    ∙ ap (λ lines. old ++ lines_text lines) (sym (first_binds names g p low))
+pub more_binds : (front : List ℕ) (names : List (List ℕ)) (g : Context) (p : ℕ) (old middle new : List ℕ)
+    → p < length g → middle ≡ old ++ lines_behind front (take p (bind_lines names g))
+    → new ≡ middle ++ lines_behind front (lines_at names p (lookup g p))
+    → new ≡ old ++ lines_behind front (take (p + 1) (bind_lines names g))
+more_binds front names g p old middle new low first second =
+    both_lines front old middle new (take p (bind_lines names g)) (lines_at names p (lookup g p)) first second
+    ∙ ap (λ lines. old ++ lines_behind front lines) (sym (first_binds names g p low))
 
 -- all of them
-pub all_binds : (names : List (List ℕ)) (g : Context) (p : ℕ) (old new : List ℕ) → length g ≤ p
-    → new ≡ old ++ lines_text (take p (bind_lines names g)) → new ≡ old ++ lines_text (bind_lines names g)
-all_binds names g p old new whole is =
+pub all_binds : (front : List ℕ) (names : List (List ℕ)) (g : Context) (p : ℕ) (old new : List ℕ) → length g ≤ p
+    → new ≡ old ++ lines_behind front (take p (bind_lines names g))
+    → new ≡ old ++ lines_behind front (bind_lines names g)
+all_binds front names g p old new whole is =
     let size = bind_lines-length names g in
-    is ∙ ap (λ lines. old ++ lines_text lines) (take_all p (bind_lines names g) (omega arith))
+    is ∙ ap (λ lines. old ++ lines_behind front lines) (take_all p (bind_lines names g) (omega arith))

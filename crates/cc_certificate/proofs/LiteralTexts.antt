@@ -14,7 +14,7 @@ use Rattle.cc_base.specs.declared.literal.Operator.TheVariants as operators
 use Rattle.cc_print.proofs.Words.{EndsWord, first_same, rest_same, same_words, word_decimal}
 use Rattle.cc_print.proofs.ElementTexts.{ends_differ}
 use Rattle.cc_print.proofs.ShapeWords.{unlike}
-use Rattle.cc_certificate.specs.TermTexts.{truth_text, quoted, operator_text, operation_text}
+use Rattle.cc_print.specs.TermTexts.{truth_text, quoted, operator_text, operation_text}
 use Rattle.cc_certificate.specs.Laws.{IsLegibleLiteral}
 use Rattle.cc_certificate.proofs.TermWords.{literal_word, literal_rest, number_small, begins_digit, below, not_below}
 use lib.Signed.{mag}

@@ -12,7 +12,7 @@ use Rattle.cc_print.proofs.Words.{IsWord, EndsWord, is_word_byte, clash, first_s
 use Rattle.cc_print.proofs.ElementTexts.{variable_word, variable_same, variable_some, element_word}
 use Rattle.cc_print.proofs.TypeTextLaws.{braces, same_braces, listed}
 use Rattle.cc_certificate.specs.Laws.{IsPlaced, IsPlacedElement, placed}
-use Rattle.cc_certificate.specs.TermTexts.{named}
+use Rattle.cc_print.specs.TermTexts.{named}
 
 -- a text that begins with a closing brace begins with no word
 no_word : (word rest behind : List ℕ) → IsWord word → (word ≡ [] → ⊥) → 125 ∷ behind ≡ word ++ rest → ⊥

@@ -13,7 +13,7 @@ use Rattle.cc_print.proofs.Words.{EndsWord, rest_same, same_words}
 use Rattle.cc_print.proofs.ElementTexts.{ends_differ, variable_word, variable_same, variable_some}
 use Rattle.cc_print.proofs.ShapeWords.{unlike}
 use Rattle.cc_print.proofs.TypeTextLaws.{NoCaret, no_caret, same_shape, types_same}
-use Rattle.cc_certificate.specs.TermTexts.{named, argument_under, note_under, behind_name, term_under}
+use Rattle.cc_print.specs.TermTexts.{named, argument_under, note_under, behind_name, term_under}
 use Rattle.cc_certificate.specs.Laws.{placed, IsLegibleNote, IsWritten, IsLegible, DifferentTermsHaveDifferentTexts}
 use Rattle.cc_certificate.proofs.LiteralTexts.{operators_same, operations_same, literals_same}
 use Rattle.cc_certificate.proofs.SetTexts.{after_variable, sets_same}

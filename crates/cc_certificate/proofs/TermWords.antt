@@ -23,7 +23,7 @@ use Rattle.cc_core.specs.Terms.{Term, VariableTerm, LiteralTerm, FunctionTerm, T
 use Rattle.cc_print.specs.TypeTexts.{shape_under}
 use Rattle.cc_print.proofs.Words.{IsWord, EndsWord, Begins, begins_append, is_word_byte, same_words, word_from_test, word_decimal, starts_of, begins_cond}
 use Rattle.cc_print.proofs.ElementTexts.{variable_word, variable_not_reserved, listed_text, local_text, named_at}
-use Rattle.cc_certificate.specs.TermTexts.{truth_text, literal_text, quoted, operator_text, operation_text, argument_under, named, term_under}
+use Rattle.cc_print.specs.TermTexts.{truth_text, literal_text, quoted, operator_text, operation_text, argument_under, named, term_under}
 use Rattle.cc_certificate.specs.Laws.{IsPlaced, placed, IsLegibleLiteral, IsLegible}
 use lib.Utf8.{encode}
 

@@ -11,7 +11,7 @@ use Rattle.cc_core.specs.Derivations.{Derivation, Premises, Node, NoPremise, Pre
 use Rattle.cc_core.specs.Terms.{Term}
 use Rattle.cc_derivation.specs.Numbers.{own_number, premise_numbers}
 use Rattle.cc_print.specs.TypeTexts.{position_text, set_text, shape_text, type_text, type_under}
-use Rattle.cc_certificate.specs.TermTexts.{term_text}
+use Rattle.cc_print.specs.TermTexts.{term_text}
 
 abbrev pub rule_text : Rule → List ℕ
 rule_text ByElement = codes "elem"
@@ -137,6 +137,10 @@ line text = text ++ 10 ∷ []
 
 abbrev pub lines_text : List (List ℕ) → List ℕ
 lines_text lines = flat_map line lines
+
+-- the same of lines that stand behind a front each
+abbrev pub lines_behind : List ℕ → List (List ℕ) → List ℕ
+lines_behind front lines = flat_map (λ text. line (front ++ text)) lines
 
 abbrev pub certificate_text : List (List ℕ) → Context → Term → Derivation → List ℕ
 certificate_text names context term derivation = lines_text (certificate_lines names context term derivation)

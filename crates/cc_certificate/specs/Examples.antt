@@ -15,7 +15,7 @@ use Rattle.cc_core.specs.Shapes.{Shape, BaseShape, AnyShape, TypeVariable, Funct
 use Rattle.cc_core.specs.Terms.{Absent, Written, Term, VariableTerm, LiteralTerm, FunctionTerm, TypeFunctionTerm}
 use Rattle.cc_core.specs.Terms.{BoxTerm, Application, TypeApplication, Unboxing, Let, Primitive, Conditional}
 use Rattle.cc_core.specs.Terms.{Repetition, Operation, Boundary, Leave}
-use Rattle.cc_certificate.specs.TermTexts.{term_text}
+use Rattle.cc_print.specs.TermTexts.{term_text}
 use lib.Utf8.{encode}
 
 -- two names

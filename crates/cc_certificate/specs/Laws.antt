@@ -1,5 +1,6 @@
 -- The laws of certificates: of the binders that are counted, and that texts tell terms and claims apart.
 use Rattle.std.specs.Prelude.{◌≡◌, ◌≢◌, ℕ, ◌+◌, ◌<◌, ◌≤◌, ◌^◌, List, [], ◌∷◌, length, Option, Some, None}
+use Rattle.std.specs.Prelude.{encode_utf8_all}
 use Rattle.std.specs.List.{AllByRecursion, IsDistinct}
 use Rattle.std.specs.Str.{bytes_eq}
 use Rattle.cc_base.specs.Literals.{Literal, UnitLiteral, TruthLiteral, NumberLiteral, TextLiteral}
@@ -9,6 +10,8 @@ use Rattle.cc_capture.specs.declared.var.Elem.TheVariants.{Var as Variable, Cap,
 use Rattle.cc_capture.specs.declared.var.Var.{Var}
 use Rattle.cc_capture.specs.declared.var.Var.TheVariants.{Bound, Free}
 use Rattle.cc_capture.specs.Sets.{Set}
+use Rattle.cc_core.specs.Contexts.{Context}
+use Rattle.cc_core.specs.Derivations.{Derivation}
 use Rattle.cc_core.specs.Derivations.{Rule, ByElement, ByVariable, BySet, ByReflexivity, ByTransitivity, ByTypeVariable}
 use Rattle.cc_core.specs.Derivations.{ByTop, ByFunction, ByTypeFunction, ByBox, ByCapturing, t-var, t-lit, t-abs}
 use Rattle.cc_core.specs.Derivations.{t-tabs, t-app, t-tapp, t-box, t-unbox, t-let, t-prim, t-if, t-repeat, t-op}
@@ -19,7 +22,8 @@ use Rattle.cc_core.specs.Terms.{TypeFunctionTerm, BoxTerm, Application, TypeAppl
 use Rattle.cc_core.specs.Terms.{Conditional, Repetition, Operation, Boundary, Leave}
 use Rattle.cc_meta_validity.specs.Rows.{Place, Nowhere, TypeOf, SetsBelow, ShapesBelow, TypesBelow, Row, row_at}
 use Rattle.cc_certificate.specs.Certificates.{binds_first, binds_others, with_binder, claim_text, node_line}
-use Rattle.cc_certificate.specs.TermTexts.{term_text}
+use Rattle.cc_certificate.specs.Certificates.{certificate_lines}
+use Rattle.cc_print.specs.TermTexts.{term_text}
 use lib.Signed.{mag}
 
 -- the context of the place, where there is one, has so many entries
@@ -184,3 +188,40 @@ LinesTellTheirNodes =
     → IsClaimOf rule claim → IsClaimOf rule' claim'
     → node_line names locals number rule premises claim ≡ node_line names locals number' rule' premises' claim'
     → (number ≡ number') × (rule ≡ rule') × (premises ≡ premises') × (claim ≡ claim')
+
+-- no byte of the text is a line feed
+abbrev pub IsOneLine : List ℕ → Type 0
+IsOneLine text = AllByRecursion (λ byte. byte ≢ 10) text
+
+-- none is one of a literal that is a text
+abbrev pub IsLiteralOfOneLine : Literal → Type 0
+IsLiteralOfOneLine UnitLiteral = Unit {0}
+IsLiteralOfOneLine (TruthLiteral truth) = Unit {0}
+IsLiteralOfOneLine (NumberLiteral number) = Unit {0}
+IsLiteralOfOneLine (TextLiteral text) = IsOneLine (encode_utf8_all text)
+
+-- the same of the literals of a term
+abbrev pub HasLiteralsOfOneLine : Term → Type 0
+HasLiteralsOfOneLine (VariableTerm variable) = Unit {0}
+HasLiteralsOfOneLine (LiteralTerm literal) = IsLiteralOfOneLine literal
+HasLiteralsOfOneLine (FunctionTerm takes c body) = HasLiteralsOfOneLine body
+HasLiteralsOfOneLine (TypeFunctionTerm bound body) = HasLiteralsOfOneLine body
+HasLiteralsOfOneLine (BoxTerm content) = Unit {0}
+HasLiteralsOfOneLine (Application function argument) = Unit {0}
+HasLiteralsOfOneLine (TypeApplication function argument) = Unit {0}
+HasLiteralsOfOneLine (Unboxing set box) = Unit {0}
+HasLiteralsOfOneLine (Let note right body) = HasLiteralsOfOneLine right × HasLiteralsOfOneLine body
+HasLiteralsOfOneLine (Primitive operator left right) = Unit {0}
+HasLiteralsOfOneLine (Conditional note test positive negative) =
+    HasLiteralsOfOneLine positive × HasLiteralsOfOneLine negative
+HasLiteralsOfOneLine (Repetition count function) = Unit {0}
+HasLiteralsOfOneLine (Operation operation receiver argument) = Unit {0}
+HasLiteralsOfOneLine (Boundary gives body) = HasLiteralsOfOneLine body
+HasLiteralsOfOneLine (Leave gives c exit value) = Unit {0}
+
+-- No line of a certificate has a line feed within where names and literals have none.
+abbrev pub LinesHaveNoLineFeed : Type 0
+LinesHaveNoLineFeed =
+    (names : List (List ℕ)) (context : Context) (term : Term) (derivation : Derivation)
+    → AllByRecursion (λ name. IsOneLine (encode_utf8_all name)) names → HasLiteralsOfOneLine term
+    → AllByRecursion IsOneLine (certificate_lines names context term derivation)

@@ -1,5 +1,6 @@
 pub mod Certificates
+pub mod DefinitionCertificates
 pub mod ExampleCertificates
 pub mod Examples
 pub mod Laws
-pub mod TermTexts
+pub mod WaitingLines

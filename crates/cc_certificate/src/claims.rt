@@ -110,8 +110,8 @@ fn put_numbers(alloc: Global, out: &mut String, numbers: &[u64]) -> Result<(), A
     }
 }
 
-// Adds the front of the line of a node, up to what it concludes.
-fn put_front(
+// Adds the beginning of the line of a node, up to what it concludes.
+fn put_rule(
     alloc: Global,
     out: &mut String,
     number: u64,
@@ -129,19 +129,21 @@ fn put_front(
     put(out, "] ")
 }
 
-/// Adds the line of a node with the number, the rule, the numbers of its premises and the claim.
+/// Adds the line of a node with the number, the rule, the numbers of its premises and the claim, behind a front.
 pub(crate) fn put_node_line(
     alloc: Global,
     out: &mut String,
+    front: &str,
     names: &Names,
     number: u64,
     rule: Rule,
     premises: &[u64],
     claim: &Claim,
 ) -> Result<(), AllocError>
-    ensures { OnOk result (string_bytes out.new ≡ string_bytes out.old ++ plain.line (plain.node_line names.now.names.items names.now.locals number (rule_of rule) premises.now (claim_of claim.now))) }
+    ensures { OnOk result (string_bytes out.new ≡ string_bytes out.old ++ plain.line (front.now ++ plain.node_line names.now.names.items names.now.locals number (rule_of rule) premises.now (claim_of claim.now))) }
 {
-    put_front(alloc, out, number, rule, premises)?;
+    put(out, front)?;
+    put_rule(alloc, out, number, rule, premises)?;
     put_claim(alloc, out, names, claim)?;
     put(out, "\n")
 }

@@ -21,3 +21,8 @@ pub fn different_terms_have_different_texts()
 pub fn lines_tell_their_nodes()
     ensures { law.LinesTellTheirNodes }
 {}
+
+/// No line of a certificate has a line feed within, where names and literals have none.
+pub fn lines_have_no_line_feed()
+    ensures { law.LinesHaveNoLineFeed }
+{}

@@ -4,8 +4,9 @@
 pub mod certificates;
 mod claims;
 pub mod laws;
+mod nodes;
 pub mod terms;
 mod writing;
 
-pub use certificates::cert_text;
+pub use certificates::{cert_text, put_cert};
 pub use terms::term_text;

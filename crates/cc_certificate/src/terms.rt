@@ -8,7 +8,7 @@ ghost use Rattle.cc_base.specs.Literals.{literal_of};
 ghost use Rattle.cc_core.specs.Terms.{BoxTerm, Application, TypeApplication, Unboxing, Primitive, Repetition, Operation, Leave};
 ghost use Rattle.cc_core.specs.Views as views;
 ghost use Rattle.cc_print.specs.TypeTexts as types;
-ghost use Rattle.cc_certificate.specs.TermTexts as plain;
+ghost use Rattle.cc_print.specs.TermTexts as plain;
 
 use crate::writing::{
     deeper, put, put_numbered, put_set, put_shape, put_type, put_variable, same_names,

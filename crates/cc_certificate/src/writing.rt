@@ -4,7 +4,7 @@ ghost use Rattle.std.specs.Prelude.{◌≡◌, ◌+◌, ◌++◌, OnOk, IfOk};
 ghost use Rattle.std.specs.String.{string_bytes};
 ghost use Rattle.cc_core.specs.Views as views;
 ghost use Rattle.cc_print.specs.TypeTexts as types;
-ghost use Rattle.cc_certificate.specs.TermTexts as plain;
+ghost use Rattle.cc_print.specs.TermTexts as plain;
 
 use cc_base::name::Name;
 use cc_capture::{CapSet, Var};

@@ -17,7 +17,7 @@ use Rattle.cc_words.proofs.NameBytes.{Lacks-name, name_of-encoded}
 use Rattle.cc_print.specs.TypeTexts.{type_text, type_under}
 use Rattle.cc_print.proofs.Words.{clash}
 use Rattle.cc_certificate_text.specs.Heights.{shape_height, term_height}
-use Rattle.cc_certificate_text.specs.TermTexts.{term_under}
+use Rattle.cc_print.specs.TermTexts.{term_under}
 use Rattle.cc_certificate_text.specs.Certificates.{CertificateNode, Line, Opens, Binds, States, Concludes, Stage, Start, Binding, Proving, names_at, used_up, behind_line, line_text, Fits}
 use Rattle.cc_certificate_text.specs.Reading.{Found, Got, Wrong, Reader, ◌>>=◌, where_true, begun, Counted, exact_at, type_at, term_at}
 use Rattle.cc_certificate_text.specs.LineReading.{name_of_cut, name_at, bind_at, statement_at, line_at}

@@ -23,7 +23,7 @@ use Rattle.cc_print.specs.TypeTexts.{numbered, variable_text, element_text, othe
 use Rattle.cc_print.proofs.Words.{IsWord, EndsWord, clash, first_same, same_words, name_not_reserved, low_line_not_reserved, is_word_byte}
 use Rattle.cc_certificate_text.specs.Heights.{shape_height, term_height}
 use Rattle.cc_certificate_text.specs.LocalNames.{renamed, IsNamed, IsNamedSet, IsNamedShape}
-use Rattle.cc_certificate_text.specs.TermTexts.{literal_text, named, behind_name, term_under}
+use Rattle.cc_print.specs.TermTexts.{literal_text, named, behind_name, term_under}
 use Rattle.cc_certificate_text.specs.Certificates.{IsWrittenLiteral, takes_argument}
 use Rattle.cc_certificate_text.specs.Reading.{Found, Got, Wrong, Reader, ◌>>=◌, found_of, where_true, begun, Counted, word_at, variable_of, some_set_at, set_at, Kind, ShapePart, TypePart, SetPart, VariablePart, NotePart, TermPart, Value, Readers, Parts, pieces_at, shape_at, type_at, type_over, variable_at, note_at, term_parts}
 use Rattle.cc_certificate_text.proofs.Readers.{got_from_bind, got_from_option, got_from_test, got_parts, begun_gives, begun-none, word_at-word, word_at_gives}

@@ -13,7 +13,7 @@ use Rattle.cc_core.specs.Shapes.{capturing}
 use Rattle.cc_core.specs.Terms.{Note, Absent, Written, Own, Term, VariableTerm, LiteralTerm, FunctionTerm, TypeFunctionTerm, BoxTerm, Application, TypeApplication, Unboxing, Let, Primitive, Conditional, Repetition, Operation, Boundary, Leave}
 use Rattle.cc_print.specs.TypeTexts.{numbered, elements_text, shape_under, type_under}
 use Rattle.cc_certificate_text.specs.Heights.{shape_height, note_height, term_height}
-use Rattle.cc_certificate_text.specs.TermTexts.{operator_text, operation_text, named, behind_name, term_under}
+use Rattle.cc_print.specs.TermTexts.{operator_text, operation_text, named, behind_name, term_under}
 use Rattle.cc_certificate_text.specs.Certificates.{takes_argument}
 use Rattle.cc_certificate_text.specs.Reading.{Found, Got, Wrong, ◌>>=◌, where_true, Readers, Parts, pieces_at, TermRule, FunRule, TypeFunRule, LetRule, IfRule, BoundaryRule, BoxingRule, UnboxRule, RepeatRule, LeaveRule, term_pieces, term_tree, term_rule_at, HeadRule, Calls, TypeCalls, Computes, Tells, Asks, head_pieces, head_tree, head_rule_at}
 use Rattle.cc_certificate_text.proofs.Readers.{got_from_bind, got_from_test, got_parts}

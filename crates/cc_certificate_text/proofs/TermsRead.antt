@@ -18,7 +18,7 @@ use Rattle.cc_words.proofs.Steps.{cut_at_gives, cut_at-append}
 use Rattle.cc_print.proofs.ElementTexts.{ends_differ}
 use Rattle.cc_print.proofs.Words.{IsWord, EndsWord, clash, same_words, word_decimal, word_from_test, rest_same, name_not_reserved, low_line_not_reserved}
 use Rattle.cc_certificate_text.specs.Heights.{shape_height, term_height}
-use Rattle.cc_certificate_text.specs.TermTexts.{literal_text, named, term_under}
+use Rattle.cc_print.specs.TermTexts.{literal_text, named, term_under}
 use Rattle.cc_certificate_text.specs.Certificates.{IsWrittenLiteral, takes_argument}
 use Rattle.cc_certificate_text.specs.Reading.{Found, Got, Wrong, Reader, ◌>>=◌, found_of, begun, Counted, word_at, position_of, variable_by, variable_of, Readers, Parts, shape_at, term_parts, TermRule, FunRule, TypeFunRule, LetRule, IfRule, BoundaryRule, BoxingRule, UnboxRule, RepeatRule, LeaveRule, term_pieces, term_tree, term_rule_at, HeadRule, Calls, TypeCalls, Computes, Tells, Asks, head_pieces, head_tree, head_rule_at, operated_at, computed_at, headed_at, text_of, text_of_cut, text_at, literal_of, term_of_word, word_term_at, plain_term_at, term_over, term_at}
 use Rattle.cc_certificate_text.proofs.Readers.{got_from_option, got_parts, begun_gives, word_at-word, word_at_gives}

@@ -19,7 +19,7 @@ use Rattle.cc_words.proofs.Steps.{Lacks, Lacks-append}
 use Rattle.cc_words.proofs.Numbers.{number_of_gives, number_of-decimal}
 use Rattle.cc_lex.specs.Forms.{stands_in_string}
 use Rattle.cc_print.proofs.Words.{Begins, begins_append, both, clash, name_not_reserved}
-use Rattle.cc_certificate_text.specs.TermTexts.{literal_text}
+use Rattle.cc_print.specs.TermTexts.{literal_text}
 use Rattle.cc_certificate_text.specs.Certificates.{IsWrittenLiteral}
 use Rattle.cc_certificate_text.specs.Reading.{literal_where, text_of, number_literal, literal_of}
 use Rattle.cc_certificate_text.proofs.ReadSets.{false_unless, map_gives}

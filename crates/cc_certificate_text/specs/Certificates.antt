@@ -23,7 +23,7 @@ use Rattle.cc_core.specs.Derivations.{TypeBelow, OfType}
 use Rattle.cc_lex.specs.Forms.{stands_in_string}
 use lib.Utf8.{scalars}
 use Rattle.cc_print.specs.TypeTexts.{type_text}
-use Rattle.cc_certificate_text.specs.TermTexts.{term_text}
+use Rattle.cc_print.specs.TermTexts.{term_text}
 use Rattle.cc_certificate_text.specs.NodeTexts.{node_line}
 use Rattle.cc_certificate_text.specs.Heights.{shape_height, term_height}
 use Rattle.cc_certificate_text.specs.LocalNames.{placed_claim, IsNamedClaim, claim_has_binder}

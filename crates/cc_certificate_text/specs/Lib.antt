@@ -5,4 +5,3 @@ pub mod LineReading
 pub mod LocalNames
 pub mod NodeTexts
 pub mod Reading
-pub mod TermTexts

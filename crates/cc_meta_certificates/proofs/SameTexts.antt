@@ -1,14 +1,8 @@
--- Both forms of certificates write terms and the parts of lines alike.
+-- Both forms of certificates write lines of nodes alike.
 use Rattle.std.proofs.Common.{◌≡◌, ℕ, List, refl}
-use Rattle.cc_core.specs.Terms.{Term}
 use Rattle.cc_core.specs.Derivations.{Rule, Claim}
-use Rattle.cc_certificate.specs.TermTexts.{term_text}
-use Rattle.cc_certificate_text.specs.TermTexts.{term_text as read_text}
 use Rattle.cc_certificate.specs.Certificates.{node_line}
 use Rattle.cc_certificate_text.specs.NodeTexts.{node_line as read_line}
-
-pub same_term_text : (names : List (List ℕ)) (locals : ℕ) (t : Term) → read_text names locals t ≡ term_text names locals t
-same_term_text names locals t = refl
 
 pub same_node_line : (names : List (List ℕ)) (locals number : ℕ) (rule : Rule) (premises : List ℕ) (claim : Claim)
     → read_line names locals number rule premises claim ≡ node_line names locals number rule premises claim

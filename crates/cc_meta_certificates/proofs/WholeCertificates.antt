@@ -7,12 +7,11 @@ use Rattle.cc_core.specs.Derivations.{Derivation}
 use Rattle.cc_derivation.specs.Numbers.{own_number}
 use Rattle.cc_sets.specs.DerivationSizes.{nodes}
 use Rattle.cc_certificate.specs.Certificates.{certificate_text, certificate_lines, bind_lines}
-use Rattle.cc_certificate.specs.TermTexts.{term_text}
+use Rattle.cc_print.specs.TermTexts.{term_text}
 use Rattle.cc_certificate_text.specs.Certificates.{Opens, States, Start, Binding, Proving, IsWhole}
 use Rattle.cc_meta_certificates.specs.CertificateLines.{bound_lines, lines_of}
 use Rattle.cc_meta_certificates.specs.CertificateLaws.{IsPresentable, IsPresentableContext, IsPresentableTerm, WrittenTextsAreCertificates, WrittenTextsAreReadBack}
 use Rattle.cc_certificate_text.proofs.Certified.{one_certificate}
-use Rattle.cc_meta_certificates.proofs.SameTexts.{same_term_text}
 use Rattle.cc_meta_certificates.proofs.LinesThatFit.{Leads, one_line, and_then, leads_to}
 use Rattle.cc_meta_certificates.proofs.NodeLines.{nodes_lead}
 use Rattle.cc_meta_certificates.proofs.BindLines.{binds_lead}
@@ -33,7 +32,7 @@ certificates_lead names context term derivation open_context open_term can few =
     (and_then (Binding names context) (Proving names 0 []) _ (States term ∷ []) _
     ((codes "term " ++ term_text names 0 term) ∷ []) _
     (one_line (Binding names context) (States term) (codes "term " ++ term_text names 0 term) (Proving names 0 [])
-    (open_term.formed, open_term.whole, open_term.low) (ap (λ t. codes "term " ++ t) (same_term_text names 0 term)) refl)
+    (open_term.formed, open_term.whole, open_term.low) refl refl)
     (nodes_lead names 0 0 [] derivation can (omega (arith, few)) (omega (arith, few)))))
 
 pub written_are_certificates : WrittenTextsAreCertificates

@@ -20,11 +20,14 @@ use Rattle.cc_meta_checking.specs.CanonicalLaws.{accepted_derived}
 use Rattle.cc_meta_modules.specs.Readings.{IsTree, imports_in, imports_of}
 use Rattle.cc_meta_modules.specs.ModuleVerdicts.{Finding, CheckedDefinition, ModuleVerdict, IsAccepted, declared_context, with_findings, to_be_checked, checked_as, HasModuleVerdict, is_no_module, import_is_missing, is_not_elaborated, is_judged}
 use Rattle.cc_meta_modules.specs.ModuleLaws.{AreFit}
-use Rattle.cc_meta_modules.specs.PresentTexts.{findings_for}
+use Rattle.cc_meta_modules.specs.PresentTexts.{Texts, ArePresent, findings_for, AreVerdicts}
 use Rattle.cc_meta_modules.proofs.GlobalContexts.{module_ready, count_devices}
 use Rattle.cc_meta_modules.proofs.ModuleVerdictLaws.{fits_tree}
 use Rattle.cc_meta_modules.proofs.PresentLaws.{present_findings_fit}
 use Rattle.cc_meta_modules.proofs.ReadingLaws.{text_has_one_reading}
+use Rattle.cc_certificate.specs.DefinitionCertificates.{definition_certificate_lines}
+use Rattle.cc_certificate.specs.Laws.{IsOneLine, HasLiteralsOfOneLine}
+use Rattle.cc_certificate.proofs.OneLine.{lines_are_one}
 use Rattle.cc_certificate_text.specs.Certificates.{Opens, States, Concludes as ConcludesNode}
 use Rattle.cc_certificate_judging.specs.Judging.{listed}
 use Rattle.cc_meta_certificates.specs.CertificateLaws.{IsPresentableEntry, IsTermEntry}
@@ -35,12 +38,14 @@ use Rattle.cc_meta_judging.specs.JudgedCertificates.{written_tree}
 use Rattle.cc_meta_judging.proofs.FoundValid.{definitions_found_valid, tree_of_definition_back}
 use Rattle.cc_meta_judging.proofs.ReadTrees.{written_nodes, derivations_back, judged_valid}
 use Rattle.cc_meta_judging.proofs.SameLines.{binds_in, bound_are_binds, context_of_binds}
-use Rattle.cc_meta_limits.specs.ModuleCertificates.{with_definitions, context_behind, names_behind, IsCertified, AreNamed, DefinitionsOfModulesAreCertified, DefinitionsOfPresentTextsAreCertified}
+use Rattle.cc_meta_modules.specs.StandingDefinitions.{StandsInPresentModule, with_definitions, context_behind, names_behind}
+use Rattle.cc_meta_limits.specs.ModuleCertificates.{IsCertified, StandsInModule, LinesOfDefinitionsHaveNoLineFeed, AreNamed, DefinitionsOfModulesAreCertified, DefinitionsOfPresentTextsAreCertified}
 use Rattle.cc_meta_limits.specs.ModuleLimits.{IsLowFinding}
 use Rattle.cc_meta_limits.specs.TextLimits.{IsOfText}
 use Rattle.cc_meta_limits.proofs.LowComparisons.{LowContext}
 use Rattle.cc_meta_limits.proofs.LowDefinitions.{accepted_low, literals_kept}
 use Rattle.cc_meta_limits.proofs.LowModules as modules
+use Rattle.cc_meta_limits.proofs.LineFeeds.{names_of_one_line, literals_of_one_line}
 use Rattle.cc_meta_limits.proofs.TextDefinitions.{definitions_of_texts_low, imports_of_texts_named}
 use Rattle.cc_meta_limits.proofs.JudgedPlaces.{declared_low, findings_low, Place, place, checked_names, names_kept, definitions_named, imports_named, all_joined, all_front, distinct_front, kept_in_front, found_count, definitions_count, names_count}
 
@@ -140,18 +145,24 @@ module _ (devices : List DeviceDecl) (imports : List ImportSyntax) (findings : L
       (names_behind devices imports before (checked_as p.definition p.accepted)) p.fits p.has p.low p.of_text
       good.named good.apart good.each good.few)
 
-  certified_by : (text : List ℕ) (one : CheckedDefinition) (after : List CheckedDefinition) (v : ModuleVerdict)
+  -- what holds of a definition of an accepted module
+  record IsPlaced (one : CheckedDefinition) : Type 0 where
+    there : Place (length devices) base one
+    named : AllByRecursion IsName (names_behind devices imports before one)
+    apart : IsDistinct bytes_eq (names_behind devices imports before one)
+    each : length (names_behind devices imports before one) ≡ length (context_behind devices findings before one)
+
+  placed_by : (text : List ℕ) (one : CheckedDefinition) (after : List CheckedDefinition) (v : ModuleVerdict)
       → AreNamed devices
       → imports_of text ≡ Some imports → HasModuleVerdict devices text findings v
       → v ≡ IsAccepted (before ++ one ∷ after)
       → AreFit devices text findings → LowContext (with_findings (declared_context devices) findings)
-      → nodes (accepted_derived (context_behind devices findings before one) one.accepted) ≤ 100000
-      → IsCertified (names_behind devices imports before one) (context_behind devices findings before one) one.accepted
-  certified_by text one after v names are (is_no_module reading) e fit low few = cc
-  certified_by text one after v names are (import_is_missing reading missing) e fit low few = cc
-  certified_by text one after v names are (is_not_elaborated reading found is) e fit low few = cc
-  certified_by text one after v names are (is_judged {tree = tree} {core = core} {verdict = verdict} reading found is
-      judged) e fit low few =
+      → IsPlaced one
+  placed_by text one after v names are (is_no_module reading) e fit low = cc
+  placed_by text one after v names are (import_is_missing reading missing) e fit low = cc
+  placed_by text one after v names are (is_not_elaborated reading found is) e fit low = cc
+  placed_by text one after v names are (is_judged {tree = tree} {core = core} {verdict = verdict} reading found is
+      judged) e fit low =
       let g : Context = with_findings (declared_context devices) findings in
       let counted = fits_tree devices text findings tree fit reading in
       let ready = module_ready devices tree findings core counted fit.over_devices found is in
@@ -181,28 +192,52 @@ module _ (devices : List DeviceDecl) (imports : List ImportSyntax) (findings : L
       let earlier = definitions_count g before in
       let without = names_count devices imports before [] in
       let with_own = names_count devices imports before (one.name ∷ []) in
-      certified_at one there
-      (record {
+      record {
+        there = there;
         named = kept_in_front first before one after (AllByRecursion IsName) (all_front IsName) named one.recursive;
         apart = kept_in_front first before one after (IsDistinct bytes_eq) distinct_front apart one.recursive;
         each =
             count_by one.recursive (first ++ checked_names before) one.name base (entry_of one.accepted.signature)
             (omega arith) (omega arith);
-        few = few;
-      })
+      }
+
+  certified : (one : CheckedDefinition) → IsPlaced one
+      → nodes (accepted_derived (context_behind devices findings before one) one.accepted) ≤ 100000
+      → IsCertified (names_behind devices imports before one) (context_behind devices findings before one) one.accepted
+  certified one is few =
+      certified_at one is.there (record { named = is.named; apart = is.apart; each = is.each; few = few })
+
+  -- no line has a line feed within
+  lines_whole : (one : CheckedDefinition) → IsPlaced one
+      → AllByRecursion IsOneLine
+      (definition_certificate_lines (names_behind devices imports before one)
+      (context_behind devices findings before one) one.accepted)
+  lines_whole one is =
+      lines_are_one (names_behind devices imports before one) (context_behind devices findings before one)
+      one.accepted.filled (accepted_derived (context_behind devices findings before one) one.accepted)
+      (names_of_one_line (names_behind devices imports before one) is.named)
+      (subst (λ (x : CheckedDefinition). HasLiteralsOfOneLine x.accepted.filled) (sym is.there.is)
+      (literals_of_one_line is.there.accepted.filled
+      (literals_kept (length devices) base (to_be_checked is.there.definition) is.there.accepted is.there.has
+      is.there.of_text.literals)))
 
 pub modules_certified : DefinitionsOfModulesAreCertified
 modules_certified devices imports findings before one names stands few =
-    certified_by devices imports findings before stands.text one stands.after
+    certified devices imports findings before one
+    (placed_by devices imports findings before stands.text one stands.after
     (IsAccepted (before ++ one ∷ stands.after)) names
-    stands.imports_are stands.accepted refl stands.fit (findings_low (declared_context devices) findings
-    (declared_low devices) stands.low) few
+    stands.imports_are stands.accepted refl stands.fit
+    (findings_low (declared_context devices) findings (declared_low devices) stands.low)) few
 
-pub present_certified : DefinitionsOfPresentTextsAreCertified
-present_certified devices texts verdicts imports findings before one names present are stands few =
+-- a definition of a present module stands in a module
+present_in_module : (devices : List DeviceDecl) (texts : Texts) (verdicts : List ℕ → ModuleVerdict)
+    (imports : List ImportSyntax) (findings : List Finding) (before : List CheckedDefinition) (one : CheckedDefinition)
+    → AreNamed devices → ArePresent texts → AreVerdicts devices texts verdicts
+    → StandsInPresentModule devices texts verdicts imports findings before one
+    → StandsInModule devices imports findings before one
+present_in_module devices texts verdicts imports findings before one names present are stands =
     let same : findings_for texts verdicts stands.name stands.text ≡ findings = sym stands.findings_are in
-    modules_certified devices imports findings before one names
-    (record {
+    record {
       text = stands.text;
       imports_are = stands.imports_are;
       after = stands.after;
@@ -217,4 +252,18 @@ present_certified devices texts verdicts imports findings before one names prese
           (present_findings_fit devices texts verdicts names.apart present are stands.name stands.text stands.present);
       low = subst (AllByRecursion IsLowFinding) same (modules.findings_low devices texts verdicts are stands.name
           stands.text);
-    }) few
+    }
+
+pub present_certified : DefinitionsOfPresentTextsAreCertified
+present_certified devices texts verdicts imports findings before one names present are stands few =
+    modules_certified devices imports findings before one names
+    (present_in_module devices texts verdicts imports findings before one names present are stands) few
+
+pub lines_of_definitions_whole : LinesOfDefinitionsHaveNoLineFeed
+lines_of_definitions_whole devices texts verdicts imports findings before one names present are stands =
+    let in_module = present_in_module devices texts verdicts imports findings before one names present are stands in
+    lines_whole devices imports findings before one
+    (placed_by devices imports findings before in_module.text one in_module.after
+    (IsAccepted (before ++ one ∷ in_module.after)) names
+    in_module.imports_are in_module.accepted refl in_module.fit
+    (findings_low (declared_context devices) findings (declared_low devices) in_module.low))

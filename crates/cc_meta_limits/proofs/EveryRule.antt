@@ -35,7 +35,9 @@ use Rattle.cc_meta_modules.specs.ModuleVerdicts.{CheckedDefinition, IsAccepted, 
 use Rattle.cc_meta_modules.specs.Readings.{TextReading, IsTree, imports_in, imports_of, reading_of_text}
 use Rattle.cc_meta_modules.proofs.ReadingLaws.{text_has_one_reading}
 use Rattle.cc_certificate.specs.Certificates.{certificate_text, lines_text}
-use Rattle.cc_meta_limits.specs.ModuleCertificates.{context_behind, names_behind, definition_certificate, IsCertified}
+use Rattle.cc_meta_modules.specs.StandingDefinitions.{context_behind, names_behind}
+use Rattle.cc_certificate.specs.DefinitionCertificates.{definition_certificate}
+use Rattle.cc_meta_limits.specs.ModuleCertificates.{IsCertified}
 use Rattle.cc_meta_limits.specs.RuleExamples.{generic_text, generic_lines, control_text, control_lines, GenericIsWritten, ControlIsWritten}
 use Rattle.cc_meta_limits.proofs.CertifiedModules.{modules_certified}
 use Rattle.cc_meta_limits.proofs.WorkedModule.{globals, accepted_of, console_named, no_imports}

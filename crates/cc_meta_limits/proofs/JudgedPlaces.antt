@@ -22,7 +22,7 @@ use Rattle.cc_meta_modules.specs.ModuleVerdicts.{Finding, FoundDefinition, NoMod
 use Rattle.cc_meta_modules.specs.ReadyDefinitions.{AreReady}
 use Rattle.cc_meta_modules.proofs.JudgedDefinitions.{first_fits, ready_more}
 use Rattle.cc_meta_limits.specs.ModuleLimits.{IsLowFinding}
-use Rattle.cc_meta_limits.specs.ModuleCertificates.{with_definitions}
+use Rattle.cc_meta_modules.specs.StandingDefinitions.{with_definitions}
 use Rattle.cc_meta_limits.specs.TextLimits.{IsOfText}
 use Rattle.cc_meta_limits.proofs.LowComparisons.{LowContext}
 use Rattle.cc_meta_limits.proofs.LowDefinitions.{signatures_low}

@@ -5,6 +5,7 @@ pub mod EveryRule
 pub mod JobDevices
 pub mod JudgedPlaces
 pub mod KeptHeights
+pub mod LineFeeds
 pub mod LowComparisons
 pub mod LowDefinitions
 pub mod LowModules

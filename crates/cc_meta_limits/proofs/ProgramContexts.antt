@@ -5,7 +5,8 @@ use Rattle.cc_core.specs.Contexts.{Context, entry_of}
 use Rattle.cc_core.specs.Programs.{Definition, definition_context}
 use Rattle.cc_meta_modules.specs.ModuleLaws.{in_program}
 use Rattle.cc_meta_modules.specs.ModuleVerdicts.{CheckedDefinition, declared_context, with_findings}
-use Rattle.cc_meta_limits.specs.ModuleCertificates.{with_definitions, ContextsAreThoseOfPrograms}
+use Rattle.cc_meta_modules.specs.StandingDefinitions.{with_definitions}
+use Rattle.cc_meta_limits.specs.ModuleCertificates.{ContextsAreThoseOfPrograms}
 
 map_append : {A B : Type 0} (f : A → B) (xs ys : List A) → map f (xs ++ ys) ≡ map f xs ++ map f ys
 map_append f [] ys = refl

@@ -21,32 +21,15 @@ use Rattle.cc_meta_modules.specs.ModuleVerdicts.{Finding, CheckedDefinition, Mod
 use Rattle.cc_meta_modules.specs.ModuleVerdicts.{HasModuleVerdict, declared_context, with_findings}
 use Rattle.cc_meta_modules.specs.ModuleLaws.{NamesOfDevicesDiffer, AreFit, in_program}
 use Rattle.cc_meta_modules.specs.PresentTexts.{Texts, ArePresent, text_of, findings_for, AreVerdicts}
-use Rattle.cc_certificate.specs.Certificates.{certificate_text}
+use Rattle.cc_meta_modules.specs.StandingDefinitions.{StandsInPresentModule, with_definitions, context_behind}
+use Rattle.cc_meta_modules.specs.StandingDefinitions.{names_behind}
+use Rattle.cc_certificate.specs.DefinitionCertificates.{definition_certificate, definition_certificate_lines}
+use Rattle.cc_certificate.specs.Laws.{IsOneLine}
 use Rattle.cc_certificate_text.specs.Certificates.{Line, CertificateNode, IsCertificate}
 use Rattle.cc_certificate_judging.specs.Judging.{NodeTree, listed, read_tree, Judgement, IsValidAt, IsJudged}
 use Rattle.cc_meta_certificates.specs.CertificateLines.{lines_of}
 use Rattle.cc_meta_limits.specs.ModuleLimits.{IsLowFinding}
 use Rattle.cc_meta_judging.specs.JudgedCertificates.{CertificateBind, parts_lines, bound_context}
-
--- the context with the signatures of definitions, in order
-abbrev pub with_definitions : Context → List CheckedDefinition → Context
-with_definitions context [] = context
-with_definitions context (first ∷ rest) = with_definitions (entry_of first.accepted.signature ∷ context) rest
-
--- The context of a definition's right side: the devices, what is found for the imports, the definitions before it, and
--- itself where it is recursive.
-abbrev pub context_behind : List DeviceDecl → List Finding → List CheckedDefinition → CheckedDefinition → Context
-context_behind devices findings before one =
-    if one.recursive
-    then entry_of one.accepted.signature ∷ with_definitions (with_findings (declared_context devices) findings) before
-    else with_definitions (with_findings (declared_context devices) findings) before
-
--- the names of its positions, in order
-abbrev pub names_behind : List DeviceDecl → List ImportSyntax → List CheckedDefinition → CheckedDefinition
-    → List (List ℕ)
-names_behind devices imports before one =
-    device_names devices ++ import_names imports ++ map (λ definition. definition.name) before
-    ++ (if one.recursive then one.name ∷ [] else [])
 
 -- The context is the one that the definition of a checked program is typed in.
 abbrev pub ContextsAreThoseOfPrograms : Type 0
@@ -57,12 +40,7 @@ ContextsAreThoseOfPrograms =
     (definition_context (with_findings (declared_context devices) findings) (reverse (map in_program before)))
     (in_program one)
 
--- the text of the certificate that is written for the accepted definition
-abbrev pub definition_certificate : List (List ℕ) → Context → Accepted → List ℕ
-definition_certificate names context accepted =
-    certificate_text names context accepted.filled (accepted_derived context accepted)
-
--- and its lines
+-- the lines of the certificate that is written for the accepted definition
 abbrev pub definition_lines : List (List ℕ) → Context → Accepted → List Line
 definition_lines names context accepted = lines_of names context accepted.filled (accepted_derived context accepted)
 
@@ -117,19 +95,6 @@ DefinitionsOfModulesAreCertified =
     → nodes (accepted_derived (context_behind devices findings before one) one.accepted) ≤ 100000
     → IsCertified (names_behind devices imports before one) (context_behind devices findings before one) one.accepted
 
--- The definition stands behind these in an accepted present module, where modules have these verdicts.
-pub record StandsInPresentModule (devices : List DeviceDecl) (texts : Texts) (verdicts : List ℕ → ModuleVerdict)
-    (imports : List ImportSyntax) (findings : List Finding) (before : List CheckedDefinition)
-    (one : CheckedDefinition) :
-    Type 0 where
-  pub name : List ℕ
-  pub text : List ℕ
-  pub present : text_of texts name ≡ Some text
-  pub imports_are : imports_of text ≡ Some imports
-  pub findings_are : findings ≡ findings_for texts verdicts name text
-  pub after : List CheckedDefinition
-  pub accepted : verdicts name ≡ IsAccepted (before ++ one ∷ after)
-
 -- So has each definition of an accepted present module.
 abbrev pub DefinitionsOfPresentTextsAreCertified : Type 0
 DefinitionsOfPresentTextsAreCertified =
@@ -139,3 +104,15 @@ DefinitionsOfPresentTextsAreCertified =
     → StandsInPresentModule devices texts verdicts imports findings before one
     → nodes (accepted_derived (context_behind devices findings before one) one.accepted) ≤ 100000
     → IsCertified (names_behind devices imports before one) (context_behind devices findings before one) one.accepted
+
+-- No line of what is written for a definition of an accepted present module has a line feed within, however many nodes
+-- its canonical derivation has.
+abbrev pub LinesOfDefinitionsHaveNoLineFeed : Type 0
+LinesOfDefinitionsHaveNoLineFeed =
+    (devices : List DeviceDecl) (texts : Texts) (verdicts : List ℕ → ModuleVerdict) (imports : List ImportSyntax)
+    (findings : List Finding) (before : List CheckedDefinition) (one : CheckedDefinition) → AreNamed devices
+    → ArePresent texts → AreVerdicts devices texts verdicts
+    → StandsInPresentModule devices texts verdicts imports findings before one
+    → AllByRecursion IsOneLine
+    (definition_certificate_lines (names_behind devices imports before one)
+    (context_behind devices findings before one) one.accepted)

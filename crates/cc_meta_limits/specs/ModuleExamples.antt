@@ -10,7 +10,8 @@ use Rattle.cc_sets.specs.ExampleChecks.{place}
 use Rattle.cc_sets.specs.Verdicts.{Accepted}
 use Rattle.cc_meta_modules.specs.ExampleModules.{console, named}
 use Rattle.cc_meta_modules.specs.ModuleVerdicts.{FoundDefinition, CheckedDefinition, IsAccepted, HasModuleVerdict}
-use Rattle.cc_meta_limits.specs.ModuleCertificates.{context_behind, names_behind, IsCertified}
+use Rattle.cc_meta_modules.specs.StandingDefinitions.{context_behind, names_behind}
+use Rattle.cc_meta_limits.specs.ModuleCertificates.{IsCertified}
 
 -- import m.d
 abbrev import_of_d : ImportSyntax

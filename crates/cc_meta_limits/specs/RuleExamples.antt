@@ -4,7 +4,9 @@ use Rattle.cc_sets.specs.Verdicts.{Accepted}
 use Rattle.cc_meta_modules.specs.ExampleModules.{console, named}
 use Rattle.cc_meta_modules.specs.ModuleVerdicts.{IsAccepted, HasModuleVerdict}
 use Rattle.cc_certificate.specs.Certificates.{lines_text}
-use Rattle.cc_meta_limits.specs.ModuleCertificates.{context_behind, names_behind, definition_certificate, IsCertified}
+use Rattle.cc_meta_modules.specs.StandingDefinitions.{context_behind, names_behind}
+use Rattle.cc_certificate.specs.DefinitionCertificates.{definition_certificate}
+use Rattle.cc_meta_limits.specs.ModuleCertificates.{IsCertified}
 
 -- The text has one definition, of the name, which is accepted beside a console `out`. Its certificate has these lines,
 -- and is right.

@@ -35,6 +35,7 @@ pub fn modules_have_certificates()
     ensures present { certificate_law.DefinitionsOfPresentTextsAreCertified }
     ensures contexts { certificate_law.ContextsAreThoseOfPrograms }
     ensures devices { certificate_law.DevicesOfJobsAreNamed }
+    ensures one_line { certificate_law.LinesOfDefinitionsHaveNoLineFeed }
 {}
 
 /// A text whose definition has a right certificate.

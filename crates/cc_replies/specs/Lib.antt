@@ -1,3 +1,4 @@
+pub mod DerivationTexts
 pub mod Examples
 pub mod Laws
 pub mod Outputs

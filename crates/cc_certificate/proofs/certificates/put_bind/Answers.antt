@@ -7,5 +7,5 @@ use Rattle.cc_certificate.proofs.certificates.put_bind.Goals as goal
 pub returns-in-Unread : goal.returns-in-Unread
 returns-in-Unread c =
     subst
-    (λ bind. OnOk c.put_unread_line.result (string_bytes c.put_unread_line.new.out ≡ string_bytes c.args.out.now ++ line (bind_line c.args.names.now.names.items c.args.position (bind_of bind))))
+    (λ bind. OnOk c.put_unread_line.result (string_bytes c.put_unread_line.new.out ≡ string_bytes c.args.out.now ++ line (c.args.front.now ++ bind_line c.args.names.now.names.items c.args.position (bind_of bind))))
     (sym c.in-Unread.is) c.put_unread_line.ensures

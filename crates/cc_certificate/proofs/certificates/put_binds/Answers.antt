@@ -7,11 +7,11 @@ use Rattle.cc_certificate.proofs.certificates.put_binds.Goals as goal
 pub loop-position-preserved : goal.loop-position-preserved
 loop-position-preserved c =
     let size : length (context_of c.args.ctx.now) ≡ length c.args.ctx.now = length_map bind_of c.args.ctx.now in
-    more_binds c.args.names.now.names.items (context_of c.args.ctx.now) c.loop-position.position _ _ _ (omega arith)
+    more_binds c.args.front.now c.args.names.now.names.items (context_of c.args.ctx.now) c.loop-position.position _ _ _ (omega arith)
     c.loop-position.invariant c.in_ok-put_bind_at.ensures
 
 pub returns : goal.returns
 returns c =
     let size : length (context_of c.args.ctx.now) ≡ length c.args.ctx.now = length_map bind_of c.args.ctx.now in
-    all_binds c.args.names.now.names.items (context_of c.args.ctx.now) c.loop-position.position _ _ (omega arith)
+    all_binds c.args.front.now c.args.names.now.names.items (context_of c.args.ctx.now) c.loop-position.position _ _ (omega arith)
     c.loop-position.invariant

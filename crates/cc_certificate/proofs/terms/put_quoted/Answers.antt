@@ -2,7 +2,7 @@ use Rattle.std.proofs.Common.{◌≡◌, ℕ, List, [], ◌∷◌, ◌++◌, app
 use Rattle.std.specs.Str.{IsUtf8, chars}
 use Rattle.std.proofs.lemmas.Result.{on_ok_weaker}
 use Rattle.std.proofs.lemmas.Str.{encodes-chars}
-use Rattle.cc_certificate.specs.TermTexts.{quoted}
+use Rattle.cc_print.specs.TermTexts.{quoted}
 use Rattle.cc_certificate.proofs.terms.put_quoted.Goals as goal
 
 in_quotes : (text old front both new : List ℕ) → IsUtf8 text → front ≡ old ++ 34 ∷ [] → both ≡ front ++ text

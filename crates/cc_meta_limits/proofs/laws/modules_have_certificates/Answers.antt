@@ -1,4 +1,4 @@
-use Rattle.cc_meta_limits.proofs.CertifiedModules.{modules_certified, present_certified}
+use Rattle.cc_meta_limits.proofs.CertifiedModules.{modules_certified, present_certified, lines_of_definitions_whole}
 use Rattle.cc_meta_limits.proofs.JobDevices.{job_devices_named}
 use Rattle.cc_meta_limits.proofs.ProgramContexts.{contexts_of_programs}
 use Rattle.cc_meta_limits.proofs.laws.modules_have_certificates.Goals as goal
@@ -9,4 +9,5 @@ returns c = record {
   present = present_certified;
   contexts = contexts_of_programs;
   devices = job_devices_named;
+  one_line = lines_of_definitions_whole;
 }
