@@ -6,7 +6,7 @@ mod claims;
 pub mod laws;
 mod nodes;
 pub mod terms;
-mod writing;
+pub mod writing;
 
 pub use certificates::{cert_text, put_cert};
 pub use terms::term_text;

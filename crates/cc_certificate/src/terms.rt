@@ -18,16 +18,16 @@ use cc_core::{Form, Lit, Node, Note, Op, Operator, Shape, Ty};
 use cc_print::Names;
 use std::alloc::{AllocError, Global};
 
-// Adds the text of a number.
-fn put_integer(alloc: Global, out: &mut String, number: i64) -> Result<(), AllocError>
+/// Adds the text of a number.
+pub fn put_integer(alloc: Global, out: &mut String, number: i64) -> Result<(), AllocError>
     ensures { OnOk result (string_bytes out.new ≡ string_bytes out.old ++ signed_decimal number) }
 {
     let text = format!(in alloc; "{number}")?;
     put(out, text.as_str())
 }
 
-// Adds a text in quotes.
-fn put_quoted(out: &mut String, text: &str) -> Result<(), AllocError>
+/// Adds a text in quotes.
+pub fn put_quoted(out: &mut String, text: &str) -> Result<(), AllocError>
     ensures { OnOk result (string_bytes out.new ≡ string_bytes out.old ++ plain.quoted (chars text.now)) }
 {
     put(out, "\"")?;
@@ -35,8 +35,8 @@ fn put_quoted(out: &mut String, text: &str) -> Result<(), AllocError>
     put(out, "\"")
 }
 
-// Adds the text of a literal.
-fn put_literal(alloc: Global, out: &mut String, literal: &Lit) -> Result<(), AllocError>
+/// Adds the text of a literal.
+pub fn put_literal(alloc: Global, out: &mut String, literal: &Lit) -> Result<(), AllocError>
     ensures { OnOk result (string_bytes out.new ≡ string_bytes out.old ++ plain.literal_text (literal_of literal.now)) }
 {
     match literal {

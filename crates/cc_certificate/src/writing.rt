@@ -13,14 +13,14 @@ use cc_print::{Names, set_text, shape_text, type_text};
 use std::alloc::{AllocError, Global};
 
 /// Adds a text.
-pub(crate) fn put(out: &mut String, text: &str) -> Result<(), AllocError>
+pub fn put(out: &mut String, text: &str) -> Result<(), AllocError>
     ensures { OnOk result (string_bytes out.new ≡ string_bytes out.old ++ text.now) }
 {
     out.push_str(text)
 }
 
 /// Adds a text and a number.
-pub(crate) fn put_numbered(
+pub fn put_numbered(
     alloc: Global,
     out: &mut String,
     prefix: &str,
@@ -33,7 +33,7 @@ pub(crate) fn put_numbered(
 }
 
 /// Adds the text of a free position.
-pub(crate) fn put_position(
+pub fn put_position(
     alloc: Global,
     out: &mut String,
     names: &Names,
@@ -51,7 +51,7 @@ pub(crate) fn put_position(
 }
 
 /// Adds the text of a variable of terms.
-pub(crate) fn put_variable(
+pub fn put_variable(
     alloc: Global,
     out: &mut String,
     names: &Names,
@@ -71,7 +71,7 @@ pub(crate) fn put_variable(
 }
 
 /// Adds the text of a set.
-pub(crate) fn put_set(
+pub fn put_set(
     alloc: Global,
     out: &mut String,
     names: &Names,
@@ -84,7 +84,7 @@ pub(crate) fn put_set(
 }
 
 /// Adds the text of a shape.
-pub(crate) fn put_shape(
+pub fn put_shape(
     alloc: Global,
     out: &mut String,
     names: &Names,
@@ -97,7 +97,7 @@ pub(crate) fn put_shape(
 }
 
 /// Adds the text of a type.
-pub(crate) fn put_type(
+pub fn put_type(
     alloc: Global,
     out: &mut String,
     names: &Names,
@@ -110,7 +110,7 @@ pub(crate) fn put_type(
 }
 
 /// One binder more. Fails where there are 2^32 - 1, which counts as want of memory.
-pub(crate) fn deeper(depth: u32) -> Result<u32, AllocError>
+pub fn deeper(depth: u32) -> Result<u32, AllocError>
     ensures { IfOk result (λ n. n ≡ depth + 1) }
 {
     match depth.checked_add(1) {
@@ -120,7 +120,7 @@ pub(crate) fn deeper(depth: u32) -> Result<u32, AllocError>
 }
 
 /// The same names.
-pub(crate) fn same_names(alloc: Global, names: &[Name]) -> Result<Vec<Name>, AllocError>
+pub fn same_names(alloc: Global, names: &[Name]) -> Result<Vec<Name>, AllocError>
     ensures { IfOk result (λ copy. copy.items ≡ names.now) }
 {
     let mut copy = Vec::with_capacity(alloc, names.len())?;

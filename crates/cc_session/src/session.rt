@@ -128,6 +128,13 @@ impl Session {
         }
     }
 
+    /// The devices, in order. It takes no memory.
+    pub fn devices(&self) -> &[DeviceDecl]
+        ensures { result.now ≡ self.now.devices }
+    {
+        self.devices.as_slice()
+    }
+
     /// The present text of the module. It takes no memory.
     ///
     /// Refused exactly where the module is not present.
