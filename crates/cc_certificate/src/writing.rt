@@ -97,12 +97,7 @@ pub fn put_shape(
 }
 
 /// Adds the text of a type.
-pub fn put_type(
-    alloc: Global,
-    out: &mut String,
-    names: &Names,
-    ty: &Ty,
-) -> Result<(), AllocError>
+pub fn put_type(alloc: Global, out: &mut String, names: &Names, ty: &Ty) -> Result<(), AllocError>
     ensures { OnOk result (string_bytes out.new ≡ string_bytes out.old ++ types.type_under names.now.names.items names.now.locals (views.shape_of ty.now.shape.value) ty.now.set) }
 {
     let text = type_text(alloc, ty, names)?;
