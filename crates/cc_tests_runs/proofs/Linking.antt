@@ -300,3 +300,10 @@ loaded_ready held ready start devices calls more is same fits some adds few =
     let loaded = loaded_fits held start devices is fits in
     let still : length ready.store ≡ length held.store = ap (λ h. length h.store) same in
     (omega (arith, loaded.0, adds, few, some), omega (arith, loaded.0, still, adds, few, some), subst (λ h. HasShapesOfCells h.store devices) (sym same) loaded.1)
+
+-- positions for so many steps of what is loaded
+pub loaded_few : (held start : Configuration) (steps more : ℕ) → held ≡ erased_configuration start → 0 < length start.store
+    → more ≡ min (steps + 1) 4294967295 → length start.store + more < 4294967296 → length held.store + steps < 4294967295
+loaded_few held start steps more is some adds few =
+    let same : length held.store ≡ length start.store = ap (λ h. length h.store) is ∙ length_map erased_cell start.store in
+    omega (arith, same, adds, few, some)
