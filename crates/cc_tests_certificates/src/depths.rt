@@ -19,11 +19,7 @@ fn node(alloc: Global, rule: Rule, premises: Premises) -> Result<Rc<Der>, AllocE
     Ok(Rc::new(alloc, der)?)
 }
 
-fn before(
-    alloc: Global,
-    first: Rc<Der>,
-    rest: Premises,
-) -> Result<Premises, AllocError> {
+fn before(alloc: Global, first: Rc<Der>, rest: Premises) -> Result<Premises, AllocError> {
     let rest = Rc::new(alloc, rest)?;
     Ok(Premises::More(first, rest))
 }
@@ -98,6 +94,9 @@ fn nodes_behind_leaves(rt: HostRuntime) -> Result<(), Fail> {
 fn nodes_before_leaves(rt: HostRuntime) -> Result<(), Fail> {
     let der = before_leaves(rt.alloc(), 49_999)?;
     let text = written(rt.alloc(), &der)?;
-    assert!(rt; text.as_str().ends_with("\n99999 t-sub [99997 99998] {} <: {}\n"));
+    assert!(rt;
+        text.as_str()
+            .ends_with("\n99999 t-sub [99997 99998] {} <: {}\n")
+    );
     Ok(())
 }
