@@ -64,12 +64,6 @@ bad() {
     expect "$2" 2 '' "capc: bad job at line $1\n"
 }
 
-# not_built LINE NAME: the job on standard input has a command on this line that the program does not carry out
-not_built() {
-    run
-    expect "$2" 8 '' "capc: not built at line $1\n"
-}
-
 # module LINE ..: a put of a module m with these lines, beside a console and a counter
 module() {
     printf 'capc 1\ndevice out console\ndevice hits counter\nput m %d\n' $#
@@ -251,11 +245,6 @@ for program; do
     sed 's/put greeter 4/put greeter 6/' "$jobs/accepted.job" | bad 9 'a number of lines that is too large'
     sed 's/device out/device  out/' "$jobs/accepted.job" | bad 2 'two spaces'
     sed 's/console$/console /' "$jobs/accepted.job" | bad 2 'a space at the end of a line'
-
-    # Commands that the program does not carry out.
-    { cat "$jobs/accepted.job"; printf '\nderive greeter.choose\nrun greeter.choose 9\n'; } | not_built 10 'a derivation'
-    printf 'capc 1\ntasks 100 0,1 m.one m.two\n' | not_built 2 'tasks'
-    printf 'capc 1\nrun m.f 9\nrun m.f\n' | bad 3 'no job with such a command'
 
     # Words.
     run --frob < "$jobs/accepted.job"

@@ -1,6 +1,6 @@
 -- What each command does to a session, and what is written for it.
-use Rattle.std.proofs.Common.{◌≡◌, ℕ, ◌+◌, ◌≤◌, Bool, List, Option, Result, Ok, Err, refl, sym, ◌∙◌, subst, if◌then◌else◌, arith}
-use Rattle.std.specs.Prelude.{IfOk}
+use Rattle.std.proofs.Common.{◌≡◌, ℕ, ◌+◌, ◌≤◌, Bool, List, Option, Some, None, Result, Ok, Err, refl, sym, ◌∙◌, subst, if◌then◌else◌, arith}
+use Rattle.std.specs.Prelude.{IfOk, IfSome}
 use Rattle.std.specs.BTreeMap.{insert_entry}
 use Rattle.std.specs.Map.{remove_entry}
 use Rattle.std.specs.Str.{bytes_eq}
@@ -16,7 +16,8 @@ use Rattle.cc_meta_modules.specs.ModuleVerdicts.{ModuleVerdict}
 use Rattle.cc_meta_modules.specs.PresentTexts.{Texts, ArePresent, AreVerdicts}
 use Rattle.cc_mnf.specs.CoreModules.{device_names}
 use Rattle.cc_replies.proofs.ReplyLaws.{replies_exist}
-use Rattle.cc_replies.specs.Replies.{Request, Replies, PutText, DropModule, CheckModules, ShowSignature, put_reply, after}
+use Rattle.cc_replies.specs.Replies.{Replies, put_reply, texts_after}
+use Rattle.cc_replies.specs.Requests.{Question, Request, PutText, DropModule, Ask, JobState, holding}
 use Rattle.cc_replies.specs.ReplyTexts.{Reply, reply_text, is_refusal}
 use Rattle.cc_replies.specs.StaleModules.{Checks}
 use Rattle.cc_session.specs.Sessions.{SessionState, IsUpToDate}
@@ -29,18 +30,27 @@ pub if_ok : {P : Type 0} (result : Result Bool WriteAll) → P → IfOk result (
 if_ok (Ok it) p = p
 if_ok (Err error) p = tt
 
+-- what holds of a question holds where there is one
+pub if_some : {A : Type 0} {P Q : A → Type 0} (option : Option A) → ((it : A) → P it → Q it) → IfSome option P → IfSome option Q
+if_some (Some it) f p = f it p
+if_some None f p = tt
+
+pub if_any : {A : Type 0} {P : A → Type 0} (option : Option A) → ((it : A) → P it) → IfSome option P
+if_any (Some it) f = f it
+if_any None f = tt
+
 -- this reply was written
-pub replied : (devices : List DeviceDecl) (texts : Texts) (request : Request) (reply : Reply) → Replies devices texts request reply
+pub replied : (devices : List DeviceDecl) (state : JobState) (request : Request) (reply : Reply) → Replies devices state request reply
     → (old new : Option (List ℕ)) (result : Result Bool WriteAll) → WritesWhole old new result (reply_text (device_names devices) reply)
-    → IfOk result (λ refused. refused ≡ is_refusal reply) → IsReplied devices texts request old new result
-replied devices texts request reply is old new result written refused =
+    → IfOk result (λ refused. refused ≡ is_refusal reply) → IsReplied devices state request old new result
+replied devices state request reply is old new result written refused =
     record { reply = reply; replies = is; written = written; refused = refused }
 
 -- memory lacked before anything was written
-pub replied_nothing : (devices : List DeviceDecl) (texts : Texts) (request : Request) → NamesOfDevicesDiffer devices → ArePresent texts
-    → (sink : Option (List ℕ)) → IsReplied devices texts request sink sink (Err errors.NoMemory)
-replied_nothing devices texts request differ sorted sink =
-    let (reply, is) = replies_exist present_verdicts_exist devices texts request differ sorted in
+pub replied_nothing : (devices : List DeviceDecl) (state : JobState) (request : Request) → NamesOfDevicesDiffer devices → ArePresent state.texts
+    → (sink : Option (List ℕ)) → IsReplied devices state request sink sink (Err errors.NoMemory)
+replied_nothing devices state request differ sorted sink =
+    let (reply, is) = replies_exist devices state request differ sorted in
     record { reply = reply; replies = is; written = WritesWhole-none Bool sink (reply_text (device_names devices) reply); refused = tt }
 
 module _ (old new : SessionState) (devices : new.devices ≡ old.devices) where
@@ -55,18 +65,15 @@ module _ (old new : SessionState) (devices : new.devices ≡ old.devices) where
       → Changes old new (DropModule name) result
   drop_changes name present result = record { devices = devices; present = if_ok result present }
 
-  pub check_changes : new.present ≡ old.present → (result : Result Bool WriteAll) → Changes old new CheckModules result
-  check_changes present result = record { devices = devices; present = if_ok result present }
-
-  pub signature_changes : (name : List ℕ) → new.present ≡ old.present → (result : Result Bool WriteAll) → Changes old new (ShowSignature name) result
-  signature_changes name present result = record { devices = devices; present = if_ok result present }
+  pub ask_changes : (question : Question) → new.present ≡ old.present → (result : Result Bool WriteAll) → Changes old new (Ask question) result
+  ask_changes question present result = record { devices = devices; present = if_ok result present }
 
   -- what was replied on the texts after a check is replied on those before it
   pub replied_before : (request : Request) (before behind : Option (List ℕ)) (result : Result Bool WriteAll) → new.present ≡ old.present
-      → IsReplied new.devices new.present request before behind result → IsReplied old.devices old.present request before behind result
+      → IsReplied new.devices (holding new.present) request before behind result → IsReplied old.devices (holding old.present) request before behind result
   replied_before request before behind result present is =
-      subst (λ ts. IsReplied old.devices ts request before behind result) present
-      (subst (λ ds. IsReplied ds new.present request before behind result) devices is)
+      subst (λ ts. IsReplied old.devices (holding ts) request before behind result) present
+      (subst (λ ds. IsReplied ds (holding new.present) request before behind result) devices is)
 
 -- a put and a drop judge nothing
 pub put_judges : (old new : SessionState) (name text : List ℕ) (steps : ℕ) (result : Result Bool WriteAll) → new.last ≡ old.last
@@ -117,29 +124,15 @@ checked_in_part old new before behind error differ sorted counts =
       last = tt;
     }
 
-module _ (old new : SessionState) (before behind : ℕ) where
-  check_of : (result : Result Bool WriteAll) → Checked old new before behind result → Judges old new CheckModules before behind result
-  check_of result it = record { count = it.count; next = it.next; stale = it.checks; few = it.few; last = it.last }
-
-  signature_of : (name : List ℕ) (result : Result Bool WriteAll) → Checked old new before behind result
-      → Judges old new (ShowSignature name) before behind result
-  signature_of name result it = record { count = it.count; next = it.next; stale = it.checks; few = it.few; last = it.last }
+module _ (old new : SessionState) (before behind : ℕ) (question : Question) where
+  judges_of : (result : Result Bool WriteAll) → Checked old new before behind result → Judges old new (Ask question) before behind result
+  judges_of result it = record { count = it.count; next = it.next; stale = it.checks; few = it.few; last = it.last }
 
   -- a check that answered, and one that found no memory
-  pub check_judges : (result : Result Bool WriteAll) → new.devices ≡ old.devices → new.present ≡ old.present → IsUpToDate new
-      → CountsStale old before behind → Judges old new CheckModules before behind result
-  check_judges result devices present current counts = check_of result (checked old new before behind result devices present current counts)
+  pub ask_judges : (result : Result Bool WriteAll) → new.devices ≡ old.devices → new.present ≡ old.present → IsUpToDate new
+      → CountsStale old before behind → Judges old new (Ask question) before behind result
+  ask_judges result devices present current counts = judges_of result (checked old new before behind result devices present current counts)
 
-  pub check_judges_in_part : (error : WriteAll) → NamesOfDevicesDiffer old.devices → ArePresent old.present → CountsStale old before behind
-      → Judges old new CheckModules before behind (Err error)
-  check_judges_in_part error differ sorted counts = check_of (Err error) (checked_in_part old new before behind error differ sorted counts)
-
-  pub signature_judges : (name : List ℕ) (result : Result Bool WriteAll) → new.devices ≡ old.devices → new.present ≡ old.present → IsUpToDate new
-      → CountsStale old before behind → Judges old new (ShowSignature name) before behind result
-  signature_judges name result devices present current counts =
-      signature_of name result (checked old new before behind result devices present current counts)
-
-  pub signature_judges_in_part : (name : List ℕ) (error : WriteAll) → NamesOfDevicesDiffer old.devices → ArePresent old.present
-      → CountsStale old before behind → Judges old new (ShowSignature name) before behind (Err error)
-  signature_judges_in_part name error differ sorted counts =
-      signature_of name (Err error) (checked_in_part old new before behind error differ sorted counts)
+  pub ask_judges_in_part : (error : WriteAll) → NamesOfDevicesDiffer old.devices → ArePresent old.present → CountsStale old before behind
+      → Judges old new (Ask question) before behind (Err error)
+  ask_judges_in_part error differ sorted counts = judges_of (Err error) (checked_in_part old new before behind error differ sorted counts)

@@ -5,16 +5,14 @@ use Rattle.std.proofs.lemmas.List.{append-nil, length-append}
 use Rattle.cc_io.specs.Wholes.{AppendsFront}
 use Rattle.cc_job.specs.declared.job.Job.{Job}
 use Rattle.cc_job.specs.Jobs.{IsJob, IsBadAt}
-use Rattle.cc_job.specs.Unbuilt.{IsBuilt, IsUnbuiltAt}
 use Rattle.cc_job.proofs.JobLaws.{one_job}
-use Rattle.cc_job.proofs.UnbuiltLaws.{built_jobs_have_no_unbuilt_line, jobs_have_one_unbuilt_line}
-use Rattle.cc_meta_modules.proofs.PresentLaws.{present_verdicts_exist}
 use Rattle.cc_replies.proofs.OutputLaws.{outputs_exist}
+use Rattle.cc_replies.specs.Requests.{no_module}
 use Rattle.capc.specs.declared.status.Status.{Status}
 use Rattle.capc.specs.declared.status.Status.TheVariants as statuses
 use Rattle.capc.specs.Requests.{requests_of}
-use Rattle.capc.specs.Outcome.{job_limit, Ends, TakesMany, ReadsWhole, ReadsJob, JudgesStale, IsCarriedOut, IsCutOff, ReadsNoJob, ReadsUnbuilt}
-use Rattle.capc.specs.Exactness.{IsFaultless, WritesFront, AJobIsAnswered, WhatIsNotBuiltIsRefused, WhatIsNoJobIsRefused, WhatIsTooLongIsRefused, AFaultIsTold, OnlyTheOutputIsWritten, OnlyStaleModulesAreJudged}
+use Rattle.capc.specs.Outcome.{job_limit, Ends, TakesMany, ReadsWhole, ReadsJob, JudgesStale, IsCarriedOut, IsCutOff, ReadsNoJob}
+use Rattle.capc.specs.Exactness.{IsFaultless, WritesFront, AJobIsAnswered, WhatIsNoJobIsRefused, WhatIsTooLongIsRefused, AFaultIsTold, OnlyTheOutputIsWritten, OnlyStaleModulesAreJudged}
 use Rattle.capc.proofs.Answering.{none_present}
 use Rattle.capc.proofs.OutputFronts.{AppendsFront-none, AppendsFront-whole}
 
@@ -54,7 +52,7 @@ short_read before after bytes read f w = subst (λ bs. length bs ≤ job_limit) 
 -- nothing is a front of the output of a job
 no_front : (before after : Ends) (bytes : List ℕ) (job : Job) → IsJob bytes job → Keeps before.written after.written → WritesFront before after job
 no_front before after bytes job is kept =
-    let (text, refused, output) = outputs_exist present_verdicts_exist job.devices [] (requests_of job) is.names none_present in
+    let (text, refused, output) = outputs_exist job.devices no_module (requests_of job) is.names none_present in
     record { text = text; refused = refused; output = output; written = AppendsFront-none before.written after.written text kept }
 
 cut_front : (before after : Ends) (job : Job) → IsCutOff before after job → WritesFront before after job
@@ -88,66 +86,33 @@ not_bad : (before after : Ends) (bytes : List ℕ) (job : Job) (number : ℕ) {P
 not_bad before after bytes job number f is o =
     absurd (o.no_job.none job (subst (λ bs. IsJob bs job) (sym (read_bytes before after bytes o.bytes f o.whole)) is))
 
--- the line of a command that is not carried out, in the bytes that the source told
-told_unbuilt : (before after : Ends) (bytes : List ℕ) (job : Job) (number : ℕ) → IsFaultless before after bytes → IsJob bytes job
-    → (o : ReadsUnbuilt before after number) → IsUnbuiltAt bytes job number
-told_unbuilt before after bytes job number f is o =
-    subst (λ j. IsUnbuiltAt bytes j number) (read_job before after bytes job o.job f is o.read)
-    (subst (λ bs. IsUnbuiltAt bs o.job number) (read_bytes before after bytes o.read.bytes f o.read.whole) o.unbuilt)
-
 pub job_is_answered : AJobIsAnswered
-job_is_answered before after statuses.Clean bytes job f short is built o =
+job_is_answered before after statuses.Clean bytes job f short is o =
     let same = read_job before after bytes job o.0 f is o.1.read in
     inl (false, subst (λ j. IsCarriedOut before after j false) same o.1, refl)
-job_is_answered before after statuses.Refusals bytes job f short is built o =
+job_is_answered before after statuses.Refusals bytes job f short is o =
     let same = read_job before after bytes job o.0 f is o.1.read in
     inl (true, subst (λ j. IsCarriedOut before after j true) same o.1, refl)
-job_is_answered before after (statuses.BadJob number) bytes job f short is built o = not_bad before after bytes job number f is o
-job_is_answered before after (statuses.NotBuilt number) bytes job f short is built o =
-    absurd (built_jobs_have_no_unbuilt_line bytes job number built (told_unbuilt before after bytes job number f is o))
-job_is_answered before after statuses.ReadFault bytes job f short is built o =
+job_is_answered before after (statuses.BadJob number) bytes job f short is o = not_bad before after bytes job number f is o
+job_is_answered before after statuses.ReadFault bytes job f short is o =
     not_risen before.read_faults after.read_faults f.no_read_fault o.fault
-job_is_answered before after statuses.WriteFault bytes job f short is built o =
+job_is_answered before after statuses.WriteFault bytes job f short is o =
     not_risen before.write_faults after.write_faults f.no_write_fault o.1.fault
-job_is_answered before after statuses.NoMemory bytes job f short is built o =
+job_is_answered before after statuses.NoMemory bytes job f short is o =
     inr (
       refl,
       ⊎_elim
           (λ early. no_front before after bytes job is early.silent.kept)
           (λ late. subst (WritesFront before after) (read_job before after bytes job late.0 f is late.1.cut.read) (cut_front before after late.0 late.1.cut)) o,
     )
-job_is_answered before after statuses.BadWords bytes job f short is built o = absurd o
-job_is_answered before after statuses.TooLong bytes job f short is built o = not_too_many before after bytes f short o.0
-
--- a job with a command that is not carried out was not carried out
-not_built : (before after : Ends) (bytes : List ℕ) (job other : Job) (number : ℕ) {P : Type 0} → IsFaultless before after bytes → IsJob bytes job
-    → IsUnbuiltAt bytes job number → ReadsJob before after other → IsBuilt other → P
-not_built before after bytes job other number f is at read built =
-    absurd (built_jobs_have_no_unbuilt_line bytes job number (subst IsBuilt (read_job before after bytes job other f is read) built) at)
-
-pub not_built_is_refused : WhatIsNotBuiltIsRefused
-not_built_is_refused before after statuses.Clean bytes job number f short is at o =
-    not_built before after bytes job o.0 number f is at o.1.read o.1.built
-not_built_is_refused before after statuses.Refusals bytes job number f short is at o =
-    not_built before after bytes job o.0 number f is at o.1.read o.1.built
-not_built_is_refused before after (statuses.BadJob line) bytes job number f short is at o = not_bad before after bytes job line f is o
-not_built_is_refused before after (statuses.NotBuilt line) bytes job number f short is at o =
-    inl (ap statuses.NotBuilt (jobs_have_one_unbuilt_line bytes job line number (told_unbuilt before after bytes job line f is o) at), o.silent)
-not_built_is_refused before after statuses.ReadFault bytes job number f short is at o =
-    not_risen before.read_faults after.read_faults f.no_read_fault o.fault
-not_built_is_refused before after statuses.WriteFault bytes job number f short is at o =
-    not_risen before.write_faults after.write_faults f.no_write_fault o.1.fault
-not_built_is_refused before after statuses.NoMemory bytes job number f short is at o =
-    ⊎_elim (λ early. inr (refl, early.silent)) (λ late. not_built before after bytes job late.0 number f is at late.1.cut.read late.1.cut.built) o
-not_built_is_refused before after statuses.BadWords bytes job number f short is at o = absurd o
-not_built_is_refused before after statuses.TooLong bytes job number f short is at o = not_too_many before after bytes f short o.0
+job_is_answered before after statuses.BadWords bytes job f short is o = absurd o
+job_is_answered before after statuses.TooLong bytes job f short is o = not_too_many before after bytes f short o.0
 
 pub no_job_is_refused : WhatIsNoJobIsRefused
 no_job_is_refused before after statuses.Clean bytes f short none o = absurd (no_read before after bytes o.0 f none o.1.read)
 no_job_is_refused before after statuses.Refusals bytes f short none o = absurd (no_read before after bytes o.0 f none o.1.read)
 no_job_is_refused before after (statuses.BadJob number) bytes f short none o =
     inl (number, subst (λ bs. IsBadAt bs number) (read_bytes before after bytes o.bytes f o.whole) o.no_job, refl, o.silent)
-no_job_is_refused before after (statuses.NotBuilt number) bytes f short none o = absurd (no_read before after bytes o.job f none o.read)
 no_job_is_refused before after statuses.ReadFault bytes f short none o =
     not_risen before.read_faults after.read_faults f.no_read_fault o.fault
 no_job_is_refused before after statuses.WriteFault bytes f short none o =
@@ -166,7 +131,6 @@ pub too_long_is_refused : WhatIsTooLongIsRefused
 too_long_is_refused before after statuses.Clean bytes f long o = not_long before after bytes o.1.read.bytes f long o.1.read.whole
 too_long_is_refused before after statuses.Refusals bytes f long o = not_long before after bytes o.1.read.bytes f long o.1.read.whole
 too_long_is_refused before after (statuses.BadJob number) bytes f long o = not_long before after bytes o.bytes f long o.whole
-too_long_is_refused before after (statuses.NotBuilt number) bytes f long o = not_long before after bytes o.read.bytes f long o.read.whole
 too_long_is_refused before after statuses.ReadFault bytes f long o = not_risen before.read_faults after.read_faults f.no_read_fault o.fault
 too_long_is_refused before after statuses.WriteFault bytes f long o = not_risen before.write_faults after.write_faults f.no_write_fault o.1.fault
 too_long_is_refused before after statuses.NoMemory bytes f long o =
@@ -185,7 +149,6 @@ pub fault_is_told : AFaultIsTold
 fault_is_told before after statuses.Clean o = no_fault before after _ o.1.read.whole.no_fault o.1.no_fault (λ e. cc) (λ e. cc)
 fault_is_told before after statuses.Refusals o = no_fault before after _ o.1.read.whole.no_fault o.1.no_fault (λ e. cc) (λ e. cc)
 fault_is_told before after (statuses.BadJob number) o = no_fault before after _ o.whole.no_fault o.silent.no_fault (λ e. cc) (λ e. cc)
-fault_is_told before after (statuses.NotBuilt number) o = no_fault before after _ o.read.whole.no_fault o.silent.no_fault (λ e. cc) (λ e. cc)
 fault_is_told before after statuses.ReadFault o =
     ((λ rose. refl, λ e. o.fault), (not_risen before.write_faults after.write_faults o.silent.no_fault, λ e. absurd (clash e)))
   where
@@ -207,7 +170,6 @@ pub only_output : OnlyTheOutputIsWritten
 only_output before after statuses.Clean o = inr (o.0, o.1.read, whole_front before after o.0 false o.1)
 only_output before after statuses.Refusals o = inr (o.0, o.1.read, whole_front before after o.0 true o.1)
 only_output before after (statuses.BadJob number) o = inl o.silent.kept
-only_output before after (statuses.NotBuilt number) o = inl o.silent.kept
 only_output before after statuses.ReadFault o = inl o.silent.kept
 only_output before after statuses.WriteFault o = inr (o.0, o.1.cut.read, cut_front before after o.0 o.1.cut)
 only_output before after statuses.NoMemory o =
@@ -219,7 +181,6 @@ pub only_stale : OnlyStaleModulesAreJudged
 only_stale before after statuses.Clean o = inr (o.0, o.1.read, o.1.judges)
 only_stale before after statuses.Refusals o = inr (o.0, o.1.read, o.1.judges)
 only_stale before after (statuses.BadJob number) o = inl o.silent.none_judged
-only_stale before after (statuses.NotBuilt number) o = inl o.silent.none_judged
 only_stale before after statuses.ReadFault o = inl o.silent.none_judged
 only_stale before after statuses.WriteFault o = inr (o.0, o.1.cut.read, o.1.cut.judges)
 only_stale before after statuses.NoMemory o =

@@ -5,3 +5,8 @@ mod Answering
 mod Outcomes
 mod Exact
 mod WorkedStatuses
+mod RunFacts
+mod SoundJobs
+mod StartedTasks
+mod AllOf
+mod QuestionReplies

@@ -14,7 +14,8 @@ use Rattle.cc_graph.specs.Graph.{compare_names}
 use Rattle.cc_judge.specs.Judgements.{Judgement, verdicts_of, judgement_in, judgements}
 use Rattle.cc_meta_modules.specs.ModuleVerdicts.{CheckedDefinition, ModuleVerdict, IsAccepted, IsRefused}
 use Rattle.cc_meta_modules.specs.PresentTexts.{Texts, text_of}
-use Rattle.cc_replies.specs.Replies.{PutText, DropModule, other_modules, put_reply, drop_reply, check_reply, definitions_reply, signature_reply, after}
+use Rattle.cc_replies.specs.Replies.{other_modules, put_reply, drop_reply, check_reply, definitions_reply, signature_reply, texts_after}
+use Rattle.cc_replies.specs.Requests.{PutText}
 use Rattle.cc_replies.specs.ReplyTexts.{Reply, PutDone, PutRefused, DropDone, DropRefused, Verdicts, Signatures, SignaturesRefused, is_refusal}
 use Rattle.cc_session.specs.declared.refusals.PutRefused.{PutRefused as PutRefusal}
 use Rattle.cc_session.specs.Signatures.{verdict_named, definitions_of, definitions_or, signature_of}
@@ -60,7 +61,7 @@ module _ (texts : Texts) (name text : List ℕ) where
 
   -- a refused put changes nothing
   pub put_after : (reply : Reply) → put_reply texts name text ≡ reply
-      → after texts (PutText name text) ≡ (if is_refusal reply then texts else insert_entry compare_names texts name text)
+      → texts_after texts (PutText name text) ≡ (if is_refusal reply then texts else insert_entry compare_names texts name text)
   put_after reply e = ap (λ r. if is_refusal r then texts else insert_entry compare_names texts name text) e
 
 -- a module that is absent is not removed

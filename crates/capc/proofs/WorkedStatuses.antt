@@ -16,7 +16,6 @@ statuses_show_so = record {
   no_memory = (refl, refl);
   bad_words = (refl, refl);
   too_long = (refl, refl);
-  not_built = (refl, refl);
 }
 
 pub jobs_have_so_many : JobsHaveSoManyBytes

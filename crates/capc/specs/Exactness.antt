@@ -4,8 +4,8 @@ use Rattle.std.specs.Io.KnownBytes.{Keeps}
 use Rattle.cc_io.specs.Wholes.{AppendsFront}
 use Rattle.cc_job.specs.declared.job.Job.{Job}
 use Rattle.cc_job.specs.Jobs.{IsJob, IsBadAt}
-use Rattle.cc_job.specs.Unbuilt.{IsBuilt, IsUnbuiltAt}
 use Rattle.cc_replies.specs.Outputs.{IsOutput}
+use Rattle.cc_replies.specs.Requests.{no_module}
 use Rattle.capc.specs.declared.status.Status.{Status}
 use Rattle.capc.specs.declared.status.Status.TheVariants as statuses
 use Rattle.capc.specs.Requests.{requests_of}
@@ -30,29 +30,20 @@ IsSilentForMemory before after status = (status ≡ statuses.NoMemory) × IsSile
 pub record WritesFront (before after : Ends) (job : Job) : Type 0 where
   pub text : List ℕ
   pub refused : Bool
-  pub output : IsOutput job.devices [] (requests_of job) text refused
+  pub output : IsOutput job.devices no_module (requests_of job) text refused
   pub written : AppendsFront before.written after.written text
 
 -- memory lacked, and a front of the job's output was written
 abbrev pub IsCutOffForMemory : Ends → Ends → Job → Status → Type 0
 IsCutOffForMemory before after job status = (status ≡ statuses.NoMemory) × WritesFront before after job
 
--- A job within the limit whose commands the program carries out is carried out, its output written whole, unless
--- memory lacks: then a front of it is written.
+-- A job within the limit is carried out, its output written whole, unless memory lacks: then a front of it is written.
 abbrev pub AJobIsAnswered : Type 0
 AJobIsAnswered = (before after : Ends) (status : Status) (bytes : List ℕ) (job : Job)
-    → IsFaultless before after bytes → length bytes ≤ job_limit → IsJob bytes job → IsBuilt job
+    → IsFaultless before after bytes → length bytes ≤ job_limit → IsJob bytes job
     → Outcome before after status
     → ((refused : Bool) × IsCarriedOut before after job refused × (status ≡ status_of refused))
     ⊎ IsCutOffForMemory before after job status
-
--- A job within the limit with a command that the program does not carry out is refused as such, by the line of the
--- first one, unless memory lacks, and nothing is written.
-abbrev pub WhatIsNotBuiltIsRefused : Type 0
-WhatIsNotBuiltIsRefused = (before after : Ends) (status : Status) (bytes : List ℕ) (job : Job) (number : ℕ)
-    → IsFaultless before after bytes → length bytes ≤ job_limit → IsJob bytes job → IsUnbuiltAt bytes job number
-    → Outcome before after status
-    → ((status ≡ statuses.NotBuilt number) × IsSilent before after) ⊎ IsSilentForMemory before after status
 
 -- Bytes within the limit that are no job are refused as such, by their bad line, unless memory lacks, and nothing is
 -- written.

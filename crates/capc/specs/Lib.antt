@@ -1,6 +1,8 @@
 pub mod Status
 pub mod Words
 pub mod Requests
+pub mod Running
+pub mod SoundJobs
 pub mod Carried
 pub mod Outcome
 pub mod Exactness

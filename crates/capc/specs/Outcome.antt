@@ -4,8 +4,8 @@ use Rattle.std.specs.Io.KnownBytes.{Consumes, IsAtEnd, Keeps, Appends}
 use Rattle.cc_io.specs.Wholes.{TakesCount, AppendsFront}
 use Rattle.cc_job.specs.declared.job.Job.{Job}
 use Rattle.cc_job.specs.Jobs.{IsJob, IsBadAt}
-use Rattle.cc_job.specs.Unbuilt.{IsBuilt, IsUnbuiltAt}
 use Rattle.cc_replies.specs.Outputs.{IsOutput}
+use Rattle.cc_replies.specs.Requests.{no_module}
 use Rattle.cc_replies.specs.StaleModules.{AreStale}
 use Rattle.capc.specs.declared.status.Status.{Status}
 use Rattle.capc.specs.declared.status.Status.TheVariants as statuses
@@ -60,15 +60,14 @@ pub record ReadsJob (before after : Ends) (job : Job) : Type 0 where
 -- modules were judged, at most as many as the commands of the job find stale, all their checks together
 pub record JudgesStale (before after : Ends) (job : Job) : Type 0 where
   pub sum : ℕ
-  pub stale : AreStale job.devices [] [] (requests_of job) sum
+  pub stale : AreStale job.devices no_module [] (requests_of job) sum
   pub few : after.judged ≤ before.judged + sum
 
--- the job was read, whose commands the program carries out, and its whole output was written
+-- the job was read, and its whole output was written
 pub record IsCarriedOut (before after : Ends) (job : Job) (refused : Bool) : Type 0 where
   pub read : ReadsJob before after job
-  pub built : IsBuilt job
   pub text : List ℕ
-  pub output : IsOutput job.devices [] (requests_of job) text refused
+  pub output : IsOutput job.devices no_module (requests_of job) text refused
   pub written : Appends before.written after.written text
   pub no_fault : after.write_faults ≡ before.write_faults
   pub judges : JudgesStale before after job
@@ -76,10 +75,9 @@ pub record IsCarriedOut (before after : Ends) (job : Job) (refused : Bool) : Typ
 -- the same, but a front of its output was written
 pub record IsCutOff (before after : Ends) (job : Job) : Type 0 where
   pub read : ReadsJob before after job
-  pub built : IsBuilt job
   pub text : List ℕ
   pub refused : Bool
-  pub output : IsOutput job.devices [] (requests_of job) text refused
+  pub output : IsOutput job.devices no_module (requests_of job) text refused
   pub written : AppendsFront before.written after.written text
   pub judges : JudgesStale before after job
 
@@ -88,13 +86,6 @@ pub record ReadsNoJob (before after : Ends) (number : ℕ) : Type 0 where
   pub bytes : List ℕ
   pub whole : ReadsWhole before after bytes
   pub no_job : IsBadAt bytes number
-  pub silent : IsSilent before after
-
--- the job was read, whose first command that the program does not carry out is on this line, and nothing was written
-pub record ReadsUnbuilt (before after : Ends) (number : ℕ) : Type 0 where
-  pub job : Job
-  pub read : ReadsJob before after job
-  pub unbuilt : IsUnbuiltAt read.bytes job number
   pub silent : IsSilent before after
 
 -- a read failed: no more than the limit had been taken, and nothing was written
@@ -123,7 +114,6 @@ abbrev pub Outcome : Ends → Ends → Status → Type 0
 Outcome before after statuses.Clean = (job : Job) × IsCarriedOut before after job false
 Outcome before after statuses.Refusals = (job : Job) × IsCarriedOut before after job true
 Outcome before after (statuses.BadJob number) = ReadsNoJob before after number
-Outcome before after (statuses.NotBuilt number) = ReadsUnbuilt before after number
 Outcome before after statuses.ReadFault = FailsToRead before after
 Outcome before after statuses.WriteFault = (job : Job) × FailsToWrite before after job
 Outcome before after statuses.NoMemory =

@@ -1,21 +1,27 @@
 -- What the commands of a job ask for.
-use Rattle.std.specs.Prelude.{List, Option, Some, None}
-use Rattle.std.specs.List.{filter_map}
+use Rattle.std.specs.Prelude.{List, map, Option, Some, None}
 use Rattle.cc_job.specs.declared.job.Command.{Command}
 use Rattle.cc_job.specs.declared.job.Command.TheVariants.{Put, Drop, Check, Sig, Derive, Run, Tasks}
 use Rattle.cc_job.specs.declared.job.Job.{Job}
-use Rattle.cc_replies.specs.Replies.{Request, PutText, DropModule, CheckModules, ShowSignature}
+use Rattle.cc_replies.specs.Requests.{Question, CheckModules, ShowSignature, ShowDerivation, RunDefinition, RunTasks}
+use Rattle.cc_replies.specs.Requests.{Request, PutText, DropModule, Ask}
 
--- what a command asks for, if the program carries it out
-abbrev pub request_of : Command → Option Request
-request_of (Put name text) = Some (PutText name text)
-request_of (Drop name) = Some (DropModule name)
-request_of Check = Some CheckModules
-request_of (Sig name) = Some (ShowSignature name)
-request_of (Derive owner definition) = None
-request_of (Run owner definition fuel) = None
-request_of (Tasks fuel schedule entries) = None
+-- what a command asks for
+abbrev pub request_of : Command → Request
+request_of (Put name text) = PutText name text
+request_of (Drop name) = DropModule name
+request_of Check = Ask CheckModules
+request_of (Sig name) = Ask (ShowSignature name)
+request_of (Derive module_name name) = Ask (ShowDerivation module_name name)
+request_of (Run module_name name fuel) = Ask (RunDefinition module_name name fuel)
+request_of (Tasks fuel schedule tasks) = Ask (RunTasks fuel schedule tasks)
 
 -- what the commands of a job ask for, in order
 abbrev pub requests_of : Job → List Request
-requests_of job = filter_map request_of job.commands
+requests_of job = map request_of job.commands
+
+-- the question, if it is one
+abbrev pub question_in : Request → Option Question
+question_in (PutText name text) = None
+question_in (DropModule name) = None
+question_in (Ask question) = Some question

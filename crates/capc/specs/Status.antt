@@ -3,7 +3,7 @@ use Rattle.std.specs.Prelude.{ℕ, ◌++◌, List, codes, Option, Some, None}
 use Rattle.std.specs.Fmt.{decimal}
 use Rattle.capc.specs.declared.status.Status.{Status}
 use Rattle.capc.specs.declared.status.Status.TheVariants.{Clean, Refusals, BadJob, ReadFault, WriteFault}
-use Rattle.capc.specs.declared.status.Status.TheVariants.{NoMemory, BadWords, TooLong, NotBuilt}
+use Rattle.capc.specs.declared.status.Status.TheVariants.{NoMemory, BadWords, TooLong}
 
 -- the number with which the program ends
 abbrev pub number_of : Status → ℕ
@@ -15,7 +15,6 @@ number_of WriteFault = 4
 number_of NoMemory = 5
 number_of BadWords = 6
 number_of TooLong = 7
-number_of (NotBuilt line) = 8
 
 -- what the program says on standard error, before a line feed; nothing where the job was carried out
 abbrev pub message_of : Status → Option (List ℕ)
@@ -27,4 +26,3 @@ message_of WriteFault = Some (codes "capc: write fault")
 message_of NoMemory = Some (codes "capc: out of memory")
 message_of BadWords = Some (codes "capc: bad words")
 message_of TooLong = Some (codes "capc: job too long")
-message_of (NotBuilt line) = Some (codes "capc: not built at line " ++ decimal line)

@@ -2,7 +2,7 @@
 use Rattle.std.specs.Prelude.{◌≡◌, ℕ, List, codes, Option, Some, None}
 use Rattle.capc.specs.declared.status.Status.{Status}
 use Rattle.capc.specs.declared.status.Status.TheVariants.{Clean, Refusals, BadJob, ReadFault, WriteFault}
-use Rattle.capc.specs.declared.status.Status.TheVariants.{NoMemory, BadWords, TooLong, NotBuilt}
+use Rattle.capc.specs.declared.status.Status.TheVariants.{NoMemory, BadWords, TooLong}
 use Rattle.capc.specs.Status.{number_of, message_of}
 use Rattle.capc.specs.Outcome.{job_limit, Ends, TakesMany, Outcome}
 
@@ -10,7 +10,7 @@ use Rattle.capc.specs.Outcome.{job_limit, Ends, TakesMany, Outcome}
 abbrev pub Shows : Status → ℕ → Option (List ℕ) → Type 0
 Shows status number message = (number_of status ≡ number) × (message_of status ≡ message)
 
--- all nine statuses, those with a line at the least and the greatest number of a line
+-- all eight statuses, those with a line at the least and the greatest number of a line
 pub record StatusesShow : Type 0 where
   pub clean : Shows Clean 0 None
   pub refusals : Shows Refusals 1 None
@@ -21,7 +21,6 @@ pub record StatusesShow : Type 0 where
   pub no_memory : Shows NoMemory 5 (Some (codes "capc: out of memory"))
   pub bad_words : Shows BadWords 6 (Some (codes "capc: bad words"))
   pub too_long : Shows TooLong 7 (Some (codes "capc: job too long"))
-  pub not_built : Shows (NotBuilt 12) 8 (Some (codes "capc: not built at line 12"))
 
 -- a job may have 4,194,304 bytes, and it is too long where one more was taken
 abbrev pub JobsHaveSoManyBytes : Type 0

@@ -1,16 +1,15 @@
 //! Carrying out the commands of a job: each reply is written before the next command.
 
-ghost use Rattle.std.specs.Prelude.{◌≡◌, ◌-◌, ◌^◌, ◌<◌, ◌||◌, [], map, IsTrue, IfSome, IfOk};
-ghost use Rattle.std.specs.List.{list_all, filter_map};
+ghost use Rattle.std.specs.Prelude.{◌≡◌, ◌-◌, ◌^◌, ◌<◌, ◌||◌, [], map, IfSome, IfOk};
 ghost use Rattle.cc_io.specs.Wholes.{WriteAllCause};
-ghost use Rattle.cc_job.specs.Unbuilt.{is_built, IsBuilt};
 ghost use Rattle.cc_meta_modules.specs.ModuleLaws.{NamesOfDevicesDiffer};
 ghost use Rattle.cc_meta_modules.specs.PresentTexts.{ArePresent};
 ghost use Rattle.cc_mnf.specs.CoreModules.{device_names};
-ghost use Rattle.cc_replies.specs.Replies.{PutText, DropModule, CheckModules, ShowSignature};
+ghost use Rattle.cc_replies.specs.Requests.{PutText, DropModule, Ask, holding, no_module};
 ghost use Rattle.capc.specs.Carried.{IsReplied, Changes, Judges, AreAnswered};
-ghost use Rattle.capc.specs.Requests.{request_of, requests_of};
+ghost use Rattle.capc.specs.Requests.{request_of, requests_of, question_in};
 
+use crate::questions::answer_checked;
 use crate::replies::write_reply;
 use cc_base::code::Code;
 use cc_base::name::Name;
@@ -20,8 +19,7 @@ use cc_io::{Sink, WriteAll};
 use cc_job::job::{Command, Job};
 use cc_print::Names;
 use cc_replies::modules::{drop_refusal, drop_reply, put_refusal, put_reply};
-use cc_replies::signatures::{names_of, sig_refusal, sig_reply};
-use cc_replies::verdicts::{check_reply, has_refused};
+use cc_replies::signatures::names_of;
 use cc_session::refusals::{NoSuchModule, PutRefused};
 use cc_session::session::Session;
 use std::alloc::{AllocError, Global};
@@ -38,7 +36,7 @@ fn put_copy<K: Sink>(
 ) -> Result<bool, WriteAll>
     requires count { K.faults sink.old < 2 ^ 64 - 1 }
     requires key { key ≡ name.now }
-    ensures replied { IsReplied session.old.devices session.old.present (PutText name.now text.items)
+    ensures replied { IsReplied session.old.devices (holding session.old.present) (PutText name.now text.items)
         (K.written sink.old) (K.written sink.new) result }
     ensures changes { Changes session.old session.new (PutText name.now text.items) result }
     ensures last { session.new.last ≡ session.old.last }
@@ -61,7 +59,7 @@ fn put_module<K: Sink>(
     sink: &mut K,
 ) -> Result<bool, WriteAll>
     requires { K.faults sink.old < 2 ^ 64 - 1 }
-    ensures replied { IsReplied session.old.devices session.old.present (PutText name.now text.now)
+    ensures replied { IsReplied session.old.devices (holding session.old.present) (PutText name.now text.now)
         (K.written sink.old) (K.written sink.new) result }
     ensures changes { Changes session.old session.new (PutText name.now text.now) result }
     ensures last { session.new.last ≡ session.old.last }
@@ -84,7 +82,7 @@ fn drop_module<K: Sink>(
     sink: &mut K,
 ) -> Result<bool, WriteAll>
     requires { K.faults sink.old < 2 ^ 64 - 1 }
-    ensures replied { IsReplied session.old.devices session.old.present (DropModule name.now)
+    ensures replied { IsReplied session.old.devices (holding session.old.present) (DropModule name.now)
         (K.written sink.old) (K.written sink.new) result }
     ensures changes { Changes session.old session.new (DropModule name.now) result }
     ensures last { session.new.last ≡ session.old.last }
@@ -96,69 +94,12 @@ fn drop_module<K: Sink>(
     }
 }
 
-// Writes the verdicts of the present modules.
-fn show_verdicts<K: Sink>(alloc: Global, session: &Session, sink: &mut K) -> Result<bool, WriteAll>
-    requires count { K.faults sink.old < 2 ^ 64 - 1 }
-    requires checked { IsTrue session.now.checked }
-    ensures replied { IsReplied session.now.devices session.now.present CheckModules
-        (K.written sink.old) (K.written sink.new) result }
-    ensures cause { WriteAllCause (K.faults sink.old) (K.faults sink.new) result }
-{
-    let verdicts = session.verdicts();
-    let refused = has_refused(verdicts);
-    write_reply(sink, check_reply(alloc, verdicts), refused)
-}
-
-// Checks the modules and writes their verdicts.
-fn check_modules<K: Sink, L: Ledger>(
-    alloc: Global,
-    session: &mut Session,
-    sink: &mut K,
-    steps: &mut Steps<L>,
-) -> Result<bool, WriteAll>
-    requires count { K.faults sink.old < 2 ^ 64 - 1 }
-    requires differ { NamesOfDevicesDiffer session.old.devices }
-    requires present { ArePresent session.old.present }
-    ensures replied { IsReplied session.old.devices session.old.present CheckModules
-        (K.written sink.old) (K.written sink.new) result }
-    ensures changes { Changes session.old session.new CheckModules result }
-    ensures judges { Judges session.old session.new CheckModules steps.old steps.new result }
-    ensures cause { WriteAllCause (K.faults sink.old) (K.faults sink.new) result }
-{
-    match session.check(steps) {
-        Ok(()) => show_verdicts(alloc, &*session, sink),
-        Err(AllocError) => Err(WriteAll::NoMemory),
-    }
-}
-
-// Writes the signatures of the module's definitions.
-fn show_definitions<K: Sink>(
-    alloc: Global,
-    names: &Names,
-    session: &Session,
-    name: &Name,
-    sink: &mut K,
-) -> Result<bool, WriteAll>
-    requires count { K.faults sink.old < 2 ^ 64 - 1 }
-    requires checked { IsTrue session.now.checked }
-    requires present { ArePresent session.now.present }
-    requires names { (names.now.names.items ≡ device_names session.now.devices) × (names.now.locals ≡ 0) }
-    ensures replied { IsReplied session.now.devices session.now.present (ShowSignature name.now)
-        (K.written sink.old) (K.written sink.new) result }
-    ensures cause { WriteAllCause (K.faults sink.old) (K.faults sink.new) result }
-{
-    match session.sig(name) {
-        Ok(defs) => write_reply(sink, sig_reply(alloc, name, defs, names), false),
-        Err(refused) => write_reply(sink, sig_refusal(alloc, name, refused.code), true),
-    }
-}
-
-// Checks the modules and writes the signatures of the module's definitions.
-fn show_signature<K: Sink, L: Ledger>(
+// Checks the modules and answers the question of the command, if it is one.
+fn ask<K: Sink, L: Ledger>(
     alloc: Global,
     names: &Names,
     session: &mut Session,
-    name: &Name,
+    command: &Command,
     sink: &mut K,
     steps: &mut Steps<L>,
 ) -> Result<bool, WriteAll>
@@ -166,14 +107,16 @@ fn show_signature<K: Sink, L: Ledger>(
     requires differ { NamesOfDevicesDiffer session.old.devices }
     requires present { ArePresent session.old.present }
     requires names { (names.now.names.items ≡ device_names session.old.devices) × (names.now.locals ≡ 0) }
-    ensures replied { IsReplied session.old.devices session.old.present (ShowSignature name.now)
-        (K.written sink.old) (K.written sink.new) result }
-    ensures changes { Changes session.old session.new (ShowSignature name.now) result }
-    ensures judges { Judges session.old session.new (ShowSignature name.now) steps.old steps.new result }
+    ensures replied { IfSome (question_in (request_of command.now))
+        (λ question. IsReplied session.old.devices (holding session.old.present) (Ask question)
+        (K.written sink.old) (K.written sink.new) result) }
+    ensures changes { IfSome (question_in (request_of command.now)) (λ question. Changes session.old session.new (Ask question) result) }
+    ensures judges { IfSome (question_in (request_of command.now))
+        (λ question. Judges session.old session.new (Ask question) steps.old steps.new result) }
     ensures cause { WriteAllCause (K.faults sink.old) (K.faults sink.new) result }
 {
     match session.check(steps) {
-        Ok(()) => show_definitions(alloc, names, &*session, name, sink),
+        Ok(()) => answer_checked(alloc, names, &*session, command, sink),
         Err(AllocError) => Err(WriteAll::NoMemory),
     }
 }
@@ -188,24 +131,23 @@ fn answer<K: Sink, L: Ledger>(
     steps: &mut Steps<L>,
 ) -> Result<bool, WriteAll>
     requires count { K.faults sink.old < 2 ^ 64 - 1 }
-    requires built { IsTrue (is_built command.now) }
     requires differ { NamesOfDevicesDiffer session.old.devices }
     requires present { ArePresent session.old.present }
     requires names { (names.now.names.items ≡ device_names session.old.devices) × (names.now.locals ≡ 0) }
-    ensures replied { IfSome (request_of command.now)
-        (λ request. IsReplied session.old.devices session.old.present request
-        (K.written sink.old) (K.written sink.new) result) }
-    ensures changes { IfSome (request_of command.now) (λ request. Changes session.old session.new request result) }
-    ensures judges { IfSome (request_of command.now)
-        (λ request. Judges session.old session.new request steps.old steps.new result) }
+    ensures replied { IsReplied session.old.devices (holding session.old.present) (request_of command.now)
+        (K.written sink.old) (K.written sink.new) result }
+    ensures changes { Changes session.old session.new (request_of command.now) result }
+    ensures judges { Judges session.old session.new (request_of command.now) steps.old steps.new result }
     ensures cause { WriteAllCause (K.faults sink.old) (K.faults sink.new) result }
 {
     match command {
         Command::Put(name, text) => put_module(alloc, session, name, text, sink),
         Command::Drop(name) => drop_module(alloc, session, name, sink),
-        Command::Check => check_modules(alloc, session, sink, steps),
-        Command::Sig(name) => show_signature(alloc, names, session, name, sink, steps),
-        Command::Derive(_, _) | Command::Run(_, _, _) | Command::Tasks(_, _, _) => unreachable!(),
+        Command::Check
+        | Command::Sig(_)
+        | Command::Derive(_, _)
+        | Command::Run(_, _, _)
+        | Command::Tasks(_, _, _) => ask(alloc, names, session, command, sink, steps),
     }
 }
 
@@ -226,12 +168,11 @@ fn answer_all<K: Sink, L: Ledger>(
     steps: &mut Steps<L>,
 ) -> Result<bool, WriteAll>
     requires count { K.faults sink.old < 2 ^ 64 - 1 }
-    requires built { IsTrue (list_all is_built commands.now) }
     requires differ { NamesOfDevicesDiffer session.old.devices }
     requires present { ArePresent session.old.present }
     requires names { (names.now.names.items ≡ device_names session.old.devices) × (names.now.locals ≡ 0) }
-    ensures answered { AreAnswered session.old.devices session.old.present
-        session.old.last (filter_map request_of commands.now)
+    ensures answered { AreAnswered session.old.devices (holding session.old.present)
+        session.old.last (map request_of commands.now)
         (K.written sink.old) (K.written sink.new) steps.old steps.new result }
     ensures cause { WriteAllCause (K.faults sink.old) (K.faults sink.new) result }
 {
@@ -259,8 +200,7 @@ pub fn carry_out<K: Sink, L: Ledger>(
 ) -> Result<bool, WriteAll>
     requires count { K.faults sink.old < 2 ^ 64 - 1 }
     requires differ { NamesOfDevicesDiffer job.devices }
-    requires built { IsBuilt job }
-    ensures answered { AreAnswered job.devices [] [] (requests_of job)
+    ensures answered { AreAnswered job.devices no_module [] (requests_of job)
         (K.written sink.old) (K.written sink.new) steps.old steps.new result }
     ensures cause { WriteAllCause (K.faults sink.old) (K.faults sink.new) result }
 {

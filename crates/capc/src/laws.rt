@@ -1,17 +1,12 @@
 //! What the contract of the top call says: of a source that tells its bytes, where no read and no write fails, and of
 //! faults, what is written and how many modules are judged, for all streams.
 ghost use Rattle.capc.specs.StatusTable.{StatusesShow, JobsHaveSoManyBytes};
-ghost use Rattle.capc.specs.Exactness.{AJobIsAnswered, WhatIsNotBuiltIsRefused, WhatIsNoJobIsRefused, WhatIsTooLongIsRefused, AFaultIsTold, OnlyTheOutputIsWritten, OnlyStaleModulesAreJudged};
+ghost use Rattle.capc.specs.SoundJobs.{EveryJobIsSound, ShownRunsAreSafe, ShownTasksAreSafe};
+ghost use Rattle.capc.specs.Exactness.{AJobIsAnswered, WhatIsNoJobIsRefused, WhatIsTooLongIsRefused, AFaultIsTold, OnlyTheOutputIsWritten, OnlyStaleModulesAreJudged};
 
 /// A job is carried out and its output written whole, unless memory lacks: then a front of it is written.
 pub fn a_job_is_answered()
     ensures { AJobIsAnswered }
-{}
-
-/// A job with a command that the program does not carry out is refused as such, unless memory lacks, and nothing is
-/// written.
-pub fn what_is_not_built_is_refused()
-    ensures { WhatIsNotBuiltIsRefused }
 {}
 
 /// What is no job is refused as such, by its bad line, unless memory lacks, and nothing is written.
@@ -47,4 +42,15 @@ pub fn statuses_show()
 /// How many bytes a job may have, and with how many it is too long.
 pub fn jobs_have_so_many_bytes()
     ensures { JobsHaveSoManyBytes }
+{}
+
+/// The files of every job are sound, at every moment of it.
+pub fn every_job_is_sound()
+    ensures { EveryJobIsSound }
+{}
+
+/// What is shown of runs and of tasks is shown of runs of present entries, which are safe.
+pub fn shown_runs_are_safe()
+    ensures runs { ShownRunsAreSafe }
+    ensures tasks { ShownTasksAreSafe }
 {}

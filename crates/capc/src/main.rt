@@ -6,8 +6,10 @@
 mod commands;
 pub mod laws;
 mod program;
+mod questions;
 mod replies;
 mod run;
+mod running;
 mod status;
 #[cfg(test)]
 mod tests;

@@ -1,12 +1,14 @@
 ghost use Rattle.std.specs.Prelude.{◌≡◌, ◌≢◌, ◌↔◌, ◌-◌, ◌^◌, ◌<◌, []};
 ghost use Rattle.capc.specs.Outcome.{Outcome, ends};
+ghost use Rattle.capc.specs.SoundJobs.{EveryJobIsSound};
 
 use crate::commands::carry_out;
+use crate::laws::every_job_is_sound;
 use crate::status::Status;
 use cc_base::steps::Steps;
 use cc_io::{ReadAll, Sink, Source, WriteAll, read_all};
 use cc_job::job::JobError;
-use cc_job::read::read_marked;
+use cc_job::read::read_job;
 use std::alloc::Global;
 use std::sync::ledger::Ledger;
 
@@ -31,12 +33,16 @@ pub fn capc<S: Source, K: Sink, L: Ledger>(
     ensures words { (result ≡ Status.BadWords) ↔ (words.now ≢ []) }
     ensures untouched { words.now ≢ [] → (source.new ≡ source.old) × (sink.new ≡ sink.old) × (steps.new ≡ steps.old) }
 
+    // The files of every job are sound, at every moment of it: what definitions deserve and what their runs do.
+    ensures sound { EveryJobIsSound }
+
     // What was read and written, and how many modules were judged, for each status.
     ensures outcome { words.now ≡ [] → Outcome
         (ends (S.left source.old) (S.faults source.old) (K.written sink.old) (K.faults sink.old) steps.old)
         (ends (S.left source.new) (S.faults source.new) (K.written sink.new) (K.faults sink.new) steps.new)
         result }
 {
+    every_job_is_sound();
     if !words.is_empty() {
         return Status::BadWords;
     }
@@ -46,18 +52,15 @@ pub fn capc<S: Source, K: Sink, L: Ledger>(
         Err(ReadAll::TooLong) => return Status::TooLong,
         Err(ReadAll::NoMemory) => return Status::NoMemory,
     };
-    let reading = match read_marked(alloc, &bytes) {
-        Ok(reading) => reading,
+    let job = match read_job(alloc, &bytes) {
+        Ok(job) => job,
         Err(JobError::BadJob { line }) => return Status::BadJob(line),
         Err(JobError::NoMemory) => return Status::NoMemory,
     };
-    match reading.unbuilt {
-        Some(line) => Status::NotBuilt(line),
-        None => match carry_out(alloc, reading.job, sink, steps) {
-            Ok(false) => Status::Clean,
-            Ok(true) => Status::Refusals,
-            Err(WriteAll::WriteFault) => Status::WriteFault,
-            Err(WriteAll::NoMemory) => Status::NoMemory,
-        },
+    match carry_out(alloc, job, sink, steps) {
+        Ok(false) => Status::Clean,
+        Ok(true) => Status::Refusals,
+        Err(WriteAll::WriteFault) => Status::WriteFault,
+        Err(WriteAll::NoMemory) => Status::NoMemory,
     }
 }

@@ -22,8 +22,6 @@ pub enum Status {
     BadWords,
     /// The job is longer than the limit.
     TooLong,
-    /// The job has a command that the program does not carry out, the first one on the line of this number.
-    NotBuilt(u32),
 }
 
 impl Status {
@@ -40,7 +38,6 @@ impl Status {
             Status::NoMemory => 5,
             Status::BadWords => 6,
             Status::TooLong => 7,
-            Status::NotBuilt(_) => 8,
         }
     }
 
@@ -67,7 +64,6 @@ impl fmt::Display for Status {
             Status::NoMemory => f.write_str("capc: out of memory"),
             Status::BadWords => f.write_str("capc: bad words"),
             Status::TooLong => f.write_str("capc: job too long"),
-            Status::NotBuilt(line) => write!(f, "capc: not built at line {line}"),
         }
     }
 }

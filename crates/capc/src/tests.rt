@@ -153,11 +153,12 @@ def main = fun (u: Unit) =>
 /// What is written for the puts of these modules.
 const PUTS: &[u8] = b"put logger\nput counter\nput app\n";
 
-/// Modules are judged where they are new, or have another text, or import what has another signature, and no others.
+/// Modules are judged where they are new, or have another text, or import what has another signature, and no others, by
+/// each command that asks something.
 #[test]
 fn modules_are_judged_where_they_are_stale(rt: HostRuntime) -> Result<(), Fail> {
     let alloc = rt.alloc();
-    let cases: [(&[u8], &[u8], u64); 6] = [
+    let cases: [(&[u8], &[u8], u64); 10] = [
         (
             b"check\n",
             b"check\n  app ok\n  counter ok\n  logger ok\n",
@@ -193,6 +194,29 @@ fn modules_are_judged_where_they_are_stale(rt: HostRuntime) -> Result<(), Fail> 
             b"sig app\n  main: ((_0: Unit) -> Unit)^{out, hits}\n",
             3,
         ),
+        // So does a request for a certificate.
+        (
+            b"derive counter.none\n",
+            b"derive counter.none refused E33\n",
+            3,
+        ),
+        // And a run.
+        (
+            b"run app.main 1000\n",
+            b"run app.main\n  authority {out, hits}\n  out say start\n  hits tick 1\n  out print 10\n  hits tick 2\n  out print 21\n  done unit after 41 steps\n",
+            3,
+        ),
+        (
+            b"run app.main 5\nrun logger.line 5\n",
+            b"run app.main\n  authority {out, hits}\n  out say start\n  out of fuel after 5 steps\nrun logger.line refused E35\n",
+            3,
+        ),
+        // And tasks.
+        (
+            b"tasks 8 0,1 counter.next counter.next\ntasks 8 0,1 counter.next app.none\n",
+            b"tasks\n  0 authority {hits}\n  1 authority {hits}\n  0 hits tick 1\n  1 hits tick 2\n  0 done 1 after 2 steps\n  1 done 2 after 2 steps\ntasks refused E33 app.none\n",
+            3,
+        ),
     ];
     for (rest, answer, steps) in cases {
         let mut job = Vec::from_slice(alloc, MODULES)?;
@@ -206,11 +230,11 @@ fn modules_are_judged_where_they_are_stale(rt: HostRuntime) -> Result<(), Fail> 
     Ok(())
 }
 
-/// Nothing is written and judged where there are words, where the bytes are no job, and where a command is not built.
+/// Nothing is written and judged where there are words, and where the bytes are no job.
 #[test]
 fn what_is_refused_is_silent(rt: HostRuntime) -> Result<(), Fail> {
     let alloc = rt.alloc();
-    let cases: [(&[u8], &[u8], Status); 5] = [
+    let cases: [(&[u8], &[u8], Status); 4] = [
         (b"--frob", b"capc 1\nput m 0\ncheck\n", Status::BadWords),
         (b"", b"", Status::BadJob(1)),
         (b"", b"capc 1\ncheck\nput m 2\nx\n", Status::BadJob(5)),
@@ -219,7 +243,6 @@ fn what_is_refused_is_silent(rt: HostRuntime) -> Result<(), Fail> {
             b"capc 1\ncheck\ndevice out console\n",
             Status::BadJob(3),
         ),
-        (b"", b"capc 1\ncheck\nrun m.f 1\n", Status::NotBuilt(3)),
     ];
     for (word, job, status) in cases {
         let ended = run::<Brand>(alloc, word, job, EASY, EASY, Blank::new(1))?;

@@ -50,7 +50,7 @@ one_item item other rest more is are e =
     (sym (item_from-head item) ∙ (ap (λ head. item_from head (item_text item)) heads ∙ (ap (item_from (head_for other)) same ∙ item_from-head other)), texts.1)
 
 -- the line of an item is not empty
-pub command_begins : (command : _) → (c : ℕ) × (cs : List ℕ) × (joined 32 (item_words (Commands command)) ≡ c ∷ cs)
+command_begins : (command : _) → (c : ℕ) × (cs : List ℕ) × (joined 32 (item_words (Commands command)) ≡ c ∷ cs)
 command_begins (Put name text) = (112, _, refl)
 command_begins (Drop name) = (100, _, refl)
 command_begins Check = (99, _, refl)
@@ -67,7 +67,7 @@ skipped-line : (line : Line) (lines : List Line) (c : ℕ) (cs : List ℕ) → l
 skipped-line line lines c cs e = ap (λ it. skipped (it ∷ lines)) e ∙ ap (λ it. it ∷ lines) (sym e)
 
 -- no line of an item is skipped
-pub skipped-item : (item : Item) (rest : List Line) → skipped (item_lines item ++ rest) ≡ item_lines item ++ rest
+skipped-item : (item : Item) (rest : List Line) → skipped (item_lines item ++ rest) ≡ item_lines item ++ rest
 skipped-item item rest =
     let begins = item_begins item in
     skipped-line (joined 32 (item_words item)) (lines_of (item_text item) ++ rest) begins.0 begins.1 begins.2

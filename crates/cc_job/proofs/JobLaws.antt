@@ -408,7 +408,7 @@ module _ (bytes : List ℕ) (b : ℕ) (bs : List ℕ) (devices : List DeviceDecl
   turn_item_read = subst (λ it. Turn bytes (b ∷ bs) rest (devices_with devices head) (commands_with commands head it) (number + (text_size head + 1))) (sym cut.text_is) turn_whole
 
 -- what was read
-pub read_parts : (n m : ℕ) (ds es : List DeviceDecl) (cs os : List Command) (r q : List ℕ) → Read n ds cs r ≡ Read m es os q → (n ≡ m) × (ds ≡ es) × (cs ≡ os) × (r ≡ q)
+read_parts : (n m : ℕ) (ds es : List DeviceDecl) (cs os : List Command) (r q : List ℕ) → Read n ds cs r ≡ Read m es os q → (n ≡ m) × (ds ≡ es) × (cs ≡ os) × (r ≡ q)
 read_parts n m ds es cs os r q e = (cc, cc, cc, cc)
 
 turn_same : (bytes rest : List ℕ) (number n m : ℕ) (ds es : List DeviceDecl) (cs os : List Command) (r q : List ℕ) → Read n ds cs r ≡ Read m es os q → Turn bytes rest r ds cs (number + (n + 1)) → Turn bytes rest q es os (number + (m + 1))

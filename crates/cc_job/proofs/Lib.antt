@@ -6,5 +6,3 @@ pub mod JobLaws
 pub mod ReadJobs
 pub mod WorkedJobs
 pub mod WorkedLimits
-pub mod UnbuiltLines
-pub mod UnbuiltLaws

@@ -1,5 +1,5 @@
 -- What reading comes to with enough steps: the job of bytes, or their bad line. Worked jobs are computed by it.
-use Rattle.std.proofs.Common.{◌≡◌, ℕ, zero, suc, ◌+◌, ◌<◌, ◌≤◌, Bool, true, false, cond, List, [], ◌∷◌, length, refl, sym, ap, ◌∙◌, subst, inl, inr, ◌⊎◌, arith}
+use Rattle.std.proofs.Common.{◌≡◌, ℕ, zero, suc, ◌+◌, ◌<◌, ◌≤◌, Bool, true, false, cond, List, [], ◌∷◌, length, refl, subst, inl, inr, ◌⊎◌, arith}
 use Rattle.std.specs.Str.{bytes_eq}
 use Rattle.cc_base.specs.declared.device.DeviceDecl.{DeviceDecl}
 use Rattle.cc_job.specs.declared.job.Job.{Job}
@@ -8,7 +8,7 @@ use Rattle.cc_words.specs.Lines.{lines_of, next_line}
 use Rattle.cc_job.specs.Jobs.{first_line, IsJob, IsBadAt, BytesAreAJobOrBad}
 use Rattle.cc_job.specs.Reading.{Next, Read, BadLine, CutShort, next_item}
 use Rattle.cc_job.proofs.Standing.{Stands, job_with}
-use Rattle.cc_job.proofs.JobLaws.{Turn, stands_more, stands_bad, stands_short, stands_whole, first_bad, first_good}
+use Rattle.cc_job.proofs.JobLaws.{stands_more, stands_bad, stands_short, stands_whole, first_bad, first_good}
 
 -- what reading comes to: a job, a bad line, the end of the bytes within a text, or nothing yet
 pub data Found : Type 0 where

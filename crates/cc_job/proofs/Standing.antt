@@ -28,7 +28,7 @@ names_of devices = map (λ device. device.name) devices
 abbrev pub items_in : List DeviceDecl → List Command → List Item
 items_in devices commands = map Declares devices ++ map Commands commands
 
-pub map-append : {A B : Type 0} (f : A → B) (xs ys : List A) → map f (xs ++ ys) ≡ map f xs ++ map f ys
+map-append : {A B : Type 0} (f : A → B) (xs ys : List A) → map f (xs ++ ys) ≡ map f xs ++ map f ys
 map-append f [] ys = refl
 map-append f (x ∷ xs) ys = ap (λ it. f x ∷ it) (map-append f xs ys)
 

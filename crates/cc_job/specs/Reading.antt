@@ -1,5 +1,5 @@
 -- Reading a job, step by step from its front.
-use Rattle.std.specs.Prelude.{◌≡◌, ℕ, ◌-◌, Bool, true, false, ◌&&◌, ◌||◌, not, ◌==◌, nat_le, nat_lt}
+use Rattle.std.specs.Prelude.{◌≡◌, ℕ, ◌-◌, Bool, true, ◌&&◌, ◌||◌, not, ◌==◌, nat_le, nat_lt}
 use Rattle.std.specs.Prelude.{List, [], ◌∷◌, ◌++◌, length, codes, Option, Some, None, if◌then◌else◌}
 use Rattle.std.specs.Option.{option_map}
 use Rattle.std.specs.List.{list_any}
@@ -15,7 +15,6 @@ use Rattle.cc_job.specs.declared.read.Step.{Step}
 use Rattle.cc_job.specs.declared.read.Step.TheVariants.{Read as ReadStep, BadLine as BadStep, CutShort as CutStep}
 use Rattle.cc_words.specs.Words.{◌>>=◌, split_at, first_and_rest, one_of, two_of, name_of, number_of, signed_of, all_of, pair_of}
 use Rattle.cc_words.specs.Lines.{Line, next_line, text_cut}
-use Rattle.cc_job.specs.Unbuilt.{is_built}
 pub use Rattle.cc_job.specs.Jobs.{covers}
 
 unfoldable pub is_schedule : ℕ → List ℕ → Bool
@@ -155,17 +154,6 @@ abbrev pub commands_with : List Command → Head → List ℕ → List Command
 commands_with commands (Device device) text = commands
 commands_with commands (PutHead name count) text = commands ++ Put name text ∷ []
 commands_with commands (CommandHead command) text = commands ++ command ∷ []
-
--- whether the last of the commands is not carried out
-abbrev pub ends_unbuilt : List Command → Bool
-ends_unbuilt [] = false
-ends_unbuilt (command ∷ []) = not (is_built command)
-ends_unbuilt (command ∷ other ∷ commands) = ends_unbuilt (other ∷ commands)
-
--- the line of the first command that is not carried out, where that of the last one is this
-abbrev pub first_unbuilt : Option ℕ → List Command → ℕ → Option ℕ
-first_unbuilt (Some number) commands line = Some number
-first_unbuilt None commands line = if ends_unbuilt commands then Some line else None
 
 -- What is read at the front: a line and so many behind it, with the devices and the commands then, and what stands
 -- behind; or the line begins no job; or the text of a put is cut short.

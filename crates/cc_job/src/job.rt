@@ -160,13 +160,6 @@ pub struct Job {
     pub commands: CommandList,
 }
 
-/// A job that was read, and the line of its first command that the program does not carry out, if there is one.
-#[derive(Drop)]
-pub struct JobReading {
-    pub job: Job,
-    pub unbuilt: Option<u32>,
-}
-
 /// Why bytes give no `Job`.
 #[derive(Clone, Copy, Debug, PartialEq, Eq)]
 pub enum JobError {

@@ -1,5 +1,4 @@
 ghost use Rattle.cc_job.specs.Jobs.{BytesAreAJobOrBad, BytesHaveOneJob, BytesHaveOneBadLine};
-ghost use Rattle.cc_job.specs.Unbuilt.{JobsAreBuiltOrNot, BuiltJobsHaveNoUnbuiltLine, JobsHaveOneUnbuiltLine};
 ghost use Rattle.cc_job.specs.LimitExamples as limit;
 ghost use Rattle.cc_job.specs.Examples.{ShortestJob, LongJob, NothingIsBad, TwoSpacesAreBad, MinusZeroIsBad, MissingTaskIsBad, LateDeviceIsBad, SecondNameIsBad, ShortTextIsBad, OpenTextIsBad};
 
@@ -16,13 +15,6 @@ pub fn bytes_have_one_job()
 /// Bytes that are no job have one bad line.
 pub fn bytes_have_one_bad_line()
     ensures { BytesHaveOneBadLine }
-{}
-
-/// A job has a first command that the program does not carry out, on one line, or the program carries all of them out.
-pub fn jobs_have_one_unbuilt_line()
-    ensures found { JobsAreBuiltOrNot }
-    ensures none { BuiltJobsHaveNoUnbuiltLine }
-    ensures one { JobsHaveOneUnbuiltLine }
 {}
 
 /// Worked jobs.

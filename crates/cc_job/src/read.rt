@@ -2,11 +2,10 @@
 
 ghost use Rattle.std.specs.Prelude.{◌≡◌, ◌+◌, ◌-◌, ◌^◌, ◌<◌, length, OnOk, IfOk};
 ghost use Rattle.cc_job.specs.Jobs.{ReadsJob};
-ghost use Rattle.cc_job.specs.Unbuilt.{is_built, ReadsMarked};
-ghost use Rattle.cc_job.specs.Reading.{text_size, ends_unbuilt, first_unbuilt, has_device, admits, is_admitted, devices_with, commands_with, next_item, IsStep};
+ghost use Rattle.cc_job.specs.Reading.{text_size, has_device, admits, is_admitted, devices_with, commands_with, next_item, IsStep};
 
 use crate::head::{Head, head_of};
-use crate::job::{Command, CommandList, DeviceList, Job, JobError, JobReading};
+use crate::job::{Command, CommandList, DeviceList, Job, JobError};
 use cc_base::device::DeviceDecl;
 use cc_base::text::Text;
 use cc_words::lines::{line_count, next_line, text_cut};
@@ -108,43 +107,12 @@ fn next_item<'a>(
     Ok(Step::Read(count, behind))
 }
 
-// Whether the program carries the command out.
-fn is_built(command: &Command) -> bool
-    ensures { result ≡ is_built command.now }
-{
-    match command {
-        Command::Put(_, _) | Command::Drop(_) | Command::Check | Command::Sig(_) => true,
-        Command::Derive(_, _) | Command::Run(_, _, _) | Command::Tasks(_, _, _) => false,
-    }
-}
-
-// Whether the program does not carry the last of the commands out.
-fn ends_unbuilt(commands: &[Command]) -> bool
-    ensures { result ≡ ends_unbuilt commands.now }
-{
-    match commands.last() {
-        Some(command) => !is_built(command),
-        None => false,
-    }
-}
-
-// The line of the first command that the program does not carry out, where that of the last one is this.
-fn first_unbuilt(earlier: Option<u32>, commands: &[Command], line: u32) -> Option<u32>
-    ensures { result ≡ first_unbuilt earlier commands.now line }
-{
-    if earlier.is_none() && ends_unbuilt(commands) {
-        Some(line)
-    } else {
-        earlier
-    }
-}
-
-/// The job whose text the bytes are, and the line of its first command that the program does not carry out.
+/// The job whose text the bytes are.
 ///
 /// Fails with `BadJob` exactly where they are the text of none, and for want of memory.
-pub fn read_marked(alloc: Global, bytes: &[u8]) -> Result<JobReading, JobError>
+pub fn read_job(alloc: Global, bytes: &[u8]) -> Result<Job, JobError>
     requires { length bytes.now < 4294967295 }
-    ensures { ReadsMarked bytes.now result }
+    ensures { ReadsJob bytes.now result }
 {
     let (first, behind) = next_line(bytes);
     if first != b"capc 1".as_slice() {
@@ -154,11 +122,9 @@ pub fn read_marked(alloc: Global, bytes: &[u8]) -> Result<JobReading, JobError>
     let mut commands = Vec::new(alloc);
     let mut rest = behind;
     let mut number: u32 = 1;
-    let mut unbuilt: Option<u32> = None;
     while !rest.is_empty() {
         match next_item(alloc, rest, &mut devices, &mut commands) {
             Ok(Step::Read(count, behind)) => {
-                unbuilt = first_unbuilt(unbuilt, commands.as_slice(), number + 1);
                 number += count + 1;
                 rest = behind;
             }
@@ -171,22 +137,8 @@ pub fn read_marked(alloc: Global, bytes: &[u8]) -> Result<JobReading, JobError>
             Err(AllocError) => return Err(JobError::NoMemory),
         }
     }
-    let job = Job {
+    Ok(Job {
         devices: DeviceList::new(devices),
         commands: CommandList::new(commands),
-    };
-    Ok(JobReading { job, unbuilt })
-}
-
-/// The job whose text the bytes are.
-///
-/// Fails with `BadJob` exactly where they are the text of none, and for want of memory.
-pub fn read_job(alloc: Global, bytes: &[u8]) -> Result<Job, JobError>
-    requires { length bytes.now < 4294967295 }
-    ensures { ReadsJob bytes.now result }
-{
-    match read_marked(alloc, bytes) {
-        Ok(reading) => Ok(reading.job),
-        Err(error) => Err(error),
-    }
+    })
 }

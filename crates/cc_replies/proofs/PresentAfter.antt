@@ -13,7 +13,8 @@ use Rattle.std.proofs.lemmas.Cmp.{on_total, nat_list_cmp_total}
 use Rattle.cc_graph.specs.Graph.{compare_names}
 use Rattle.cc_meta_modules.specs.PresentTexts.{Texts, ArePresent}
 use Rattle.cc_replies.specs.ReplyTexts.{is_refusal}
-use Rattle.cc_replies.specs.Replies.{PutText, DropModule, CheckModules, ShowSignature, put_reply}
+use Rattle.cc_replies.specs.Replies.{put_reply}
+use Rattle.cc_replies.specs.Requests.{PutText, DropModule, Ask}
 use Rattle.cc_replies.specs.Laws.{TextsStayPresent}
 
 names_total : IsTotalOrder compare_names
@@ -84,10 +85,9 @@ either_present true x y p q = p
 either_present false x y p q = q
 
 pub texts_stay_present : TextsStayPresent
-texts_stay_present texts (PutText name text) sorted =
-    either_present (is_refusal (put_reply texts name text)) texts (insert_entry compare_names texts name text) sorted
-    (sorted_put compare_names names_total name text texts sorted)
-texts_stay_present texts (DropModule name) sorted =
-    sorted_without compare_names (bytes_eq name) texts sorted
-texts_stay_present texts CheckModules sorted = sorted
-texts_stay_present texts (ShowSignature name) sorted = sorted
+texts_stay_present state (PutText name text) sorted =
+    either_present (is_refusal (put_reply state.texts name text)) state.texts (insert_entry compare_names state.texts name text) sorted
+    (sorted_put compare_names names_total name text state.texts sorted)
+texts_stay_present state (DropModule name) sorted =
+    sorted_without compare_names (bytes_eq name) state.texts sorted
+texts_stay_present state (Ask question) sorted = sorted

@@ -1,27 +1,26 @@
 -- A command has one reply.
-use Rattle.std.proofs.Common.{◌≡◌, ℕ, Bool, true, false, cond, List, [], ◌∷◌, map, Option, Some, None, refl, sym, ap, ◌∙◌, if◌then◌else◌}
+use Rattle.std.proofs.Common.{◌≡◌, ℕ, Bool, true, false, cond, List, [], ◌∷◌, map, Option, Some, None, Result, Ok, Err, refl, sym, ap, subst, ◌∙◌, if◌then◌else◌}
 use Rattle.std.specs.Option.{is_some}
 use Rattle.std.specs.Map.{lookup}
 use Rattle.std.specs.Str.{bytes_eq}
 use Rattle.std.proofs.lemmas.Slice.Eq.{bytes_eq-Decides}
-use Rattle.cc_meta_modules.specs.ModuleLaws.{VerdictsExist, VerdictsAreUnique}
-use Rattle.cc_meta_modules.specs.ModuleVerdicts.{ModuleVerdict}
-use Rattle.cc_meta_modules.specs.PresentTexts.{Texts, text_of}
-use Rattle.cc_replies.specs.ReplyTexts.{Reply, SignaturesRefused, Verdicts}
-use Rattle.cc_replies.specs.Replies.{PutText, DropModule, CheckModules, ShowSignature, put_reply, drop_reply}
-use Rattle.cc_replies.specs.Replies.{check_reply, definitions_reply, signature_reply}
-use Rattle.cc_replies.specs.Laws.{RepliesExist, RepliesAreUnique}
+use Rattle.cc_base.specs.declared.code.Code.{Code}
 use Rattle.cc_base.specs.declared.code.Code.TheVariants.{E32}
-
-pub replies_exist : VerdictsExist → RepliesExist
-replies_exist exist devices texts (PutText name text) differ sorted = (put_reply texts name text, refl)
-replies_exist exist devices texts (DropModule name) differ sorted = (drop_reply texts name, refl)
-replies_exist exist devices texts CheckModules differ sorted =
-    let (verdicts, are) = exist devices texts differ sorted in
-    (check_reply texts verdicts, (verdicts, are, refl))
-replies_exist exist devices texts (ShowSignature name) differ sorted =
-    let (verdicts, are) = exist devices texts differ sorted in
-    (signature_reply texts verdicts name, (verdicts, are, refl))
+use Rattle.cc_base.specs.declared.device.DeviceDecl.{DeviceDecl}
+use Rattle.cc_meta_entries.specs.PresentEntries.{CheckedEntry, started_in, IsEntryOf}
+use Rattle.cc_meta_entries.proofs.MadeEntries.{entries_exist}
+use Rattle.cc_meta_entries.proofs.AnyVerdicts.{started_definitions_are_one, entries_are_one}
+use Rattle.cc_meta_modules.specs.ModuleLaws.{NamesOfDevicesDiffer}
+use Rattle.cc_meta_modules.specs.ModuleVerdicts.{CheckedDefinition, ModuleVerdict}
+use Rattle.cc_meta_modules.specs.PresentTexts.{Texts, ArePresent, text_of, AreVerdicts}
+use Rattle.cc_meta_modules.specs.StandingDefinitions.{standing_in}
+use Rattle.cc_meta_modules.proofs.PresentLaws.{present_verdicts_exist, present_verdicts_are_unique}
+use Rattle.cc_meta_modules.proofs.FoundStanding.{found_by_texts}
+use Rattle.cc_replies.specs.ReplyTexts.{Reply, SignaturesRefused, Verdicts, RunRefused, TasksRefused}
+use Rattle.cc_replies.specs.Requests.{Question, CheckModules, ShowSignature, ShowDerivation, RunDefinition, RunTasks, PutText, DropModule, Ask}
+use Rattle.cc_replies.specs.Replies.{put_reply, drop_reply, check_reply, definitions_reply, signature_reply, derivation_reply, IsAnswer}
+use Rattle.cc_replies.specs.RunReplies.{declared_run, run_told, IsRunAnswer, Unstarted, unstarted_or, first_unstarted, HasEntry, HaveEntries, tasks_told, IsTasksAnswer}
+use Rattle.cc_replies.specs.Laws.{RepliesExist, RepliesAreUnique}
 
 pub some_of : {X : Type 0} (o : Option X) → is_some o ≡ true → (x : X) × (o ≡ Some x)
 some_of (Some x) h = (x, refl)
@@ -49,16 +48,120 @@ chosen_alike : (b : Bool) (x y z : Reply) → (b ≡ true → x ≡ y) → (if b
 chosen_alike true x y z h = h refl
 chosen_alike false x y z h = refl
 
-pub replies_are_unique : VerdictsAreUnique → RepliesAreUnique
-replies_are_unique unique devices texts (PutText name text) first second sorted a b = a ∙ sym b
-replies_are_unique unique devices texts (DropModule name) first second sorted a b = a ∙ sym b
-replies_are_unique unique devices texts CheckModules first second sorted a b =
-    let alike = listed_alike a.0 b.0 texts (λ name there. let found = some_of (text_of texts name) there in
-    unique devices texts a.0 b.0 sorted a.1 b.1 name found.0 found.1) in
-    a.2 ∙ ap Verdicts alike ∙ sym b.2
-replies_are_unique unique devices texts (ShowSignature name) first second sorted a b =
-    let alike = chosen_alike (is_some (text_of texts name)) (definitions_reply name (a.0 name))
-    (definitions_reply name (b.0 name)) (SignaturesRefused name E32)
-    (λ there. let found = some_of (text_of texts name) there in
-    ap (definitions_reply name) (unique devices texts a.0 b.0 sorted a.1 b.1 name found.0 found.1)) in
-    a.2 ∙ alike ∙ sym b.2
+-- the entries of definitions that are all to be started
+module _ (devices : List DeviceDecl) (texts : Texts) (verdicts : List ℕ → ModuleVerdict) (differ : NamesOfDevicesDiffer devices)
+    (sorted : ArePresent texts) (are : AreVerdicts devices texts verdicts) where
+  run_answer : (module_name name : List ℕ) (fuel : ℕ) (r : Result CheckedDefinition Code) → started_in texts verdicts module_name name ≡ r
+      → (reply : Reply) × IsRunAnswer devices texts verdicts module_name name fuel r reply
+  run_answer module_name name fuel (Ok started) e =
+      let (entry, is) = entries_exist devices texts verdicts differ sorted are module_name name started e in
+      (run_told module_name name entry.authority (declared_run devices fuel entry), (entry, is, refl))
+  run_answer module_name name fuel (Err code) e = (RunRefused module_name name code, refl)
+
+  entries_from : (tasks : List (List ℕ × List ℕ)) → first_unstarted texts verdicts tasks ≡ None
+      → (entries : List CheckedEntry) × HaveEntries devices texts verdicts tasks entries
+  entries_from [] e = ([], refl)
+  entries_from (first ∷ others) e = at (started_in texts verdicts first.0 first.1) refl e (entries_from others)
+    where
+      at : (r : Result CheckedDefinition Code) → started_in texts verdicts first.0 first.1 ≡ r
+          → unstarted_or first.0 first.1 r (first_unstarted texts verdicts others) ≡ None
+          → (first_unstarted texts verdicts others ≡ None → (entries : List CheckedEntry) × HaveEntries devices texts verdicts others entries)
+          → (entries : List CheckedEntry) × HaveEntries devices texts verdicts (first ∷ others) entries
+      at (Ok started) is none rest =
+          let (entry, of) = entries_exist devices texts verdicts differ sorted are first.0 first.1 started is in
+          let (later, have) = rest none in
+          (entry ∷ later, (entry, later, (started, is, of), have, refl))
+      at (Err code) is none rest = cc
+
+  tasks_answer : (fuel : ℕ) (schedule : List ℕ) (tasks : List (List ℕ × List ℕ)) (o : Option Unstarted) → first_unstarted texts verdicts tasks ≡ o
+      → (reply : Reply) × IsTasksAnswer devices texts verdicts fuel schedule tasks o reply
+  tasks_answer fuel schedule tasks (Some first) e = (TasksRefused first.code first.module_name first.name, refl)
+  tasks_answer fuel schedule tasks None e =
+      let (entries, have) = entries_from tasks e in (tasks_told devices fuel schedule entries, (entries, have, refl))
+
+  pub answers_exist : (question : Question) → (reply : Reply) × IsAnswer devices texts verdicts question reply
+  answers_exist CheckModules = (check_reply texts verdicts, refl)
+  answers_exist (ShowSignature name) = (signature_reply texts verdicts name, refl)
+  answers_exist (ShowDerivation module_name name) =
+      (derivation_reply devices module_name name (standing_in texts verdicts module_name name), refl)
+  answers_exist (RunDefinition module_name name fuel) = run_answer module_name name fuel (started_in texts verdicts module_name name) refl
+  answers_exist (RunTasks fuel schedule tasks) = tasks_answer fuel schedule tasks (first_unstarted texts verdicts tasks) refl
+
+pub replies_exist : RepliesExist
+replies_exist devices state (PutText name text) differ sorted = (put_reply state.texts name text, refl)
+replies_exist devices state (DropModule name) differ sorted = (drop_reply state.texts name, refl)
+replies_exist devices state (Ask question) differ sorted =
+    let (verdicts, are) = present_verdicts_exist devices state.texts differ sorted in
+    let (reply, is) = answers_exist devices state.texts verdicts differ sorted are question in
+    (reply, (verdicts, are, is))
+
+-- two functions that give the present modules their verdicts
+module _ (devices : List DeviceDecl) (texts : Texts) (first second : List ℕ → ModuleVerdict) (sorted : ArePresent texts)
+    (a : AreVerdicts devices texts first) (b : AreVerdicts devices texts second) where
+  agree : (name : List ℕ) → is_some (text_of texts name) ≡ true → first name ≡ second name
+  agree name there = let found = some_of (text_of texts name) there in
+      present_verdicts_are_unique devices texts first second sorted a b name found.0 found.1
+
+  started : (module_name name : List ℕ) → started_in texts first module_name name ≡ started_in texts second module_name name
+  started module_name name = started_definitions_are_one devices texts first second module_name name sorted a b
+
+  run_alike : (module_name name : List ℕ) (fuel : ℕ) (r s : Result CheckedDefinition Code) (one other : Reply)
+      → started_in texts first module_name name ≡ r → started_in texts second module_name name ≡ s → r ≡ s
+      → IsRunAnswer devices texts first module_name name fuel r one → IsRunAnswer devices texts second module_name name fuel s other → one ≡ other
+  run_alike module_name name fuel (Ok it) (Ok again) one other p q same x y =
+      let entry = entries_are_one devices texts first second module_name name it again x.0 y.0 sorted a b p q x.1 y.1 in
+      x.2 ∙ ap (λ e. run_told module_name name e.authority (declared_run devices fuel e)) entry ∙ sym y.2
+  run_alike module_name name fuel (Ok it) (Err code) one other p q same x y = cc
+  run_alike module_name name fuel (Err code) (Ok again) one other p q same x y = cc
+  run_alike module_name name fuel (Err code) (Err code') one other p q same x y =
+      x ∙ ap (λ r. RunRefused module_name name r) code_same ∙ sym y
+    where
+      code_same : code ≡ code'
+      code_same = cc
+
+  unstarted_alike : (tasks : List (List ℕ × List ℕ)) → first_unstarted texts first tasks ≡ first_unstarted texts second tasks
+  unstarted_alike [] = refl
+  unstarted_alike (one ∷ others) = λ i. unstarted_or one.0 one.1 (started one.0 one.1 i) (unstarted_alike others i)
+
+  entries_alike : (tasks : List (List ℕ × List ℕ)) (one other : List CheckedEntry) → HaveEntries devices texts first tasks one
+      → HaveEntries devices texts second tasks other → one ≡ other
+  entries_alike [] one other x y = x ∙ sym y
+  entries_alike (task ∷ others) one other x y =
+      let (entry, later, has, have, is) = x in
+      let (entry', later', has', have', is') = y in
+      let here = entries_are_one devices texts first second task.0 task.1 has.0 has'.0 entry entry' sorted a b has.1 has'.1 has.2 has'.2 in
+      let rest = entries_alike others later later' have have' in
+      is ∙ (λ i. here i ∷ rest i) ∙ sym is'
+
+  tasks_alike : (fuel : ℕ) (schedule : List ℕ) (tasks : List (List ℕ × List ℕ)) (o p : Option Unstarted) (one other : Reply) → o ≡ p
+      → IsTasksAnswer devices texts first fuel schedule tasks o one → IsTasksAnswer devices texts second fuel schedule tasks p other → one ≡ other
+  tasks_alike fuel schedule tasks (Some it) (Some again) one other same x y = x ∙ ap (λ u. TasksRefused u.code u.module_name u.name) it_same ∙ sym y
+    where
+      it_same : it ≡ again
+      it_same = cc
+  tasks_alike fuel schedule tasks (Some it) None one other same x y = cc
+  tasks_alike fuel schedule tasks None (Some again) one other same x y = cc
+  tasks_alike fuel schedule tasks None None one other same x y =
+      x.2 ∙ ap (tasks_told devices fuel schedule) (entries_alike tasks x.0 y.0 x.1 y.1) ∙ sym y.2
+
+  pub answers_alike : (question : Question) (one other : Reply) → IsAnswer devices texts first question one
+      → IsAnswer devices texts second question other → one ≡ other
+  answers_alike CheckModules one other x y = x ∙ ap Verdicts (listed_alike first second texts agree) ∙ sym y
+  answers_alike (ShowSignature name) one other x y =
+      let alike = chosen_alike (is_some (text_of texts name)) (definitions_reply name (first name))
+      (definitions_reply name (second name)) (SignaturesRefused name E32)
+      (λ there. ap (definitions_reply name) (agree name there)) in
+      x ∙ alike ∙ sym y
+  answers_alike (ShowDerivation module_name name) one other x y =
+      x ∙ ap (derivation_reply devices module_name name) (found_by_texts devices texts first second sorted a b module_name name) ∙ sym y
+  answers_alike (RunDefinition module_name name fuel) one other x y =
+      run_alike module_name name fuel (started_in texts first module_name name) (started_in texts second module_name name) one other
+      refl refl (started module_name name) x y
+  answers_alike (RunTasks fuel schedule tasks) one other x y =
+      tasks_alike fuel schedule tasks (first_unstarted texts first tasks) (first_unstarted texts second tasks) one other (unstarted_alike tasks) x y
+
+pub replies_are_unique : RepliesAreUnique
+replies_are_unique devices state (PutText name text) first second sorted a b = a ∙ sym b
+replies_are_unique devices state (DropModule name) first second sorted a b = a ∙ sym b
+replies_are_unique devices state (Ask question) first second sorted a b =
+    answers_alike devices state.texts a.0 b.0 sorted a.1 b.1 question first second a.2 b.2

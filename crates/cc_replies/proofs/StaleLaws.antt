@@ -9,12 +9,14 @@ use Rattle.cc_base.specs.declared.device.DeviceDecl.{DeviceDecl}
 use Rattle.cc_graph.specs.Graph.{reaches}
 use Rattle.cc_grammar.specs.Syntax.{ImportSyntax}
 use Rattle.cc_judge.specs.Judgements.{Judgement, judgement_in, judgements, is_stale, stale_count}
-use Rattle.cc_meta_modules.specs.ModuleLaws.{NamesOfDevicesDiffer, VerdictsExist, VerdictsAreUnique}
+use Rattle.cc_meta_modules.specs.ModuleLaws.{NamesOfDevicesDiffer}
+use Rattle.cc_meta_modules.proofs.PresentLaws.{present_verdicts_exist, present_verdicts_are_unique}
 use Rattle.cc_meta_modules.specs.ModuleVerdicts.{Finding, InCycle, NoModule, ModuleVerdict}
 use Rattle.cc_meta_modules.specs.PresentTexts.{Texts, ArePresent, text_of, graph_of, finding_in, finding_for, findings_for, AreVerdicts}
 use Rattle.cc_meta_modules.specs.Readings.{imports_of}
 use Rattle.cc_replies.specs.Laws.{StaleModulesAreCounted, StaleModulesAreCountedOnce}
-use Rattle.cc_replies.specs.Replies.{Request, PutText, DropModule, CheckModules, ShowSignature, after}
+use Rattle.cc_replies.specs.Replies.{after}
+use Rattle.cc_replies.specs.Requests.{Request, PutText, DropModule, Ask, JobState}
 use Rattle.cc_replies.specs.StaleModules.{Checks, FindsStale, AreStale}
 use Rattle.cc_replies.proofs.PresentAfter.{texts_stay_present}
 use Rattle.cc_replies.proofs.ReplyLaws.{some_of, found_first, found_later}
@@ -70,53 +72,49 @@ stale_alike : (last : List Judgement) (texts : Texts) (first second : List ℕ �
 stale_alike last texts first second agree =
     λ i. count_by (λ one. is_stale last one.0 one.1 (findings_alike texts first second agree one.0 one.1 i)) texts
 
-all_agree : VerdictsAreUnique → (devices : List DeviceDecl) (texts : Texts) (first second : List ℕ → ModuleVerdict) → ArePresent texts
+all_agree : (devices : List DeviceDecl) (texts : Texts) (first second : List ℕ → ModuleVerdict) → ArePresent texts
     → AreVerdicts devices texts first → AreVerdicts devices texts second → Agree texts first second
-all_agree unique devices texts first second sorted a b name there =
-    let found = some_of (text_of texts name) there in unique devices texts first second sorted a b name found.0 found.1
+all_agree devices texts first second sorted a b name there =
+    let found = some_of (text_of texts name) there in present_verdicts_are_unique devices texts first second sorted a b name found.0 found.1
 
 -- a request finds some number of modules stale
-pub finds_exist : VerdictsExist → (devices : List DeviceDecl) (texts : Texts) (last : List Judgement) (request : Request)
-    → NamesOfDevicesDiffer devices → ArePresent texts
-    → (count : ℕ) × (next : List Judgement) × FindsStale devices texts last request count next
-finds_exist exist devices texts last (PutText name text) differ sorted = (0, last, (refl, refl))
-finds_exist exist devices texts last (DropModule name) differ sorted = (0, last, (refl, refl))
-finds_exist exist devices texts last CheckModules differ sorted =
-    let (verdicts, are) = exist devices texts differ sorted in
-    (stale_count last texts verdicts, judgements texts verdicts, (verdicts, are, refl, refl))
-finds_exist exist devices texts last (ShowSignature name) differ sorted =
-    let (verdicts, are) = exist devices texts differ sorted in
-    (stale_count last texts verdicts, judgements texts verdicts, (verdicts, are, refl, refl))
+pub finds_exist : (devices : List DeviceDecl) (state : JobState) (last : List Judgement) (request : Request)
+    → NamesOfDevicesDiffer devices → ArePresent state.texts
+    → (count : ℕ) × (next : List Judgement) × FindsStale devices state last request count next
+finds_exist devices state last (PutText name text) differ sorted = (0, last, (refl, refl))
+finds_exist devices state last (DropModule name) differ sorted = (0, last, (refl, refl))
+finds_exist devices state last (Ask question) differ sorted =
+    let (verdicts, are) = present_verdicts_exist devices state.texts differ sorted in
+    (stale_count last state.texts verdicts, judgements state.texts verdicts, (verdicts, are, refl, refl))
 
-pub stale_exist : VerdictsExist → StaleModulesAreCounted
-stale_exist exist devices texts last [] differ sorted = (0, refl)
-stale_exist exist devices texts last (first ∷ others) differ sorted =
-    let (count, next, finds) = finds_exist exist devices texts last first differ sorted in
-    let (later, are) = stale_exist exist devices (after texts first) next others differ (texts_stay_present texts first sorted) in
+pub stale_exist : StaleModulesAreCounted
+stale_exist devices state last [] differ sorted = (0, refl)
+stale_exist devices state last (first ∷ others) differ sorted =
+    let (count, next, finds) = finds_exist devices state last first differ sorted in
+    let (later, are) = stale_exist devices (after state first) next others differ (texts_stay_present state first sorted) in
     (count + later, (count, next, later, finds, are, refl))
 
-checks_alike : VerdictsAreUnique → (devices : List DeviceDecl) (texts : Texts) (last : List Judgement) → ArePresent texts
+checks_alike : (devices : List DeviceDecl) (texts : Texts) (last : List Judgement) → ArePresent texts
     → (m n : ℕ) (a b : List Judgement) → Checks devices texts last m a → Checks devices texts last n b → (m ≡ n) × (a ≡ b)
-checks_alike unique devices texts last sorted m n a b p q =
-    let agree = all_agree unique devices texts p.0 q.0 sorted p.1 q.1 in (
+checks_alike devices texts last sorted m n a b p q =
+    let agree = all_agree devices texts p.0 q.0 sorted p.1 q.1 in (
       p.2 ∙ stale_alike last texts p.0 q.0 agree ∙ sym q.2,
       p.3 ∙ judgements_alike texts p.0 q.0 agree ∙ sym q.3,
     )
 
-finds_alike : VerdictsAreUnique → (devices : List DeviceDecl) (texts : Texts) (last : List Judgement) (request : Request) → ArePresent texts
-    → (m n : ℕ) (a b : List Judgement) → FindsStale devices texts last request m a → FindsStale devices texts last request n b
+finds_alike : (devices : List DeviceDecl) (state : JobState) (last : List Judgement) (request : Request) → ArePresent state.texts
+    → (m n : ℕ) (a b : List Judgement) → FindsStale devices state last request m a → FindsStale devices state last request n b
     → (m ≡ n) × (a ≡ b)
-finds_alike unique devices texts last (PutText name text) sorted m n a b p q = (p.0 ∙ sym q.0, p.1 ∙ sym q.1)
-finds_alike unique devices texts last (DropModule name) sorted m n a b p q = (p.0 ∙ sym q.0, p.1 ∙ sym q.1)
-finds_alike unique devices texts last CheckModules sorted m n a b p q = checks_alike unique devices texts last sorted m n a b p q
-finds_alike unique devices texts last (ShowSignature name) sorted m n a b p q = checks_alike unique devices texts last sorted m n a b p q
+finds_alike devices state last (PutText name text) sorted m n a b p q = (p.0 ∙ sym q.0, p.1 ∙ sym q.1)
+finds_alike devices state last (DropModule name) sorted m n a b p q = (p.0 ∙ sym q.0, p.1 ∙ sym q.1)
+finds_alike devices state last (Ask question) sorted m n a b p q = checks_alike devices state.texts last sorted m n a b p q
 
-pub stale_is_one : VerdictsAreUnique → StaleModulesAreCountedOnce
-stale_is_one unique devices texts last [] first second sorted a b = a ∙ sym b
-stale_is_one unique devices texts last (one ∷ others) first second sorted a b =
+pub stale_is_one : StaleModulesAreCountedOnce
+stale_is_one devices state last [] first second sorted a b = a ∙ sym b
+stale_is_one devices state last (one ∷ others) first second sorted a b =
     let (m, next, later, finds, are, sum) = a in
     let (n, next', later', finds', are', sum') = b in
-    let same = finds_alike unique devices texts last one sorted m n next next' finds finds' in
-    let moved = subst (λ js. AreStale devices (after texts one) js others later) same.1 are in
-    let rest = stale_is_one unique devices (after texts one) next' others later later' (texts_stay_present texts one sorted) moved are' in
+    let same = finds_alike devices state last one sorted m n next next' finds finds' in
+    let moved = subst (λ js. AreStale devices (after state one) js others later) same.1 are in
+    let rest = stale_is_one devices (after state one) next' others later later' (texts_stay_present state one sorted) moved are' in
     sum ∙ (λ i. same.0 i + rest i) ∙ sym sum'

@@ -14,7 +14,8 @@ use Rattle.cc_base.specs.Literals.{UnitLiteral}
 use Rattle.cc_meta_modules.specs.ModuleVerdicts.{CheckedDefinition, IsAccepted, IsRefused}
 use Rattle.cc_replies.specs.ReplyTexts.{PutDone, PutRefused, DropDone, DropRefused, Verdicts, Signatures}
 use Rattle.cc_replies.specs.ReplyTexts.{SignaturesRefused, line, reply_text, is_refusal}
-use Rattle.cc_replies.specs.Replies.{PutText, DropModule, put_reply, after}
+use Rattle.cc_replies.specs.Replies.{put_reply, texts_after}
+use Rattle.cc_replies.specs.Requests.{PutText, DropModule, no_module}
 use Rattle.cc_replies.specs.Outputs.{IsOutput}
 use lib.Utf8.{encode}
 
@@ -79,13 +80,13 @@ other_text = refl
 
 -- texts stand in order of name, and a module has the last one that was put
 pub in_order :
-    after (after (after [] (PutText b [])) (PutText a [])) (PutText b (32 ∷ [])) ≡ (a, []) ∷ (b, 32 ∷ []) ∷ []
+    texts_after (texts_after (texts_after [] (PutText b [])) (PutText a [])) (PutText b (32 ∷ [])) ≡ (a, []) ∷ (b, 32 ∷ []) ∷ []
 unfolding encode
 in_order = refl
 
 -- what is removed is not there any more
 pub removed_twice :
-    IsOutput [] [] (PutText a [] ∷ DropModule a ∷ DropModule a ∷ [])
+    IsOutput [] no_module (PutText a [] ∷ DropModule a ∷ DropModule a ∷ [])
     (line (codes "put a") ++ line (codes "drop a") ++ line (codes "drop a refused E32")) true
 unfolding encode
 removed_twice = (

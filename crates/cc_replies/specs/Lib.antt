@@ -3,6 +3,9 @@ pub mod Examples
 pub mod Laws
 pub mod Outputs
 pub mod Replies
+pub mod Requests
+pub mod RunReplies
+pub mod RunTexts
 pub mod ReplyTexts
 pub mod StaleModules
 pub mod RefusalExamples

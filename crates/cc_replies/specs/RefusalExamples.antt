@@ -6,13 +6,13 @@ use Rattle.cc_base.specs.Texts.{code_text}
 use Rattle.cc_base.specs.declared.code.Code.TheVariants as code
 use Rattle.cc_meta_modules.specs.PresentTexts.{Texts}
 use Rattle.cc_replies.specs.ReplyTexts.{line}
-use Rattle.cc_replies.specs.Replies.{Request, PutText, DropModule, CheckModules, ShowSignature}
+use Rattle.cc_replies.specs.Requests.{CheckModules, ShowSignature, Request, PutText, DropModule, Ask, holding}
 use Rattle.cc_replies.specs.Outputs.{IsOutput}
 
 -- the request alone, where these texts are present and no device is declared: the lines are written, and tell of a
 -- refusal or of none
 abbrev pub Answers : Texts → Request → List (List ℕ) → Bool → Type 0
-Answers texts request lines refused = IsOutput [] texts (request ∷ []) (flat_map line lines) refused
+Answers texts request lines refused = IsOutput [] (holding texts) (request ∷ []) (flat_map line lines) refused
 
 abbrev pub m : List ℕ
 m = codes "m"
@@ -36,21 +36,21 @@ abbrev pub AbsentIsNotDropped : Type 0
 AbsentIsNotDropped = Answers [] (DropModule m) (codes "drop m refused E32" ∷ []) true
 
 abbrev pub AbsentHasNoSignature : Type 0
-AbsentHasNoSignature = Answers [] (ShowSignature m) (codes "sig m refused E32" ∷ []) true
+AbsentHasNoSignature = Answers [] (Ask (ShowSignature m)) (codes "sig m refused E32" ∷ []) true
 
 -- no module is present
 abbrev pub NothingIsRefused : Type 0
-NothingIsRefused = Answers [] CheckModules (codes "check" ∷ []) false
+NothingIsRefused = Answers [] (Ask CheckModules) (codes "check" ∷ []) false
 
 -- a text that is no module: it is checked, or its signature is asked for
 abbrev pub no_module : Texts
 no_module = (m, codes "def f = 1 2") ∷ []
 
 abbrev pub NoModuleIsRefused : Type 0
-NoModuleIsRefused = Answers no_module CheckModules (codes "check" ∷ codes "  m E03 1:11" ∷ []) true
+NoModuleIsRefused = Answers no_module (Ask CheckModules) (codes "check" ∷ codes "  m E03 1:11" ∷ []) true
 
 abbrev pub RefusedHasNoSignature : Type 0
-RefusedHasNoSignature = Answers no_module (ShowSignature m) (codes "sig m refused E34" ∷ []) true
+RefusedHasNoSignature = Answers no_module (Ask (ShowSignature m)) (codes "sig m refused E34" ∷ []) true
 
 -- Two modules that import from each other are in a cycle, as one that imports from itself is. One that imports from
 -- them is in none, and is refused since they are.
@@ -61,7 +61,7 @@ cycle =
 
 abbrev pub CyclesAreRefused : Type 0
 CyclesAreRefused =
-    Answers cycle CheckModules
+    Answers cycle (Ask CheckModules)
     (codes "check" ∷ codes "  a E08 1:8" ∷ codes "  b E08 1:8" ∷ codes "  c E08 1:8" ∷ codes "  d E07 1:8" ∷ []) true
 
 -- Of two imports the first for which nothing is found decides, at its module's name.
@@ -70,7 +70,7 @@ two_imports = (codes "a", codes "def f = 1 2") ∷ (codes "b", codes "import a.f
 
 abbrev pub RefusedBeforeAbsent : Type 0
 RefusedBeforeAbsent =
-    Answers two_imports CheckModules (codes "check" ∷ codes "  a E03 1:11" ∷ codes "  b E07 1:8" ∷ []) true
+    Answers two_imports (Ask CheckModules) (codes "check" ∷ codes "  a E03 1:11" ∷ codes "  b E07 1:8" ∷ []) true
 
 -- how each code is written
 pub code_texts :

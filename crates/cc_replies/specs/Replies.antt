@@ -1,23 +1,25 @@
 -- What is answered to a command, where these modules are present.
-use Rattle.std.specs.Prelude.{◌≡◌, ℕ, not, nat_le, nat_lt, List, length, map, count_by, if◌then◌else◌}
+use Rattle.std.specs.Prelude.{◌≡◌, ℕ, not, nat_le, nat_lt, List, length, map, count_by, Result, Ok, Err, if◌then◌else◌}
 use Rattle.std.specs.BTreeMap.{insert_entry}
 use Rattle.std.specs.Map.{remove_entry}
 use Rattle.std.specs.Option.{is_some}
 use Rattle.std.specs.Str.{bytes_eq}
-use Rattle.cc_base.specs.declared.code.Code.TheVariants.{E30, E31, E32, E34}
+use Rattle.cc_base.specs.declared.code.Code.{Code}
+use Rattle.cc_base.specs.declared.code.Code.TheVariants.{E30, E31, E32, E34, E36}
 use Rattle.cc_base.specs.declared.device.DeviceDecl.{DeviceDecl}
+use Rattle.cc_certificate.specs.DefinitionCertificates.{definition_certificate_lines}
 use Rattle.cc_graph.specs.Graph.{compare_names}
+use Rattle.cc_meta_checking.specs.CanonicalLaws.{accepted_derived}
+use Rattle.cc_meta_entries.specs.PresentEntries.{started_in}
 use Rattle.cc_meta_modules.specs.ModuleVerdicts.{ModuleVerdict, IsAccepted, IsRefused}
 use Rattle.cc_meta_modules.specs.PresentTexts.{Texts, text_of, AreVerdicts}
+use Rattle.cc_meta_modules.specs.StandingDefinitions.{Standing, standing_context, standing_names, standing_in}
 use Rattle.cc_replies.specs.ReplyTexts.{Reply, PutDone, PutRefused, DropDone, DropRefused, Verdicts, Signatures}
-use Rattle.cc_replies.specs.ReplyTexts.{SignaturesRefused, is_refusal}
-
--- A command: a module gets a text; a module is removed; all are checked; the signature of a module is shown.
-pub data Request : Type 0 where
-  PutText : (name text : List ℕ) → Request
-  DropModule : (name : List ℕ) → Request
-  CheckModules : Request
-  ShowSignature : (name : List ℕ) → Request
+use Rattle.cc_replies.specs.ReplyTexts.{SignaturesRefused, Derived, DerivationRefused, is_refusal}
+use Rattle.cc_replies.specs.Requests.{Question, CheckModules, ShowSignature, ShowDerivation, RunDefinition, RunTasks}
+use Rattle.cc_replies.specs.Requests.{Request, PutText, DropModule, Ask, JobState}
+use Rattle.cc_replies.specs.RunReplies.{IsRunAnswer, first_unstarted, IsTasksAnswer}
+use Rattle.cc_sets.specs.DerivationSizes.{nodes}
 
 -- how many modules of other names are present
 abbrev pub other_modules : Texts → List ℕ → ℕ
@@ -47,20 +49,50 @@ abbrev pub signature_reply : Texts → (List ℕ → ModuleVerdict) → List ℕ
 signature_reply texts verdicts name =
     if is_some (text_of texts name) then definitions_reply name (verdicts name) else SignaturesRefused name E32
 
--- What is answered, beside the devices and where these texts are present.
-abbrev pub Replies : List DeviceDecl → Texts → Request → Reply → Type 0
-Replies devices texts (PutText name text) reply = reply ≡ put_reply texts name text
-Replies devices texts (DropModule name) reply = reply ≡ drop_reply texts name
-Replies devices texts CheckModules reply =
-    (verdicts : List ℕ → ModuleVerdict) × AreVerdicts devices texts verdicts × (reply ≡ check_reply texts verdicts)
-Replies devices texts (ShowSignature name) reply =
-    (verdicts : List ℕ → ModuleVerdict) × AreVerdicts devices texts verdicts
-    × (reply ≡ signature_reply texts verdicts name)
+-- how many nodes the canonical derivation of a definition has where it stands
+abbrev pub derivation_size : List DeviceDecl → Standing → ℕ
+derivation_size devices it = nodes (accepted_derived (standing_context devices it) it.definition.accepted)
 
--- The texts that are present after a command. One that is refused changes nothing.
-abbrev pub after : Texts → Request → Texts
-after texts (PutText name text) =
+-- the lines of its certificate, where derivations of more than 100,000 nodes are not shown
+abbrev pub derivation_told : List DeviceDecl → List ℕ → List ℕ → Standing → Reply
+derivation_told devices module_name name it =
+    if nat_le (derivation_size devices it) 100000
+    then Derived module_name name
+    (definition_certificate_lines (standing_names devices it) (standing_context devices it) it.definition.accepted)
+    else DerivationRefused module_name name E36
+
+-- the certificate of a definition, or why there is none
+abbrev pub derivation_reply : List DeviceDecl → List ℕ → List ℕ → Result Standing Code → Reply
+derivation_reply devices module_name name (Ok it) = derivation_told devices module_name name it
+derivation_reply devices module_name name (Err code) = DerivationRefused module_name name code
+
+-- What is answered to a question, beside the devices and where present modules have these texts and these verdicts.
+abbrev pub IsAnswer : List DeviceDecl → Texts → (List ℕ → ModuleVerdict) → Question → Reply → Type 0
+IsAnswer devices texts verdicts CheckModules reply = reply ≡ check_reply texts verdicts
+IsAnswer devices texts verdicts (ShowSignature name) reply = reply ≡ signature_reply texts verdicts name
+IsAnswer devices texts verdicts (ShowDerivation module_name name) reply =
+    reply ≡ derivation_reply devices module_name name (standing_in texts verdicts module_name name)
+IsAnswer devices texts verdicts (RunDefinition module_name name fuel) reply =
+    IsRunAnswer devices texts verdicts module_name name fuel (started_in texts verdicts module_name name) reply
+IsAnswer devices texts verdicts (RunTasks fuel schedule tasks) reply =
+    IsTasksAnswer devices texts verdicts fuel schedule tasks (first_unstarted texts verdicts tasks) reply
+
+-- What is answered to a command, beside the devices and in this state. A question is answered by the verdicts that the
+-- present texts have.
+abbrev pub Replies : List DeviceDecl → JobState → Request → Reply → Type 0
+Replies devices state (PutText name text) reply = reply ≡ put_reply state.texts name text
+Replies devices state (DropModule name) reply = reply ≡ drop_reply state.texts name
+Replies devices state (Ask question) reply =
+    (verdicts : List ℕ → ModuleVerdict) × AreVerdicts devices state.texts verdicts
+    × IsAnswer devices state.texts verdicts question reply
+
+-- The texts that are present after a command. One that is refused changes nothing, and neither does a question.
+abbrev pub texts_after : Texts → Request → Texts
+texts_after texts (PutText name text) =
     if is_refusal (put_reply texts name text) then texts else insert_entry compare_names texts name text
-after texts (DropModule name) = remove_entry (bytes_eq name) texts
-after texts CheckModules = texts
-after texts (ShowSignature name) = texts
+texts_after texts (DropModule name) = remove_entry (bytes_eq name) texts
+texts_after texts (Ask question) = texts
+
+-- the state after a command
+abbrev pub after : JobState → Request → JobState
+after state request = record { texts = texts_after state.texts request }

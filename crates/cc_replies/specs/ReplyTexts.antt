@@ -4,11 +4,17 @@ use Rattle.std.specs.List.{flat_map, list_any}
 use Rattle.cc_base.specs.Texts.{code_text, place_text}
 use Rattle.cc_base.specs.declared.code.Code.{Code}
 use Rattle.cc_base.specs.declared.place.Place.{Place}
+use Rattle.cc_device.specs.Endings.{Done, OutOfFuel}
+use Rattle.cc_device.specs.Events.{Event}
 use Rattle.cc_print.specs.TypeTexts.{type_text}
+use Rattle.cc_meta_runs.specs.Interleavings.{Report}
+use Rattle.cc_meta_runs.specs.Runs.{Ending, Ends, IsStopped}
 use Rattle.cc_meta_modules.specs.ModuleVerdicts.{CheckedDefinition, ModuleVerdict, IsAccepted, IsRefused}
+use Rattle.cc_replies.specs.RunTexts.{run_lines, task_lines}
 
 -- What is answered to a command: the module was put, or was removed, or that was refused; the verdicts of modules; the
--- definitions of an accepted module, or why they are not shown.
+-- definitions of an accepted module; the lines of the certificate of a definition; the devices that a run may operate,
+-- its events, its end and its steps; the same of tasks that ran interleaved; or why one of these is not shown.
 pub data Reply : Type 0 where
   PutDone : (name : List ℕ) → Reply
   PutRefused : (name : List ℕ) (code : Code) → Reply
@@ -17,6 +23,12 @@ pub data Reply : Type 0 where
   Verdicts : (verdicts : List (List ℕ × ModuleVerdict)) → Reply
   Signatures : (name : List ℕ) (definitions : List CheckedDefinition) → Reply
   SignaturesRefused : (name : List ℕ) (code : Code) → Reply
+  Derived : (module_name name : List ℕ) (lines : List (List ℕ)) → Reply
+  DerivationRefused : (module_name name : List ℕ) (code : Code) → Reply
+  Ran : (module_name name : List ℕ) (authority : List ℕ) (events : List Event) (ending : Ending) (steps : ℕ) → Reply
+  RunRefused : (module_name name : List ℕ) (code : Code) → Reply
+  TasksRan : (authorities : List (List ℕ)) (report : Report) → Reply
+  TasksRefused : (code : Code) (module_name name : List ℕ) → Reply
 
 -- a line is its text and a line feed
 abbrev pub line : List ℕ → List ℕ
@@ -30,6 +42,23 @@ head word name = line (word ++ codes " " ++ encode_utf8_all name)
 abbrev pub refused_head : List ℕ → List ℕ → Code → List ℕ
 refused_head word name code = line (word ++ codes " " ++ encode_utf8_all name ++ codes " refused " ++ code_text code)
 
+-- a line behind the head
+abbrev pub inner_line : List ℕ → List ℕ
+inner_line text = line (codes "  " ++ text)
+
+-- the names of a module and of its definition, with a point between them
+abbrev pub pair_text : List ℕ → List ℕ → List ℕ
+pair_text module_name name = encode_utf8_all module_name ++ codes "." ++ encode_utf8_all name
+
+-- the head line of a command about a definition
+abbrev pub pair_head : List ℕ → List ℕ → List ℕ → List ℕ
+pair_head word module_name name = line (word ++ codes " " ++ pair_text module_name name)
+
+-- the same of a command that is refused
+abbrev pub refused_pair_head : List ℕ → List ℕ → List ℕ → Code → List ℕ
+refused_pair_head word module_name name code =
+    line (word ++ codes " " ++ pair_text module_name name ++ codes " refused " ++ code_text code)
+
 -- a refusal: its code and its place
 abbrev pub refusal_text : Code → Place → List ℕ
 refusal_text code at = code_text code ++ codes " " ++ place_text at
@@ -41,12 +70,12 @@ verdict_text (IsRefused code at) = refusal_text code at
 
 -- a line for each module
 abbrev pub verdict_line : List ℕ × ModuleVerdict → List ℕ
-verdict_line one = line (codes "  " ++ encode_utf8_all one.0 ++ codes " " ++ verdict_text one.1)
+verdict_line one = inner_line (encode_utf8_all one.0 ++ codes " " ++ verdict_text one.1)
 
 -- a line for each definition, where the first free positions have these names
 abbrev pub signature_line : List (List ℕ) → CheckedDefinition → List ℕ
 signature_line names one =
-    line (codes "  " ++ encode_utf8_all one.name ++ codes ": " ++ type_text names 0 one.accepted.signature)
+    inner_line (encode_utf8_all one.name ++ codes ": " ++ type_text names 0 one.accepted.signature)
 
 -- the text of a reply where the devices have these names
 abbrev pub reply_text : List (List ℕ) → Reply → List ℕ
@@ -58,13 +87,30 @@ reply_text names (Verdicts verdicts) = line (codes "check") ++ flat_map verdict_
 reply_text names (Signatures name definitions) =
     head (codes "sig") name ++ flat_map (signature_line names) definitions
 reply_text names (SignaturesRefused name code) = refused_head (codes "sig") name code
+reply_text names (Derived module_name name lines) =
+    pair_head (codes "derive") module_name name ++ flat_map inner_line lines
+reply_text names (DerivationRefused module_name name code) =
+    refused_pair_head (codes "derive") module_name name code
+reply_text names (Ran module_name name authority events ending steps) =
+    pair_head (codes "run") module_name name ++ flat_map inner_line (run_lines names authority events ending steps)
+reply_text names (RunRefused module_name name code) = refused_pair_head (codes "run") module_name name code
+reply_text names (TasksRan authorities report) =
+    line (codes "tasks") ++ flat_map inner_line (task_lines names authorities report)
+reply_text names (TasksRefused code module_name name) =
+    line (codes "tasks refused " ++ code_text code ++ codes " " ++ pair_text module_name name)
 
 -- the module is refused
 abbrev pub is_refused : ModuleVerdict → Bool
 is_refused (IsAccepted definitions) = false
 is_refused (IsRefused code at) = true
 
--- The reply tells of a refusal: that of the command, or of a module.
+-- the run did not come to its end
+abbrev pub is_unfinished : Ending → Bool
+is_unfinished (Ends (Done shown)) = false
+is_unfinished (Ends OutOfFuel) = true
+is_unfinished IsStopped = true
+
+-- The reply tells of a refusal: that of the command, or of a module, or that the fuel of a run or a task ran out.
 abbrev pub is_refusal : Reply → Bool
 is_refusal (PutDone name) = false
 is_refusal (PutRefused name code) = true
@@ -73,3 +119,9 @@ is_refusal (DropRefused name code) = true
 is_refusal (Verdicts verdicts) = list_any (λ one. is_refused one.1) verdicts
 is_refusal (Signatures name definitions) = false
 is_refusal (SignaturesRefused name code) = true
+is_refusal (Derived module_name name lines) = false
+is_refusal (DerivationRefused module_name name code) = true
+is_refusal (Ran module_name name authority events ending steps) = is_unfinished ending
+is_refusal (RunRefused module_name name code) = true
+is_refusal (TasksRan authorities report) = list_any (λ it. is_unfinished it.0) report.ends
+is_refusal (TasksRefused code module_name name) = true

@@ -3,19 +3,19 @@ use Rattle.std.specs.Prelude.{◌≡◌, ℕ, List, [], ◌∷◌, codes}
 use Rattle.cc_base.specs.declared.device.DeviceDecl.{DeviceDecl}
 use Rattle.cc_judge.specs.Judgements.{Judgement}
 use Rattle.cc_meta_modules.specs.PresentTexts.{Texts}
-use Rattle.cc_replies.specs.Replies.{Request, PutText, DropModule, CheckModules, ShowSignature}
+use Rattle.cc_replies.specs.Requests.{CheckModules, ShowSignature, PutText, DropModule, Ask, JobState, no_module}
 use Rattle.cc_replies.specs.StaleModules.{FindsStale, AreStale}
 
 -- putting and removing a module finds none stale, and leaves the judgements as they were
 abbrev pub PutsFindNoneStale : Type 0
 PutsFindNoneStale =
-    (devices : List DeviceDecl) (texts : Texts) (last : List Judgement) (name text : List ℕ)
-    → FindsStale devices texts last (PutText name text) 0 last
+    (devices : List DeviceDecl) (state : JobState) (last : List Judgement) (name text : List ℕ)
+    → FindsStale devices state last (PutText name text) 0 last
 
 abbrev pub DropsFindNoneStale : Type 0
 DropsFindNoneStale =
-    (devices : List DeviceDecl) (texts : Texts) (last : List Judgement) (name : List ℕ)
-    → FindsStale devices texts last (DropModule name) 0 last
+    (devices : List DeviceDecl) (state : JobState) (last : List Judgement) (name : List ℕ)
+    → FindsStale devices state last (DropModule name) 0 last
 
 abbrev pub m : List ℕ
 m = codes "m"
@@ -24,17 +24,17 @@ m = codes "m"
 -- the first check and the last one find it stale.
 abbrev pub TwoOfFourChecks : Type 0
 TwoOfFourChecks =
-    AreStale [] [] []
-    (PutText m [] ∷ CheckModules ∷ CheckModules ∷ PutText m [] ∷ CheckModules ∷ PutText m (codes " ") ∷ CheckModules
+    AreStale [] no_module []
+    (PutText m [] ∷ Ask CheckModules ∷ Ask CheckModules ∷ PutText m [] ∷ Ask CheckModules ∷ PutText m (codes " ") ∷ Ask CheckModules
     ∷ []) 2
 
 -- A module that was removed and put again with its text is not stale where no check stood between. A request for
 -- signatures checks too.
 abbrev pub PutAgainBeforeACheck : Type 0
 PutAgainBeforeACheck =
-    AreStale [] [] [] (PutText m [] ∷ ShowSignature m ∷ DropModule m ∷ PutText m [] ∷ CheckModules ∷ []) 1
+    AreStale [] no_module [] (PutText m [] ∷ Ask (ShowSignature m) ∷ DropModule m ∷ PutText m [] ∷ Ask CheckModules ∷ []) 1
 
 -- one where a check stood between
 abbrev pub PutAgainBehindACheck : Type 0
 PutAgainBehindACheck =
-    AreStale [] [] [] (PutText m [] ∷ CheckModules ∷ DropModule m ∷ CheckModules ∷ PutText m [] ∷ CheckModules ∷ []) 2
+    AreStale [] no_module [] (PutText m [] ∷ Ask CheckModules ∷ DropModule m ∷ Ask CheckModules ∷ PutText m [] ∷ Ask CheckModules ∷ []) 2

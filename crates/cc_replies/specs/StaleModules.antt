@@ -4,7 +4,8 @@ use Rattle.cc_base.specs.declared.device.DeviceDecl.{DeviceDecl}
 use Rattle.cc_judge.specs.Judgements.{Judgement, judgements, stale_count}
 use Rattle.cc_meta_modules.specs.ModuleVerdicts.{ModuleVerdict}
 use Rattle.cc_meta_modules.specs.PresentTexts.{Texts, AreVerdicts}
-use Rattle.cc_replies.specs.Replies.{Request, PutText, DropModule, CheckModules, ShowSignature, after}
+use Rattle.cc_replies.specs.Requests.{Request, PutText, DropModule, Ask, JobState}
+use Rattle.cc_replies.specs.Replies.{after}
 
 -- A check of the present texts, where these were the judgements of the check before: so many modules are stale, and the
 -- next judgements are those of the present texts.
@@ -13,17 +14,16 @@ Checks devices texts last count next =
     (verdicts : List ℕ → ModuleVerdict) × AreVerdicts devices texts verdicts
     × (count ≡ stale_count last texts verdicts) × (next ≡ judgements texts verdicts)
 
--- How many modules a command's check finds stale, and the judgements after it. A command that puts or removes a module
--- checks nothing.
-abbrev pub FindsStale : List DeviceDecl → Texts → List Judgement → Request → ℕ → List Judgement → Type 0
-FindsStale devices texts last (PutText name text) count next = (count ≡ 0) × (next ≡ last)
-FindsStale devices texts last (DropModule name) count next = (count ≡ 0) × (next ≡ last)
-FindsStale devices texts last CheckModules count next = Checks devices texts last count next
-FindsStale devices texts last (ShowSignature name) count next = Checks devices texts last count next
+-- How many modules a command's check finds stale, and the judgements after it. All but commands that put or remove a
+-- module check.
+abbrev pub FindsStale : List DeviceDecl → JobState → List Judgement → Request → ℕ → List Judgement → Type 0
+FindsStale devices state last (PutText name text) count next = (count ≡ 0) × (next ≡ last)
+FindsStale devices state last (DropModule name) count next = (count ≡ 0) × (next ≡ last)
+FindsStale devices state last (Ask question) count next = Checks devices state.texts last count next
 
--- how many modules all commands together find stale, where these texts are present before the first
-abbrev pub AreStale : List DeviceDecl → Texts → List Judgement → List Request → ℕ → Type 0
-AreStale devices texts last [] sum = sum ≡ 0
-AreStale devices texts last (first ∷ others) sum =
-    (count : ℕ) × (next : List Judgement) × (later : ℕ) × FindsStale devices texts last first count next
-    × AreStale devices (after texts first) next others later × (sum ≡ count + later)
+-- how many modules all commands together find stale, in this state before the first
+abbrev pub AreStale : List DeviceDecl → JobState → List Judgement → List Request → ℕ → Type 0
+AreStale devices state last [] sum = sum ≡ 0
+AreStale devices state last (first ∷ others) sum =
+    (count : ℕ) × (next : List Judgement) × (later : ℕ) × FindsStale devices state last first count next
+    × AreStale devices (after state first) next others later × (sum ≡ count + later)

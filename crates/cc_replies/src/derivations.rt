@@ -1,12 +1,13 @@
 //! The reply to a command that shows the derivation of a definition.
 
-ghost use Rattle.std.specs.Prelude.{◌≡◌, IfOk, option_map};
+ghost use Rattle.std.specs.Prelude.{◌≡◌, [], IfOk, option_map};
 ghost use Rattle.std.specs.String.{string_bytes};
 ghost use Rattle.cc_certificate.specs.DefinitionCertificates.{definition_certificate_lines};
 ghost use Rattle.cc_check.specs.Definitions.{accepted_of};
 ghost use Rattle.cc_core.specs.Views.{context_of};
 ghost use Rattle.cc_derive.specs.Accepting.{IsAcceptedIn};
-ghost use Rattle.cc_replies.specs.DerivationTexts.{derivation_text, refused_derivation_text, shown_derivation};
+ghost use Rattle.cc_replies.specs.DerivationTexts.{shown_derivation};
+ghost use Rattle.cc_replies.specs.ReplyTexts.{Derived, DerivationRefused, reply_text};
 
 use cc_base::code::Code;
 use cc_base::name::Name;
@@ -26,7 +27,7 @@ fn whole_reply(
     checked: &Checked,
 ) -> Result<String, AllocError>
     requires { IsAcceptedIn (context_of ctx.now) checked.now }
-    ensures { IfOk result (λ text. string_bytes text ≡ derivation_text «module».now def.now (definition_certificate_lines names.now.names.items (context_of ctx.now) (accepted_of checked.now))) }
+    ensures { IfOk result (λ text. string_bytes text ≡ reply_text [] (Derived «module».now def.now (definition_certificate_lines names.now.names.items (context_of ctx.now) (accepted_of checked.now)))) }
 {
     let der = derive(alloc, ctx, checked)?;
     let mut out = format!(in alloc; "derive {module}.{def}\n")?;
@@ -67,7 +68,7 @@ pub fn derive_refusal(
     def: &Name,
     code: Code,
 ) -> Result<String, AllocError>
-    ensures { IfOk result (λ text. string_bytes text ≡ refused_derivation_text «module».now def.now code) }
+    ensures { IfOk result (λ text. string_bytes text ≡ reply_text [] (DerivationRefused «module».now def.now code)) }
 {
     format!(in alloc; "derive {module}.{def} refused {code}\n")
 }

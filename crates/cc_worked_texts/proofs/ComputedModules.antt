@@ -15,6 +15,7 @@ use Rattle.cc_mnf.specs.Elaboration.{elaborated}
 use Rattle.cc_sets.specs.Comparison.{comparison, by_form}
 use Rattle.cc_sets.specs.Outcomes.{◌>>=◌}
 use Rattle.cc_base.specs.declared.code.Code.{Code}
+use Rattle.cc_base.specs.declared.device.DeviceDecl.{DeviceDecl}
 use Rattle.cc_base.specs.declared.place.Place.{Place}
 use Rattle.cc_core.specs.Shapes.{CapturingType}
 use Rattle.cc_core.specs.Contexts.{Context, entry_of}
@@ -49,23 +50,23 @@ judged_in n count context (first ∷ rest) =
     judged_first first (verdict_in n count context (to_be_checked first)) (λ signature. judged_in n count (entry_of signature ∷ context) rest)
 
 -- the verdict of a module that elaborates so
-abbrev of_elaboration : ℕ → List Finding → Elaboration → Option ModuleVerdict
-of_elaboration n findings (elaborated.IsRefused code at) = Some (IsRefused code at)
-of_elaboration n findings (elaborated.IsElaborated core) = judged_in n (length devices) (with_findings (declared_context devices) findings) core.definitions
+abbrev of_elaboration : List DeviceDecl → ℕ → List Finding → Elaboration → Option ModuleVerdict
+of_elaboration beside n findings (elaborated.IsRefused code at) = Some (IsRefused code at)
+of_elaboration beside n findings (elaborated.IsElaborated core) = judged_in n (length beside) (with_findings (declared_context beside) findings) core.definitions
 
 -- the verdict of a tree of which this import is missing, or none
-abbrev of_imports : ℕ → List Finding → ModuleSyntax → Option Refusal → Option ModuleVerdict
-of_imports n findings tree (Some missing) = Some (IsRefused missing.code missing.at)
-of_imports n findings tree None = of_elaboration n findings (elaboration (device_names devices) tree)
+abbrev of_imports : List DeviceDecl → ℕ → List Finding → ModuleSyntax → Option Refusal → Option ModuleVerdict
+of_imports beside n findings tree (Some missing) = Some (IsRefused missing.code missing.at)
+of_imports beside n findings tree None = of_elaboration beside n findings (elaboration (device_names beside) tree)
 
 -- the verdict of a text that is this
-abbrev of_reading : ℕ → List Finding → TextReading → Option ModuleVerdict
-of_reading n findings (IsNoModule code at) = Some (IsRefused code at)
-of_reading n findings (IsTree tree) = of_imports n findings tree (first_missing tree.imports findings)
+abbrev of_reading : List DeviceDecl → ℕ → List Finding → TextReading → Option ModuleVerdict
+of_reading beside n findings (IsNoModule code at) = Some (IsRefused code at)
+of_reading beside n findings (IsTree tree) = of_imports beside n findings tree (first_missing tree.imports findings)
 
--- the verdict of a text for whose imports this is found, if so many steps and rounds are enough
-abbrev pub text_verdict_in : ℕ → List Finding → List ℕ → Option ModuleVerdict
-text_verdict_in n findings text = of_reading n findings (quick_reading text)
+-- the verdict of a text beside the devices, for whose imports this is found, if so many steps and rounds are enough
+abbrev pub text_verdict_in : List DeviceDecl → ℕ → List Finding → List ℕ → Option ModuleVerdict
+text_verdict_in beside n findings text = of_reading beside n findings (quick_reading text)
 
 same_verdict : {v w : ModuleVerdict} → Some v ≡ Some w → v ≡ w
 same_verdict e = cc
@@ -94,32 +95,32 @@ are_judged_in n count context (first ∷ rest) v e =
     first_parts count context first rest (verdict_in n count context (to_be_checked first)) (λ w is. verdict_in_steps n count context (to_be_checked first) w is)
     (λ signature. judged_in n count (entry_of signature ∷ context) rest) (λ signature w is. are_judged_in n count (entry_of signature ∷ context) rest w is) v e
 
-by_elaboration : (n : ℕ) (findings : List Finding) (text : List ℕ) (tree : ModuleSyntax) → HasReading text (IsTree tree) → first_missing tree.imports findings ≡ None
-    → (found : Elaboration) → elaboration (device_names devices) tree ≡ found → (v : ModuleVerdict) → of_elaboration n findings found ≡ Some v → HasModuleVerdict devices text findings v
-by_elaboration n findings text tree reads none (elaborated.IsRefused code at) is v e =
-    subst (λ u. HasModuleVerdict devices text findings u) (same_verdict e) (is_not_elaborated reads none is)
-by_elaboration n findings text tree reads none (elaborated.IsElaborated core) is v e =
-    is_judged reads none is (are_judged_in n (length devices) (with_findings (declared_context devices) findings) core.definitions v e)
+by_elaboration : (beside : List DeviceDecl) (n : ℕ) (findings : List Finding) (text : List ℕ) (tree : ModuleSyntax) → HasReading text (IsTree tree) → first_missing tree.imports findings ≡ None
+    → (found : Elaboration) → elaboration (device_names beside) tree ≡ found → (v : ModuleVerdict) → of_elaboration beside n findings found ≡ Some v → HasModuleVerdict beside text findings v
+by_elaboration beside n findings text tree reads none (elaborated.IsRefused code at) is v e =
+    subst (λ u. HasModuleVerdict beside text findings u) (same_verdict e) (is_not_elaborated reads none is)
+by_elaboration beside n findings text tree reads none (elaborated.IsElaborated core) is v e =
+    is_judged reads none is (are_judged_in n (length beside) (with_findings (declared_context beside) findings) core.definitions v e)
 
-by_imports : (n : ℕ) (findings : List Finding) (text : List ℕ) (tree : ModuleSyntax) → HasReading text (IsTree tree) → (missing : Option Refusal) → first_missing tree.imports findings ≡ missing
-    → (v : ModuleVerdict) → of_imports n findings tree missing ≡ Some v → HasModuleVerdict devices text findings v
-by_imports n findings text tree reads (Some missing) is v e =
-    subst (λ u. HasModuleVerdict devices text findings u) (same_verdict e) (import_is_missing reads is)
-by_imports n findings text tree reads None is v e = by_elaboration n findings text tree reads is (elaboration (device_names devices) tree) refl v e
+by_imports : (beside : List DeviceDecl) (n : ℕ) (findings : List Finding) (text : List ℕ) (tree : ModuleSyntax) → HasReading text (IsTree tree) → (missing : Option Refusal) → first_missing tree.imports findings ≡ missing
+    → (v : ModuleVerdict) → of_imports beside n findings tree missing ≡ Some v → HasModuleVerdict beside text findings v
+by_imports beside n findings text tree reads (Some missing) is v e =
+    subst (λ u. HasModuleVerdict beside text findings u) (same_verdict e) (import_is_missing reads is)
+by_imports beside n findings text tree reads None is v e = by_elaboration beside n findings text tree reads is (elaboration (device_names beside) tree) refl v e
 
-by_reading : (n : ℕ) (findings : List Finding) (text : List ℕ) (reading : TextReading) → HasReading text reading → (v : ModuleVerdict) → of_reading n findings reading ≡ Some v → HasModuleVerdict devices text findings v
-by_reading n findings text (IsNoModule code at) reads v e = subst (λ u. HasModuleVerdict devices text findings u) (same_verdict e) (is_no_module reads)
-by_reading n findings text (IsTree tree) reads v e = by_imports n findings text tree reads (first_missing tree.imports findings) refl v e
+by_reading : (beside : List DeviceDecl) (n : ℕ) (findings : List Finding) (text : List ℕ) (reading : TextReading) → HasReading text reading → (v : ModuleVerdict) → of_reading beside n findings reading ≡ Some v → HasModuleVerdict beside text findings v
+by_reading beside n findings text (IsNoModule code at) reads v e = subst (λ u. HasModuleVerdict beside text findings u) (same_verdict e) (is_no_module reads)
+by_reading beside n findings text (IsTree tree) reads v e = by_imports beside n findings text tree reads (first_missing tree.imports findings) refl v e
 
 -- what is found is the verdict
-pub text_verdict_in_steps : (n : ℕ) (findings : List Finding) (text : List ℕ) (v : ModuleVerdict) → text_verdict_in n findings text ≡ Some v → HasModuleVerdict devices text findings v
-text_verdict_in_steps n findings text v e = by_reading n findings text (quick_reading text) ((text_has_one_reading text (quick_reading text)).1 (sym (same_reading text))) v e
+pub text_verdict_in_steps : (beside : List DeviceDecl) (n : ℕ) (findings : List Finding) (text : List ℕ) (v : ModuleVerdict) → text_verdict_in beside n findings text ≡ Some v → HasModuleVerdict beside text findings v
+text_verdict_in_steps beside n findings text v e = by_reading beside n findings text (quick_reading text) ((text_has_one_reading text (quick_reading text)).1 (sym (same_reading text))) v e
 
 -- a text is refused where that is found
-pub refused_with : (n : ℕ) (findings : List Finding) (text : List ℕ) (code : Code) (at : Place) → text_verdict_in n findings text ≡ Some (IsRefused code at) → RefusesWith findings text code at
-refused_with n findings text code at e = text_verdict_in_steps n findings text (IsRefused code at) e
+pub refused_with : (n : ℕ) (findings : List Finding) (text : List ℕ) (code : Code) (at : Place) → text_verdict_in devices n findings text ≡ Some (IsRefused code at) → RefusesWith findings text code at
+refused_with n findings text code at e = text_verdict_in_steps devices n findings text (IsRefused code at) e
 
-pub refused : (n : ℕ) (text : List ℕ) (code : Code) (at : Place) → text_verdict_in n [] text ≡ Some (IsRefused code at) → Refuses text code at
+pub refused : (n : ℕ) (text : List ℕ) (code : Code) (at : Place) → text_verdict_in devices n [] text ≡ Some (IsRefused code at) → Refuses text code at
 refused n text code at e = refused_with n [] text code at e
 
 -- the signatures, where the text is accepted
@@ -138,10 +139,10 @@ by_verdict findings text signatures (Some (IsRefused code at)) has e = cc
 by_verdict findings text signatures (Some (IsAccepted list)) has e = (list, has (IsAccepted list) refl, same_texts e)
 
 -- a text is accepted with its signatures where that is found
-pub accepted_with : (n : ℕ) (findings : List Finding) (text : List ℕ) (signatures : List (List ℕ)) → signatures_in (text_verdict_in n findings text) ≡ Some signatures → AcceptsWith findings text signatures
-accepted_with n findings text signatures e = by_verdict findings text signatures (text_verdict_in n findings text) (λ v is. text_verdict_in_steps n findings text v is) e
+pub accepted_with : (n : ℕ) (findings : List Finding) (text : List ℕ) (signatures : List (List ℕ)) → signatures_in (text_verdict_in devices n findings text) ≡ Some signatures → AcceptsWith findings text signatures
+accepted_with n findings text signatures e = by_verdict findings text signatures (text_verdict_in devices n findings text) (λ v is. text_verdict_in_steps devices n findings text v is) e
 
-pub accepted : (n : ℕ) (text : List ℕ) (signatures : List (List ℕ)) → signatures_in (text_verdict_in n [] text) ≡ Some signatures → Accepts text signatures
+pub accepted : (n : ℕ) (text : List ℕ) (signatures : List (List ℕ)) → signatures_in (text_verdict_in devices n [] text) ≡ Some signatures → Accepts text signatures
 accepted n text signatures e = accepted_with n [] text signatures e
 
 -- TWO TEXTS

@@ -1,6 +1,6 @@
 -- What texts are elaborated to, whole: each definition with its name, the type that is written for it, its right side in
 -- monadic normal form, and the places of all its parts.
-use Rattle.std.specs.Prelude.{◌≡◌, ℕ, pos, true, false, codes, List, [], ◌∷◌, ◌++◌, Option, Some, None}
+use Rattle.std.specs.Prelude.{◌≡◌, ℕ, pos, true, false, codes, List, [], ◌∷◌, Option, Some, None}
 use Rattle.cc_base.specs.Literals.{NumberLiteral}
 use Rattle.cc_base.specs.declared.literal.Base.TheVariants as bases
 use Rattle.cc_base.specs.declared.literal.Op.TheVariants as operations

@@ -1,14 +1,13 @@
 use Rattle.std.proofs.Common.{List, [], refl, ap, ◌∙◌, subst}
 use Rattle.std.proofs.lemmas.List.{drop_all}
 use Rattle.std.proofs.lemmas.Result.{err_from_is_err_and}
-use Rattle.cc_replies.specs.Replies.{Request}
-use Rattle.capc.proofs.Answering.{asked, Stands, stands_first, stands_last, next, turn_more, turn_stopped}
+use Rattle.cc_replies.specs.Requests.{Request, holding}
+use Rattle.capc.proofs.Answering.{asked, Stands, stands_first, stands_last, turn_more, turn_stopped}
 use Rattle.capc.proofs.commands.answer_all.Goals as goal
 
 pub loop-command-init : goal.loop-command-init
 loop-command-init g c = record {
   stands = stands_first c.args.session.now (asked c.args.commands.now) (g.K.Sink.written c.args.sink.now) c.args.steps.now c.requires.present;
-  built = c.requires.built;
   no_fault = refl;
 }
 
@@ -17,24 +16,21 @@ returns-in_err-later-clause-answered g c =
     let error = err_from_is_err_and c.from_residual.result c.from_residual.ensures.1 in
     let old = c.args.session.now in
     let loop = c.loop-command in
-    let at = next c.args.commands.now loop.command-index c.command-item.result c.loop-command-test.true c.command-item.is loop.invariant.built in
     rw (error.1, error.2)
-    (turn_stopped old.devices old.present old.last c.args.commands.now (g.K.Sink.written c.args.sink.now) c.args.steps.now loop.session
-    loop.command-index c.command-item.result (g.K.Sink.written loop.sink) loop.steps loop.refused loop.invariant.stands at c.answer.new.session
-    (g.K.Sink.written c.answer.new.sink) c.answer.new.steps c.requires.differ c.in_err-later.field-0.0 c.in_err-later.ensures.replied
-    c.in_err-later.ensures.judges)
+    (turn_stopped old.devices (holding old.present) old.last c.args.commands.now (g.K.Sink.written c.args.sink.now) c.args.steps.now loop.session
+    loop.command-index c.command-item.result (g.K.Sink.written loop.sink) loop.steps loop.refused loop.invariant.stands c.loop-command-test.true
+    c.command-item.is c.answer.new.session (g.K.Sink.written c.answer.new.sink) c.answer.new.steps c.requires.differ c.in_err-later.field-0.0
+    c.in_err-later.ensures.replied c.in_err-later.ensures.judges)
 
 pub loop-command-preserved : goal.loop-command-preserved
 loop-command-preserved g c =
     let old = c.args.session.now in
     let loop = c.loop-command in
-    let at = next c.args.commands.now loop.command-index c.command-item.result c.loop-command-test.true c.command-item.is loop.invariant.built in
     record {
-      stands = turn_more old.devices old.present old.last c.args.commands.now (g.K.Sink.written c.args.sink.now) c.args.steps.now loop.session
-          loop.command-index c.command-item.result (g.K.Sink.written loop.sink) loop.steps loop.refused loop.invariant.stands at c.answer.new.session
-          (g.K.Sink.written c.answer.new.sink) c.answer.new.steps c.in_ok-later.later c.in_ok-later.ensures.replied c.in_ok-later.ensures.changes
-          c.in_ok-later.ensures.judges c.either-refused.result c.either-refused.ensures;
-      built = at.left_built;
+      stands = turn_more old.devices (holding old.present) old.last c.args.commands.now (g.K.Sink.written c.args.sink.now) c.args.steps.now loop.session
+          loop.command-index c.command-item.result (g.K.Sink.written loop.sink) loop.steps loop.refused loop.invariant.stands c.loop-command-test.true
+          c.command-item.is c.answer.new.session (g.K.Sink.written c.answer.new.sink) c.answer.new.steps c.in_ok-later.later c.in_ok-later.ensures.replied
+          c.in_ok-later.ensures.changes c.in_ok-later.ensures.judges c.either-refused.result c.either-refused.ensures;
       no_fault = c.in_ok-later.ensures.cause ∙ loop.invariant.no_fault;
     }
 
@@ -42,8 +38,8 @@ pub returns-clause-answered : goal.returns-clause-answered
 returns-clause-answered g c =
     let old = c.args.session.now in
     let loop = c.loop-command in
-    let P : List Request → Type 0 = λ rs. Stands old.devices old.present old.last (asked c.args.commands.now) (g.K.Sink.written c.args.sink.now)
+    let P : List Request → Type 0 = λ rs. Stands old.devices (holding old.present) old.last (asked c.args.commands.now) (g.K.Sink.written c.args.sink.now)
     c.args.steps.now loop.session rs (g.K.Sink.written loop.sink) loop.steps loop.refused in
-    stands_last old.devices old.present old.last (asked c.args.commands.now) (g.K.Sink.written c.args.sink.now) c.args.steps.now loop.session
+    stands_last old.devices (holding old.present) old.last (asked c.args.commands.now) (g.K.Sink.written c.args.sink.now) c.args.steps.now loop.session
     (g.K.Sink.written loop.sink) loop.steps loop.refused
     (subst P (ap asked (drop_all loop.command-index c.args.commands.now c.loop-command-test.false)) loop.invariant.stands)

@@ -1,0 +1,11 @@
+use Rattle.std.proofs.Common.{ℕ, List, map, take}
+use Rattle.cc_entry.specs.Entries.{entry_of}
+use Rattle.cc_meta_modules.specs.ModuleVerdicts.{ModuleVerdict}
+use Rattle.cc_meta_modules.specs.PresentTexts.{AreVerdicts}
+use Rattle.capc.proofs.StartedTasks.{AreStartedSoFar}
+use Rattle.capc.proofs.running.start_all.Given as goal
+
+abbrev pub invariant-loop-task : goal.invariant-loop-task
+invariant-loop-task l =
+    (verdicts : List ℕ → ModuleVerdict) → AreVerdicts l.session.devices l.session.present verdicts
+    → AreStartedSoFar l.session.devices l.session.present verdicts (take l.task l.tasks) (map entry_of l.entries.items)

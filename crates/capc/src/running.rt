@@ -1,0 +1,164 @@
+//! Running the programs of entries on the declared devices.
+
+ghost use Rattle.std.specs.Prelude.{◌≡◌, ◌+◌, ◌<◌, ℕ, List, map, length, IsTrue, IfOk};
+ghost use Rattle.std.specs.List.{AllByRecursion};
+ghost use Rattle.std.specs.String.{string_bytes};
+ghost use Rattle.cc_device.specs.Declarations.{declared_bases, declared_devices};
+ghost use Rattle.cc_entry.specs.Entries.{entry_of};
+ghost use Rattle.cc_meta_entries.specs.PresentEntries.{program_entry};
+ghost use Rattle.cc_meta_modules.specs.ModuleVerdicts.{ModuleVerdict};
+ghost use Rattle.cc_meta_modules.specs.PresentTexts.{AreVerdicts};
+ghost use Rattle.cc_meta_runs.specs.Links.{program_start};
+ghost use Rattle.cc_meta_runs.specs.LinkLaws.{HaveShapes};
+ghost use Rattle.cc_meta_runs.specs.SoundRuns.{HasShapesOfCells};
+ghost use Rattle.cc_program.specs.Programs.{shapes_of, start_of};
+ghost use Rattle.cc_replies.specs.ReplyTexts.{reply_text, is_refusal};
+ghost use Rattle.cc_replies.specs.RunReplies.{declared_run, run_told, tasks_told};
+ghost use Rattle.capc.specs.Running.{AreStarted};
+
+use cc_base::code::Code;
+use cc_base::device::DeviceDecl;
+use cc_base::name::Name;
+use cc_device::Devices;
+use cc_entry::Entry;
+use cc_link::link;
+use cc_machine::Machine;
+use cc_print::Names;
+use cc_program::Program;
+use cc_replies::runs::{is_cut_short, run_reply};
+use cc_replies::tasks::{tasks_cut_short, tasks_reply};
+use cc_session::entry::EntryError;
+use cc_session::session::Session;
+use cc_tasks::run_tasks;
+use std::alloc::{AllocError, Global};
+
+/// The reply to a run of the definition, which has this entry, on the declared devices, and whether that is a refusal.
+///
+/// Fails only for want of memory, as which 2^32 cells count.
+pub fn entry_reply(
+    alloc: Global,
+    names: &Names,
+    declared: &[DeviceDecl],
+    module: &Name,
+    def: &Name,
+    fuel: u32,
+    entry: &Entry,
+) -> Result<(String, bool), AllocError>
+    requires { entry.now.devices.items ≡ declared_bases declared.now }
+    ensures text { IfOk result (λ it. string_bytes it.0 ≡ reply_text names.now.names.items
+        (run_told «module».now def.now entry.now.authority.items (declared_run declared.now fuel (entry_of entry.now)))) }
+    ensures refused { IfOk result (λ it. it.1 ≡ is_refusal
+        (run_told «module».now def.now entry.now.authority.items (declared_run declared.now fuel (entry_of entry.now)))) }
+{
+    let program = link(alloc, entry)?;
+    if !program.has_positions(fuel) {
+        return Err(AllocError);
+    }
+    program.starts_soundly();
+    let mut devices = Devices::new(alloc, declared)?;
+    let mut machine = Machine::load(alloc, &program)?;
+    let report = machine.run(alloc, &mut devices, fuel)?;
+    let text = run_reply(alloc, module, def, &entry.authority, &report, names)?;
+    Ok((text, is_cut_short(report.end)))
+}
+
+/// What comes of several definitions that are to be run together.
+#[derive(Drop)]
+pub enum Started {
+    /// Each has its entry.
+    All(Vec<Entry>),
+    /// The first that has none, by its number, and why.
+    Refused { code: Code, task: usize },
+}
+
+/// The entries of the definitions of present modules, or the first that has none. Fails only for want of memory.
+pub fn start_all(
+    alloc: Global,
+    session: &Session,
+    tasks: &[(Name, Name)],
+) -> Result<Started, AllocError>
+    requires { IsTrue session.now.checked }
+    ensures { IfOk result (λ started. (verdicts : List ℕ → ModuleVerdict)
+        → AreVerdicts session.now.devices session.now.present verdicts
+        → AreStarted session.now.devices session.now.present verdicts tasks.now started) }
+{
+    let mut entries = Vec::new(alloc);
+    for task in 0..tasks.len() {
+        let (module, def) = &tasks[task];
+        match session.entry(module, def) {
+            Ok(entry) => entries.push(entry)?,
+            Err(EntryError::Refused(refused)) => {
+                return Ok(Started::Refused {
+                    code: refused.code,
+                    task,
+                });
+            }
+            Err(EntryError::NoMemory) => return Err(AllocError),
+        }
+    }
+    Ok(Started::All(entries))
+}
+
+// The programs of entries, in order. Fails only for want of memory, as which too many cells count.
+fn link_all(alloc: Global, entries: &[Entry]) -> Result<Vec<Program>, AllocError>
+    ensures starts { IfOk result (λ programs. map start_of programs.items
+        ≡ map (λ entry. program_start (program_entry (entry_of entry))) entries.now) }
+    ensures shapes { IfOk result (λ programs. map shapes_of programs.items
+        ≡ map (λ entry. entry.devices.items) entries.now) }
+{
+    let mut programs = Vec::new(alloc);
+    for entry in entries {
+        programs.push(link(alloc, entry)?)?;
+    }
+    Ok(programs)
+}
+
+// Whether each program has less than 2^32 cells when so many are added.
+fn have_positions(programs: &[Program], fuel: u32) -> bool
+    ensures { IsTrue result → AllByRecursion (λ program. length (start_of program).store + fuel < 4294967296) programs.now }
+{
+    for program in programs {
+        if !program.has_positions(fuel) {
+            return false;
+        }
+    }
+    true
+}
+
+// The devices fit all programs where these have their shapes. The function does nothing.
+fn fit_all(programs: &[Program], devices: &Devices)
+    requires { AllByRecursion (λ program. HaveShapes devices.now (shapes_of program)) programs.now }
+    ensures { AllByRecursion (λ program. HasShapesOfCells (start_of program).store devices.now) programs.now }
+{
+    for program in programs {
+        program.starts_soundly();
+    }
+}
+
+/// The reply to an interleaved run of the definitions that have these entries, on the declared devices, and whether that
+/// is a refusal.
+///
+/// Fails only for want of memory, as which 2^32 cells count.
+pub fn tasks_text(
+    alloc: Global,
+    names: &Names,
+    declared: &[DeviceDecl],
+    fuel: u32,
+    schedule: &[u32],
+    entries: &[Entry],
+) -> Result<(String, bool), AllocError>
+    requires { AllByRecursion (λ entry. entry.devices.items ≡ declared_bases declared.now) entries.now }
+    ensures text { IfOk result (λ it. string_bytes it.0 ≡ reply_text names.now.names.items
+        (tasks_told declared.now fuel schedule.now (map entry_of entries.now))) }
+    ensures refused { IfOk result (λ it. it.1 ≡ is_refusal (tasks_told declared.now fuel schedule.now (map entry_of entries.now))) }
+{
+    let programs = link_all(alloc, entries)?;
+    if !have_positions(&programs, fuel) {
+        return Err(AllocError);
+    }
+    let mut devices = Devices::new(alloc, declared)?;
+    fit_all(&programs, &devices);
+    let report = run_tasks(alloc, &programs, &mut devices, schedule, fuel)?;
+    let text = tasks_reply(alloc, entries, &report, names)?;
+    Ok((text, tasks_cut_short(&report)))
+}

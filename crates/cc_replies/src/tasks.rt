@@ -1,0 +1,175 @@
+//! The reply to a command that runs definitions interleaved.
+
+ghost use Rattle.std.specs.Prelude.{◌≡◌, ◌++◌, ℕ, List, [], map, codes, IfOk, OnOk};
+ghost use Rattle.std.specs.Fmt.{decimal};
+ghost use Rattle.std.specs.List.{flat_map, list_any};
+ghost use Rattle.std.specs.String.{string_bytes};
+ghost use Rattle.cc_replies.specs.ReplyTexts.{TasksRan, TasksRefused, inner_line, pair_text, reply_text, is_refusal, is_unfinished};
+ghost use Rattle.cc_replies.specs.RunTexts as plain;
+ghost use Rattle.cc_tasks.specs.Reports.{told_by, told_event, told_end};
+
+use crate::runs::{is_cut_short, put_authority, put_end, put_event};
+use cc_base::code::Code;
+use cc_base::name::Name;
+use cc_certificate::writing::put;
+use cc_device::{End, Event};
+use cc_entry::Entry;
+use cc_print::Names;
+use cc_tasks::TaskReport;
+use std::alloc::{AllocError, Global};
+
+// Adds the front of a line about a task.
+fn put_task(alloc: Global, out: &mut String, task: usize) -> Result<(), AllocError>
+    ensures { OnOk result (string_bytes out.new ≡ string_bytes out.old ++ (codes "  " ++ decimal task ++ codes " ")) }
+{
+    let text = format!(in alloc; "  {task} ")?;
+    put(out, text.as_str())
+}
+
+// Adds the line about what a task may operate.
+fn put_task_authority(
+    alloc: Global,
+    out: &mut String,
+    names: &Names,
+    task: usize,
+    authority: &[u32],
+) -> Result<(), AllocError>
+    ensures { OnOk result (string_bytes out.new ≡ string_bytes out.old ++ inner_line (plain.of_task task (plain.authority_text names.now.names.items authority.now))) }
+{
+    put_task(alloc, out, task)?;
+    put_authority(alloc, out, names, authority)?;
+    put(out, "\n")
+}
+
+// Adds a line about each task, with what it may operate.
+fn put_authorities(
+    alloc: Global,
+    out: &mut String,
+    names: &Names,
+    entries: &[Entry],
+) -> Result<(), AllocError>
+    ensures { OnOk result (string_bytes out.new ≡ string_bytes out.old ++ flat_map inner_line (plain.by_task 0 (map (plain.authority_text names.now.names.items) (map (λ entry. entry.authority.items) entries.now)))) }
+{
+    for (task, entry) in entries.iter().enumerate() {
+        put_task_authority(alloc, out, names, task, &entry.authority)?;
+    }
+    Ok(())
+}
+
+// Adds the line of an event of a task.
+fn put_task_event(
+    alloc: Global,
+    out: &mut String,
+    names: &Names,
+    one: &(u32, Event),
+) -> Result<(), AllocError>
+    ensures { OnOk result (string_bytes out.new ≡ string_bytes out.old ++ inner_line (plain.task_event_text names.now.names.items (told_event one.now))) }
+{
+    put_task(alloc, out, one.0 as usize)?;
+    put_event(alloc, out, names, &one.1)?;
+    put(out, "\n")
+}
+
+// Adds the lines of events, in order.
+fn put_task_events(
+    alloc: Global,
+    out: &mut String,
+    names: &Names,
+    events: &[(u32, Event)],
+) -> Result<(), AllocError>
+    ensures { OnOk result (string_bytes out.new ≡ string_bytes out.old ++ flat_map inner_line (map (plain.task_event_text names.now.names.items) (map told_event events.now))) }
+{
+    for one in events {
+        put_task_event(alloc, out, names, one)?;
+    }
+    Ok(())
+}
+
+// Adds the line about the end of a task.
+fn put_task_end(
+    alloc: Global,
+    out: &mut String,
+    names: &Names,
+    task: usize,
+    one: &(End, u32),
+) -> Result<(), AllocError>
+    ensures { OnOk result (string_bytes out.new ≡ string_bytes out.old ++ inner_line (plain.of_task task (plain.task_end_text names.now.names.items (told_end one.now)))) }
+{
+    put_task(alloc, out, task)?;
+    put_end(alloc, out, names, one.0, one.1)?;
+    put(out, "\n")
+}
+
+// Adds a line about each task, with its end.
+fn put_ends(
+    alloc: Global,
+    out: &mut String,
+    names: &Names,
+    ends: &[(End, u32)],
+) -> Result<(), AllocError>
+    ensures { OnOk result (string_bytes out.new ≡ string_bytes out.old ++ flat_map inner_line (plain.by_task 0 (map (plain.task_end_text names.now.names.items) (map told_end ends.now)))) }
+{
+    for (task, one) in ends.iter().enumerate() {
+        put_task_end(alloc, out, names, task, one)?;
+    }
+    Ok(())
+}
+
+/// The reply to a command that runs the programs of entries interleaved: a line for each task with what it may operate,
+/// one for each event, and one for each task with its end. Devices have their names.
+///
+/// Fails only for want of memory.
+pub fn tasks_reply(
+    alloc: Global,
+    entries: &[Entry],
+    report: &TaskReport,
+    names: &Names,
+) -> Result<String, AllocError>
+    ensures { IfOk result (λ text. string_bytes text ≡ reply_text names.now.names.items (TasksRan (map (λ entry. entry.authority.items) entries.now) (told_by report.now))) }
+{
+    let mut out = String::from_str(alloc, "tasks\n")?;
+    put_authorities(alloc, &mut out, names, entries)?;
+    put_task_events(alloc, &mut out, names, &report.trace)?;
+    put_ends(alloc, &mut out, names, &report.ends)?;
+    Ok(out)
+}
+
+// Adds the names of a module and of its definition.
+fn put_pair(alloc: Global, out: &mut String, module: &Name, def: &Name) -> Result<(), AllocError>
+    ensures { OnOk result (string_bytes out.new ≡ string_bytes out.old ++ pair_text «module».now def.now) }
+{
+    let text = format!(in alloc; "{module}.{def}")?;
+    put(out, text.as_str())
+}
+
+/// The reply to such a command that is refused with the code, for this definition of a module. Fails only for want of
+/// memory.
+pub fn tasks_refusal(
+    alloc: Global,
+    code: Code,
+    module: &Name,
+    def: &Name,
+) -> Result<String, AllocError>
+    ensures { IfOk result (λ text. string_bytes text ≡ reply_text [] (TasksRefused code «module».now def.now)) }
+{
+    let mut out = String::from_str(alloc, "tasks refused ")?;
+    put(&mut out, code.text())?;
+    put(&mut out, " ")?;
+    put_pair(alloc, &mut out, module, def)?;
+    put(&mut out, "\n")?;
+    Ok(out)
+}
+
+// Whether one of the tasks did not come to its end.
+fn any_cut_short(ends: &[(End, u32)]) -> bool
+    ensures { result ≡ list_any (λ one. is_unfinished (told_end one).0) ends.now }
+{
+    ends.iter().any(|one| is_cut_short(one.0))
+}
+
+/// Whether that reply tells that the fuel ran out. It takes no memory.
+pub fn tasks_cut_short(report: &TaskReport) -> bool
+    ensures { (authorities : List (List ℕ)) → result ≡ is_refusal (TasksRan authorities (told_by report.now)) }
+{
+    any_cut_short(&report.ends)
+}

@@ -1,0 +1,4 @@
+pub mod ComputedReplies
+pub mod WorkedRuns
+pub mod WorkedShownTexts
+pub mod WorkedTasks

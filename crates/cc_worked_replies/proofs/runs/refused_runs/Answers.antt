@@ -1,0 +1,5 @@
+use Rattle.cc_worked_replies.proofs.WorkedRuns as worked
+use Rattle.cc_worked_replies.proofs.runs.refused_runs.Goals as goal
+
+pub returns : goal.returns
+returns c = worked.refused_runs

@@ -1,0 +1,5 @@
+use Rattle.cc_worked_replies.proofs.WorkedShownTexts as worked
+use Rattle.cc_worked_replies.proofs.texts.authority_texts.Goals as goal
+
+pub returns : goal.returns
+returns c = worked.authority_texts

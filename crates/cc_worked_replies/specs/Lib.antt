@@ -1,0 +1,4 @@
+pub mod RunExamples
+pub mod ShownTexts
+pub mod TaskExamples
+pub mod TextReplies
