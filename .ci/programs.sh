@@ -146,7 +146,7 @@ for program; do
     # The examples, each of which says what is written for it.
     for example in "$jobs"/*.job; do
         wanted=0
-        grep -qE '^  [^ ]+ E[0-9]+ |refused' "${example%.job}.out" && wanted=1
+        grep -qE '^  [^ ]+ E[0-9]+ |refused|out of fuel' "${example%.job}.out" && wanted=1
         run < "$example"
         expect "the example $(basename "$example")" "$wanted" "$(sed 's/\\/\\\\/g' "${example%.job}.out")\n" ''
     done

@@ -1,0 +1,108 @@
+"""Measures jobs that run, link and derive, each at its full size and at half of it.
+
+Usage: replies.py PROGRAM RUNS
+"""
+import os
+import sys
+import tempfile
+
+program, runs = sys.argv[1], int(sys.argv[2])
+failed = False
+
+
+def measured(job, last):
+    """The shortest time of the runs in milliseconds, and the memory in MB; the last line of the output ends so."""
+    global failed
+    best, most = None, 0
+    with tempfile.TemporaryDirectory() as folder:
+        path, out = os.path.join(folder, 'job'), os.path.join(folder, 'out')
+        with open(path, 'w') as file:
+            file.write(job)
+        for _ in range(runs):
+            child = os.fork()
+            if child == 0:
+                os.dup2(os.open(path, os.O_RDONLY), 0)
+                os.dup2(os.open(out, os.O_WRONLY | os.O_CREAT | os.O_TRUNC), 1)
+                os.execv(program, [program])
+            _, _, used = os.wait4(child, 0)
+            took = (used.ru_utime + used.ru_stime) * 1000
+            best = took if best is None else min(best, took)
+            most = max(most, used.ru_maxrss / 1024)
+        line = open(out).read().split('\n')[-2]
+    if not line.endswith(last):
+        print('another answer:', line)
+        failed = True
+    return best, most
+
+
+def shown(name, half, full, bar, base=(0, 0)):
+    """One row: the half, the full size, and whether that is within the bar, without what the bases take."""
+    global failed
+    less, more = half[0] - base[0], full[0] - base[1]
+    print('%-52s %7.0f %7.0f ms  %5.1f  %6.0f MB' % (name, less, more, more / max(less, 1), full[1]))
+    if more > bar:
+        print('  more than %d ms' % bar)
+        failed = True
+
+
+def repeating(count, body, fuel=1000000):
+    return ('capc 1\ndevice out console\ndevice hits counter\nput m 1\n'
+            'def main = fun (u: Unit) => val f = fun (i: Int) => %s; repeat(%d, f)\n' % (body, count),
+            'run m.main %d\n' % fuel)
+
+
+def run_of(count, body, steps):
+    return measured(''.join(repeating(count, body)), 'after %d steps' % steps)
+
+
+def tasks_of(count, fuel):
+    text, _ = repeating(count, 'val n = hits.tick(); unit')
+    numbers = ','.join(str(i) for i in range(8))
+    return measured('%stasks %d %s%s\n' % (text, fuel, numbers, ' m.main' * 8), 'steps')
+
+
+def chain(count):
+    """So many modules, each with a function that calls that of the one before it."""
+    job = 'capc 1\nput m0 1\ndef f0 = fun (x: Int) => x\n'
+    for k in range(1, count):
+        job += 'put m%d 2\nimport m%d.f%d\ndef f%d = fun (x: Int) => f%d(x)\n' % (k, k - 1, k - 1, k, k - 1)
+    return job
+
+
+def many_runs(count):
+    last = 'put a 2\nimport m38.f38\ndef main = fun (u: Unit) => val f = fun (i: Int) => val x = f38(i); unit; repeat(1000, f)\n'
+    return measured(chain(39) + last + 'run a.main 1000\n' * count, 'out of fuel after 1000 steps')
+
+
+def wide(count):
+    """So many modules of 200 definitions, 50 of which call those of the module before."""
+    job = 'capc 1\n'
+    for k in range(count):
+        lines = ['import m%d.f%d_%d' % (k - 1, k - 1, d) for d in range(50) if k]
+        for d in range(200):
+            right = 'x' if k == 0 or d >= 50 else 'f%d_%d(x)' % (k - 1, d)
+            lines.append('def f%d_%d = fun (x: Int) => %s' % (k, d, right))
+        if k == count - 1:
+            lines.append('def main = fun (u: Unit) => f%d_0(1)' % k)
+        job += 'put m%d %d\n%s\n' % (k, len(lines), '\n'.join(lines))
+    return job + 'check\n'
+
+
+def derived(levels):
+    """The derivation of a sum of two to the power of so many numbers."""
+    text = 'x'
+    for _ in range(levels):
+        text = '(%s+%s)' % (text, text)
+    return measured('capc 1\nput m 1\ndef main = fun (x: Int) => %s\nderive m.main\n' % text, ': (_0: Int) -> Int')
+
+
+shown('a million steps of a repetition', run_of(249998, 'unit', 500000), run_of(499998, 'unit', 1000000), 100)
+shown('a million steps that print all along', run_of(166000, 'out.print(i)', 498004), run_of(332000, 'out.print(i)', 996004), 300)
+shown('eight tasks with fuel 1,000,000', tasks_of(60000, 500000), tasks_of(60000, 1000000), 200)
+shown('1,000 runs of 1,000 steps of 40 modules', many_runs(500), many_runs(1000), 500)
+shown('a derivation of 57,330 nodes', derived(11), derived(12), 200)
+base = measured(wide(128), ' ok')[0], measured(wide(256), ' ok')[0]
+shown('linking 256 modules of 200 definitions',
+      measured(wide(128) + 'run m127.main 2000\n', 'after 130 steps'),
+      measured(wide(256) + 'run m255.main 2000\n', 'after 258 steps'), 200, base)
+sys.exit(1 if failed else 0)
