@@ -1,0 +1,6 @@
+//! What is kept of a text while it is written, and the summary of the text by it.
+#![tactic(auto)]
+
+pub mod laws;
+pub mod summary;
+pub mod tally;
