@@ -1,0 +1,3 @@
+mod WorkloadNames
+mod ItemLaws
+mod EntryTexts

@@ -1,0 +1,5 @@
+//! The job of a workload, for measures.
+#![tactic(auto)]
+
+pub mod laws;
+pub mod workload;
