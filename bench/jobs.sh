@@ -10,10 +10,9 @@ set -u
 program=${1:-$(dirname "$0")/../crates/capc/out/capc}
 [ -x "$program" ] || { echo "bench/jobs.sh: there is no program $program: build it first" >&2; exit 1; }
 PYTHONPATH=$(dirname "$0") PYTHONDONTWRITEBYTECODE=1 exec python3 - "$program" "${2:-5}" <<'PY'
-import os
 import sys
-import tempfile
 
+import measuring
 from rows import link, put, row
 
 program, runs = sys.argv[1], int(sys.argv[2])
@@ -21,24 +20,9 @@ program, runs = sys.argv[1], int(sys.argv[2])
 
 def measured(job, last):
     """The shortest time of the runs in milliseconds, and the memory in MB; the last line of the output has to be this."""
-    best, most = None, 0
-    with tempfile.TemporaryDirectory() as folder:
-        path, out = os.path.join(folder, 'job'), os.path.join(folder, 'out')
-        with open(path, 'w') as file:
-            file.write(job)
-        for _ in range(runs):
-            child = os.fork()
-            if child == 0:
-                os.dup2(os.open(path, os.O_RDONLY), 0)
-                os.dup2(os.open(out, os.O_WRONLY | os.O_CREAT | os.O_TRUNC), 1)
-                os.execv(program, [program])
-            _, status, used = os.wait4(child, 0)
-            took = (used.ru_utime + used.ru_stime) * 1000
-            best = took if best is None else min(best, took)
-            most = max(most, used.ru_maxrss / 1024)
-        lines = open(out).read().split('\n')
-    if os.waitstatus_to_exitcode(status) != 0 or lines[-2] != last:
-        sys.exit('bench/jobs.sh: a wrong answer: status %d, last line %r' % (os.waitstatus_to_exitcode(status), lines[-2:]))
+    best, most, status, line = measuring.measured(program, job, runs)
+    if status != 0 or line != last:
+        sys.exit('bench/jobs.sh: a wrong answer: status %d, last line %r' % (status, line))
     return best, most
 
 

@@ -2,9 +2,9 @@
 
 Usage: replies.py PROGRAM RUNS
 """
-import os
 import sys
-import tempfile
+
+import measuring
 
 program, runs = sys.argv[1], int(sys.argv[2])
 failed = False
@@ -13,22 +13,7 @@ failed = False
 def measured(job, last):
     """The shortest time of the runs in milliseconds, and the memory in MB; the last line of the output ends so."""
     global failed
-    best, most = None, 0
-    with tempfile.TemporaryDirectory() as folder:
-        path, out = os.path.join(folder, 'job'), os.path.join(folder, 'out')
-        with open(path, 'w') as file:
-            file.write(job)
-        for _ in range(runs):
-            child = os.fork()
-            if child == 0:
-                os.dup2(os.open(path, os.O_RDONLY), 0)
-                os.dup2(os.open(out, os.O_WRONLY | os.O_CREAT | os.O_TRUNC), 1)
-                os.execv(program, [program])
-            _, _, used = os.wait4(child, 0)
-            took = (used.ru_utime + used.ru_stime) * 1000
-            best = took if best is None else min(best, took)
-            most = max(most, used.ru_maxrss / 1024)
-        line = open(out).read().split('\n')[-2]
+    best, most, _, line = measuring.measured(program, job, runs)
     if not line.endswith(last):
         print('another answer:', line)
         failed = True
