@@ -1,3 +1,4 @@
+mod WordLaws
 mod WorkloadNames
 mod ItemLaws
 mod EntryTexts

@@ -1,2 +1,4 @@
 pub mod Workloads
+pub mod Words
+pub mod WordReading
 pub mod ExampleWorkloads
