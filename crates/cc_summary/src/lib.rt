@@ -1,6 +1,10 @@
 //! What is kept of a text while it is written, and the summary of the text by it.
 #![tactic(auto)]
 
+pub mod counting;
+mod history;
 pub mod laws;
 pub mod summary;
 pub mod tally;
+#[cfg(test)]
+mod tests;
