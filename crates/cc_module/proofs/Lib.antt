@@ -2,3 +2,4 @@ mod ContextLoops
 mod JudgedTexts
 mod JudgedTrees
 mod TextsRead
+mod NamedDefinitions

@@ -1,5 +1,5 @@
 -- The verdict of a module, as the program answers it.
-use Rattle.std.specs.Prelude.{◌≡◌, ℕ, List, map, Vec, Result, Ok, Err}
+use Rattle.std.specs.Prelude.{◌≡◌, ℕ, List, map, Vec, Option, Result, Ok, Err}
 use Rattle.std.specs.declared.alloc.Global.{Global}
 use Rattle.cc_base.specs.declared.code.Diag.{Diag}
 use Rattle.cc_base.specs.declared.device.DeviceDecl.{DeviceDecl}
@@ -10,6 +10,7 @@ use Rattle.cc_core.specs.Contexts.{Context}
 use Rattle.cc_meta_modules.specs.ModuleLaws.{AreSound}
 use Rattle.cc_meta_modules.specs.ModuleVerdicts.{Finding, Refusal, CheckedDefinition, ModuleVerdict, IsAccepted}
 use Rattle.cc_meta_modules.specs.ModuleVerdicts.{IsRefused, AreJudged, to_be_checked, checked_as}
+use Rattle.cc_meta_modules.specs.PresentTexts.{definition_named}
 use Rattle.cc_mnf.specs.ElaboratedModules.{CoreDefinition}
 use Rattle.cc_module.specs.declared.judgement.CheckedDef.{CheckedDef}
 use Rattle.cc_module.specs.declared.judgement.Judgement.{Judgement}
@@ -27,12 +28,17 @@ checked_definition_of it = record { name = it.name; recursive = it.recursive; ac
 
 -- the judgement that a verdict holds
 abbrev pub judgement_of : Judgement → ModuleVerdict
-judgement_of (judgements.Accepted defs) = IsAccepted (map checked_definition_of defs.items)
+judgement_of (judgements.Accepted definitions) = IsAccepted (map checked_definition_of definitions.defs.items)
 judgement_of (judgements.Refused diag) = IsRefused diag.code diag.place
 
 -- the verdict
 abbrev pub module_verdict_of : DeclaredVerdict → ModuleVerdict
 module_verdict_of it = judgement_of it.judgement
+
+-- the module is accepted, and this is its first definition of the name, if it has one
+abbrev pub FindsDefinition : ModuleVerdict → List ℕ → Option CheckedDefinition → Type 0
+FindsDefinition (IsAccepted definitions) name found = found ≡ definition_named name definitions
+FindsDefinition (IsRefused code at) name found = ⊥
 
 -- The definition has the verdict that is answered. Nothing is said where memory is wanting.
 abbrev pub JudgesOne : ℕ → Context → CoreDefinition → Result CheckedDef CheckError → Type 0

@@ -1,3 +1,4 @@
 pub mod Findings
 pub mod Judgements
 pub mod TextReadings
+pub mod DefinitionPlaces

@@ -1,12 +1,14 @@
 //! Verdicts of modules.
 
-ghost use Rattle.std.specs.Prelude.{◌≡◌, map, IfOk, IfErr};
+ghost use Rattle.std.specs.Prelude.{◌≡◌, map, option_map, IfOk, IfErr};
 ghost use Rattle.cc_meta_modules.specs.ModuleVerdicts.{IsAccepted, IsRefused};
-ghost use Rattle.cc_module.specs.Judgements.{checked_definition_of, module_verdict_of};
+ghost use Rattle.cc_module.specs.Judgements.{checked_definition_of, module_verdict_of, FindsDefinition};
 
+use crate::definitions::Definitions;
 use cc_base::code::Diag;
 use cc_base::name::Name;
 use cc_core::Checked;
+use std::alloc::{AllocError, Global};
 
 /// A definition of an accepted module: its name, whether it is recursive, and what it is accepted as.
 #[derive(Drop)]
@@ -18,7 +20,7 @@ pub struct CheckedDef {
 
 #[derive(Drop)]
 enum Judgement {
-    Accepted(Vec<CheckedDef>),
+    Accepted(Definitions),
     Refused(Diag),
 }
 
@@ -28,13 +30,14 @@ pub struct ModuleVerdict {
     judgement: Judgement,
 }
 
-/// The module is accepted, with these definitions.
-pub(crate) fn accepted(defs: Vec<CheckedDef>) -> ModuleVerdict
-    ensures { module_verdict_of result ≡ IsAccepted (map checked_definition_of defs.items) }
+/// The module is accepted, with these definitions. Fails only for want of memory.
+pub(crate) fn accepted(alloc: Global, defs: Vec<CheckedDef>) -> Result<ModuleVerdict, AllocError>
+    ensures { IfOk result (λ v. module_verdict_of v ≡ IsAccepted (map checked_definition_of defs.items)) }
 {
-    ModuleVerdict {
-        judgement: Judgement::Accepted(defs),
-    }
+    let definitions = Definitions::new(alloc, defs)?;
+    Ok(ModuleVerdict {
+        judgement: Judgement::Accepted(definitions),
+    })
 }
 
 /// The module is refused.
@@ -53,7 +56,19 @@ impl ModuleVerdict {
         ensures err { IfErr result (λ diag. module_verdict_of self.now ≡ IsRefused diag.code diag.place) }
     {
         match &self.judgement {
-            Judgement::Accepted(defs) => Ok(defs.as_slice()),
+            Judgement::Accepted(definitions) => Ok(definitions.as_slice()),
+            Judgement::Refused(diag) => Err(*diag),
+        }
+    }
+
+    /// The first definition of the name, if there is one, in a module that is accepted, or else its refusal. The
+    /// definitions before it are not gone over. It takes no memory.
+    pub fn definition(&self, name: &Name) -> Result<Option<&CheckedDef>, Diag>
+        ensures ok { IfOk result (λ found. FindsDefinition (module_verdict_of self.now) name.now (option_map (λ d. checked_definition_of d.now) found)) }
+        ensures err { IfErr result (λ diag. module_verdict_of self.now ≡ IsRefused diag.code diag.place) }
+    {
+        match &self.judgement {
+            Judgement::Accepted(definitions) => Ok(definitions.named(name)),
             Judgement::Refused(diag) => Err(*diag),
         }
     }

@@ -116,7 +116,7 @@ fn judge_definitions(
     ensures { IfOk result (λ v. AreJudged devices (context_of ctx) (map definition_of defs.now) (module_verdict_of v)) }
 {
     match check_all(alloc, ctx, devices, defs) {
-        Ok(checked) => Ok(accepted(checked)),
+        Ok(checked) => accepted(alloc, checked),
         Err(CheckError::Refused(diag)) => Ok(refused(diag)),
         Err(CheckError::NoMemory) => Err(AllocError),
     }

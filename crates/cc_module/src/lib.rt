@@ -2,6 +2,7 @@
 #![tactic(auto)]
 
 mod contexts;
+mod definitions;
 pub mod finding;
 pub mod imports;
 pub mod judgement;
