@@ -8,10 +8,12 @@ use Rattle.std.specs.Option.{is_some}
 use Rattle.cc_base.specs.declared.literal.Import.{Import}
 use Rattle.cc_grammar.specs.Syntax.{ImportSyntax}
 use Rattle.cc_graph.specs.Graph.{reaches}
-use Rattle.cc_meta_modules.specs.ModuleVerdicts.{Finding, NoModule, InCycle}
-use Rattle.cc_meta_modules.specs.PresentTexts.{Texts, ArePresent, text_of, graph_of, finding_in, finding_for}
+use Rattle.cc_meta_modules.specs.ModuleVerdicts.{Finding, NoModule, InCycle, CheckedDefinition, ModuleVerdict}
+use Rattle.cc_meta_modules.specs.ModuleVerdicts.{IsAccepted, IsRefused}
+use Rattle.cc_meta_modules.specs.PresentTexts.{Texts, ArePresent, text_of, graph_of, found_or_none, finding_in, finding_for}
 use Rattle.cc_meta_modules.proofs.Asking.{found_by}
 use Rattle.cc_module.specs.Findings.{finding_of}
+use Rattle.cc_module.specs.Judgements.{FindsDefinition}
 use Rattle.cc_module.specs.declared.finding.Finding.{Finding as DeclaredFinding}
 use Rattle.cc_module.specs.declared.judgement.ModuleVerdict.{ModuleVerdict as DeclaredVerdict}
 use Rattle.cc_parse.specs.Trees.{import_syntax}
@@ -20,6 +22,12 @@ use Rattle.cc_judge.specs.Found.{IsFoundIn, IsFoundFor, AreFoundFor}
 use Rattle.cc_judge.specs.Places.{IsAbsentKey}
 use Rattle.cc_judge.proofs.Entries.{lookup_absent}
 use Rattle.cc_judge.proofs.TextPlaces.{text_of_place, place_of_key}
+
+-- what is found in an accepted module is by its definition of the name
+pub found_definition : (verdict : ModuleVerdict) (name : List ℕ) (found : Option CheckedDefinition)
+    → FindsDefinition verdict name found → found_or_none found ≡ finding_in verdict name
+found_definition (IsAccepted definitions) name found is = ap found_or_none is
+found_definition (IsRefused code at) name found is = absurd is
 
 module _ (texts : Texts) (last : List (List ℕ × DeclaredVerdict)) (plans : List (Option Plan)) (name : List ℕ)
     (one : ImportSyntax) where

@@ -6,9 +6,7 @@ use Rattle.std.specs.BTreeMap.{insert_entry}
 use Rattle.std.specs.List.{AllByRecursion}
 use Rattle.std.specs.List.Sorted.{IsStrictlySortedBy}
 use Rattle.std.specs.Map.{keys_of}
-use Rattle.std.specs.Option.{option_map}
-use Rattle.std.specs.Prelude.{Vec, zero, suc}
-use Rattle.std.specs.declared.alloc.Global.{Global}
+use Rattle.std.specs.Prelude.{zero, suc}
 use Rattle.std.specs.declared.cmp.Ordering.TheVariants.{Less}
 use Rattle.cc_base.specs.declared.literal.Import.{Import}
 use Rattle.cc_grammar.specs.Syntax.{ImportSyntax}
@@ -16,7 +14,7 @@ use Rattle.cc_graph.specs.Graph.{ImportMap, compare_names}
 use Rattle.cc_meta_modules.specs.PresentTexts.{Texts, ArePresent, with_module, graph_of}
 use Rattle.cc_meta_modules.specs.Readings.{imports_of}
 use Rattle.cc_meta_modules.proofs.Schedules.{each_in_graph}
-use Rattle.cc_parse.specs.Trees.{import_syntax, imports_syntax}
+use Rattle.cc_parse.specs.Trees.{import_syntax}
 use Rattle.cc_judge.specs.Dependencies.{sources_of, inserted, AreRead}
 use Rattle.cc_judge.proofs.Lists.{drop_read}
 
@@ -48,40 +46,34 @@ below_rest (first ∷ rest) sorted zero entry within is =
     subst P (sym is) sorted.0
 below_rest (first ∷ rest) sorted (suc left) entry within is = below_rest rest sorted.1 left entry (omega arith) is
 
-reading_at : (texts : Texts) (readings : List (Option (Vec Import Global))) → AreRead texts readings → (left : ℕ)
-    (entry : List ℕ × List ℕ) (reading : Option (Vec Import Global)) → left < length texts
-    → entry ≡ get_or texts left entry → left < length readings → reading ≡ get_or readings left reading
-    → option_map imports_syntax reading ≡ imports_of entry.1
-reading_at texts readings read left entry reading in_texts is_entry in_readings is_reading =
-    ap (option_map imports_syntax) is_reading
-    ∙ sym (get_or-map (option_map imports_syntax) readings left reading None in_readings)
-    ∙ ap (λ rs. get_or rs left None) read
-    ∙ get_or-map (λ one. imports_of one.1) texts left entry None in_texts
-    ∙ ap (λ one. imports_of one.1) (sym is_entry)
+pub imports_by_text : (texts : Texts) → map imports_of (map (λ one. one.1) texts) ≡ map (λ one. imports_of one.1) texts
+imports_by_text [] = refl
+imports_by_text (first ∷ rest) = ap (λ all. imports_of first.1 ∷ all) (imports_by_text rest)
 
-pub read_length : (texts : Texts) (readings : List (Option (Vec Import Global))) → AreRead texts readings
+pub read_length : (texts : Texts) (readings : List (List ℕ)) → AreRead texts readings
     → length readings ≡ length texts
-read_length texts readings read =
-    sym (length-map readings (option_map imports_syntax)) ∙ ap length read
-    ∙ length-map texts (λ one. imports_of one.1)
+read_length texts readings read = ap length read ∙ length-map texts (λ one. one.1)
 
-pub reading_of_place : (texts : Texts) (readings : List (Option (Vec Import Global))) → AreRead texts readings
-    → (left : ℕ) (entry : List ℕ × List ℕ) (reading : Option (Vec Import Global)) → left < length texts
+-- at a place the text that was read is the one that stands there
+pub reading_of_place : (texts : Texts) (readings : List (List ℕ)) → AreRead texts readings
+    → (left : ℕ) (entry : List ℕ × List ℕ) (reading : List ℕ) → left < length texts
     → entry ≡ get_or texts left entry → reading ≡ get_or readings left reading
-    → option_map imports_syntax reading ≡ imports_of entry.1
+    → reading ≡ entry.1
 reading_of_place texts readings read left entry reading within is_entry is_reading =
-    reading_at texts readings read left entry reading within is_entry
-    (omega (arith, read_length texts readings read)) is_reading
+    is_reading
+    ∙ ap (λ rs. get_or rs left reading) read
+    ∙ get_or-map (λ one. one.1) texts left entry reading within
+    ∙ ap (λ one. one.1) (sym is_entry)
 
 -- one text more in front of those whose graph it is
-pub graph_step : (texts : Texts) → ArePresent texts → (readings : List (Option (Vec Import Global)))
-    → AreRead texts readings → (left : ℕ) (entry : List ℕ × List ℕ) (reading : Option (Vec Import Global))
+pub graph_step : (texts : Texts) → ArePresent texts → (readings : List (List ℕ))
+    → AreRead texts readings → (left : ℕ) (entry : List ℕ × List ℕ) (reading : List ℕ)
     → left < length texts → entry ≡ get_or texts left entry → reading ≡ get_or readings left reading
-    → inserted entry.0 (option_map imports_syntax reading) (graph_of (drop (left + 1) texts))
+    → inserted entry.0 (imports_of reading) (graph_of (drop (left + 1) texts))
     ≡ graph_of (drop left texts)
 unfolding graph_of
 graph_step texts sorted readings read left entry reading within is_entry is_reading =
-    ap (λ o. inserted entry.0 o (graph_of (drop (left + 1) texts)))
+    ap (λ t. inserted entry.0 (imports_of t) (graph_of (drop (left + 1) texts)))
     (reading_of_place texts readings read left entry reading within is_entry is_reading)
     ∙ inserted_as entry.0 (imports_of entry.1) (graph_of (drop (left + 1) texts))
     (each_in_graph (λ y. compare_names entry.0 y ≡ Less) (drop (left + 1) texts)

@@ -1,7 +1,7 @@
 -- Lists: the step of a loop over one, its elements by places, and tests of them.
 use Rattle.std.proofs.Common.{◌≡◌, ℕ, ◌+◌, ◌<◌, Bool, ◌&&◌, List, [], ◌∷◌, ◌++◌, length, get_or, map}
 use Rattle.std.proofs.Common.{take, drop, Some, None, ap, ◌∙◌, sym, inl, inr}
-use Rattle.std.proofs.lemmas.List.{map_push, map_more, drop_more}
+use Rattle.std.proofs.lemmas.List.{map_more, drop_more}
 use Rattle.std.proofs.lemmas.Option.{slice_get_cases, slice_get-get_or, same_Some}
 use Rattle.std.specs.Cmp.Lexicographic.{pointwise}
 use Rattle.std.specs.List.{slice_get}
@@ -17,13 +17,6 @@ pub listed_more : {A C : Type 0} (f : A → C) (xs : List A) (ys new : List C) (
 listed_more f xs ys new i x y within is so_far one more =
     more ∙ ap (λ zs. zs ++ y ∷ []) so_far ∙ ap (λ z. map f (take i xs) ++ z ∷ []) one
     ∙ ap (λ z. map f (take i xs) ++ f z ∷ []) is ∙ sym (map_more f xs i x within)
-
--- the same, where what is collected stands for something
-pub mapped_more : {A B C : Type 0} (f : A → C) (g : B → C) (xs : List A) (ys new : List B) (i : ℕ) (x : A) (y : B)
-    → i < length xs → x ≡ get_or xs i x → map g ys ≡ map f (take i xs) → g y ≡ f x → new ≡ ys ++ y ∷ []
-    → map g new ≡ map f (take (i + 1) xs)
-mapped_more f g xs ys new i x y within is so_far one more =
-    listed_more f xs (map g ys) (map g new) i x (g y) within is so_far one (ap (map g) more ∙ map_push g ys y)
 
 -- two lists by pairs, from a place on
 pub pairs_from : {A B : Type 0} (f : A → B) (test : B → B → Bool) (xs ys : List A) (i : ℕ) (x y : A) → i < length xs

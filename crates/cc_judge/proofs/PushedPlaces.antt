@@ -8,10 +8,7 @@ use Rattle.std.proofs.lemmas.Option.{slice_get-map, slice_get_read, slice_get_wi
 use Rattle.std.specs.List.{AllByRecursion, list_any, slice_get}
 use Rattle.std.specs.Map.{keys_of}
 use Rattle.std.specs.Option.{option_map}
-use Rattle.std.specs.Prelude.{Vec}
 use Rattle.std.specs.Str.{bytes_eq}
-use Rattle.std.specs.declared.alloc.Global.{Global}
-use Rattle.cc_base.specs.declared.literal.Import.{Import}
 use Rattle.cc_grammar.specs.Syntax.{ImportSyntax}
 use Rattle.cc_graph.specs.Graph.{ImportMap, IsOrder, is_present}
 use Rattle.cc_graph.proofs.NameLemmas.{present_among}
@@ -20,7 +17,6 @@ use Rattle.cc_graph.proofs.OrderLemmas.{listed_among}
 use Rattle.cc_graph.proofs.Paths.{IsAmong}
 use Rattle.cc_meta_modules.specs.PresentTexts.{Texts, with_module, graph_of}
 use Rattle.cc_meta_modules.specs.Readings.{imports_of}
-use Rattle.cc_parse.specs.Trees.{imports_syntax}
 use Rattle.cc_judge.specs.Dependencies.{readings_of, IsUnread, with_unread, ListsUnread, PushesPlace, PushesNamed}
 use Rattle.cc_judge.proofs.PlaceSchedules.{all_from_among}
 
@@ -51,25 +47,25 @@ all_last P [] x all = all.0
 all_last P (y ∷ ys) x all = all_last P ys x all.1
 
 -- the places below one are those of the texts that are no modules
-pub record UnreadTo (readings : List (Option (Vec Import Global))) (upto : ℕ) (places : List ℕ) : Type 0 where
+pub record UnreadTo (readings : List (List ℕ)) (upto : ℕ) (places : List ℕ) : Type 0 where
   pub are : AllByRecursion (IsUnread (readings_of readings)) places
   pub all : (place : ℕ) → place < upto → IsUnread (readings_of readings) place → list_any (nat_eq place) places ≡ true
 
-pub unread_start : (readings : List (Option (Vec Import Global))) (places : List ℕ) → places ≡ []
+pub unread_start : (readings : List (List ℕ)) (places : List ℕ) → places ≡ []
     → UnreadTo readings 0 places
 unread_start readings places none =
     let P : List ℕ → Type 0 = λ ps. UnreadTo readings 0 ps in
     subst P (sym none) (record { are = tt; all = λ place below unread. absurd (omega arith) })
 
 -- what stands at a place
-reading_stands : (readings : List (Option (Vec Import Global))) (i : ℕ) (reading : Option (Vec Import Global))
+reading_stands : (readings : List (List ℕ)) (i : ℕ) (reading : List ℕ)
     → i < length readings → reading ≡ get_or readings i reading
-    → slice_get (readings_of readings) i ≡ Some (option_map imports_syntax reading)
+    → slice_get (readings_of readings) i ≡ Some (imports_of reading)
 reading_stands readings i reading within is =
-    slice_get-map (option_map imports_syntax) readings i
-    ∙ ap (option_map (option_map imports_syntax)) (slice_get_read readings (length readings) i reading refl within is)
+    slice_get-map imports_of readings i
+    ∙ ap (option_map imports_of) (slice_get_read readings (length readings) i reading refl within is)
 
-one_unread : (readings : List (Option (Vec Import Global))) (i : ℕ) (places new : List ℕ)
+one_unread : (readings : List (List ℕ)) (i : ℕ) (places new : List ℕ)
     (reading : Option (List ImportSyntax)) → slice_get (readings_of readings) i ≡ Some reading
     → UnreadTo readings i places → new ≡ with_unread reading i places → UnreadTo readings (i + 1) new
 one_unread readings i places new None stands so_far more =
@@ -98,14 +94,14 @@ one_unread readings i places new (Some imports) stands so_far more =
           ];
     })
 
-pub unread_more : (readings : List (Option (Vec Import Global))) (i : ℕ) (reading : Option (Vec Import Global))
-    (places new : List ℕ) → i < length readings → reading ≡ get_or readings i reading → UnreadTo readings i places
-    → new ≡ with_unread (option_map imports_syntax reading) i places → UnreadTo readings (i + 1) new
-unread_more readings i reading places new within is so_far more =
-    one_unread readings i places new (option_map imports_syntax reading) (reading_stands readings i reading within is)
+pub unread_more : (readings : List (List ℕ)) (i : ℕ) (reading : List ℕ) (imports : Option (List ImportSyntax))
+    (places new : List ℕ) → i < length readings → reading ≡ get_or readings i reading → imports ≡ imports_of reading
+    → UnreadTo readings i places → new ≡ with_unread imports i places → UnreadTo readings (i + 1) new
+unread_more readings i reading imports places new within is are so_far more =
+    one_unread readings i places new imports (reading_stands readings i reading within is ∙ ap Some (sym are))
     so_far more
 
-pub unread_end : (readings : List (Option (Vec Import Global))) (i : ℕ) (places : List ℕ) → length readings ≤ i
+pub unread_end : (readings : List (List ℕ)) (i : ℕ) (places : List ℕ) → length readings ≤ i
     → UnreadTo readings i places → ListsUnread (readings_of readings) places
 unread_end readings i places past so_far =
     record {
@@ -113,7 +109,7 @@ unread_end readings i places past so_far =
       all = λ place unread.
           let within : place < length (readings_of readings) =
           slice_get_within (readings_of readings) place None unread in
-          so_far.all place (omega (arith, length-map readings (option_map imports_syntax))) unread;
+          so_far.all place (omega (arith, length-map readings imports_of)) unread;
     }
 
 -- ---- places of names

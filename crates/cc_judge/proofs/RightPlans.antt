@@ -7,7 +7,7 @@ use Rattle.std.proofs.lemmas.Map.Keys.{IsDistinct-head, IsDistinct-tail}
 use Rattle.std.proofs.lemmas.Option.{same_Some, slice_get_cases, slice_get-map}
 use Rattle.std.specs.Cmp.Lexicographic.{bytes_decides}
 use Rattle.std.specs.List.{AllByRecursion, IsDistinct, list_any, slice_get}
-use Rattle.std.specs.Prelude.{zero, suc, Vec}
+use Rattle.std.specs.Prelude.{zero, suc}
 use Rattle.std.specs.Map.{keys_of}
 use Rattle.std.specs.Option.{option_map, unwrap_or, is_some}
 use Rattle.std.specs.Str.{bytes_eq}
@@ -35,9 +35,6 @@ use Rattle.cc_judge.specs.Plans.{plan_judgement, plan_verdict, plan_at, IsPlanne
 use Rattle.cc_judge.specs.Dependencies.{AreRead}
 use Rattle.cc_judge.specs.Plans.{AreRight, ArePlans, AsksPlanned, IsRightPlan, is_stale_at}
 use Rattle.cc_judge.proofs.Graphs.{reading_of_place}
-use Rattle.cc_parse.specs.Trees.{imports_syntax}
-use Rattle.cc_base.specs.declared.literal.Import.{Import}
-use Rattle.std.specs.declared.alloc.Global.{Global}
 use Rattle.std.proofs.lemmas.List.{get_or_default}
 use Rattle.cc_judge.specs.SameFindings.{same_findings}
 use Rattle.cc_judge.proofs.FindingTests.{same_findings_decides}
@@ -271,54 +268,58 @@ plan_right devices texts last place plan all found sorted within are is_found is
 
 -- the plan for the module at a place, as the program makes it
 module _ (devices : List DeviceDecl) (texts : Texts) (differ : NamesOfDevicesDiffer devices)
-    (sorted : ArePresent texts) (readings : List (Option (Vec Import Global))) (read : AreRead texts readings)
+    (sorted : ArePresent texts) (readings : List (List ℕ)) (read : AreRead texts readings)
     (verdicts : List (List ℕ × DeclaredVerdict)) (grounds : List Grounds) (plans : List (Option Plan))
     (planned : ArePlans devices texts (judgements_from verdicts grounds) plans) (place : ℕ)
     (within : place < length texts) (asked : AsksPlanned texts plans place) (entry : List ℕ × List ℕ)
-    (is_entry : entry ≡ get_or texts place entry) (reading : Option (Vec Import Global)) (is_reading : reading ≡ get_or readings place reading)
-    (found : List Finding)
-    (zip : AreFoundFor texts verdicts plans entry.0
-    (unwrap_or (option_map imports_syntax reading) []) found) where
+    (is_entry : entry ≡ get_or texts place entry) (reading : List ℕ) (is_reading : reading ≡ get_or readings place reading)
+    (imports : Option (List ImportSyntax)) (are_imports : imports ≡ imports_of reading) (found : List Finding)
+    (zip : AreFoundFor texts verdicts plans entry.0 (unwrap_or imports []) found) where
   at_entry : entry ≡ entry_at texts place
   at_entry = is_entry ∙ get_or_default texts place entry ([], []) within
 
-  its_imports : option_map imports_syntax reading ≡ imports_of (text_at texts place)
-  its_imports =
+  at_text : reading ≡ text_at texts place
+  at_text =
       reading_of_place texts readings read place (entry_at texts place) reading within
       (get_or_default texts place ([], []) (entry_at texts place) within) is_reading
+
+  its_imports : imports ≡ imports_of (text_at texts place)
+  its_imports = are_imports ∙ ap imports_of at_text
 
   found_zip : AreFoundFor texts verdicts plans (name_at texts place) (unwrap_or (imports_of (text_at texts place)) [])
       found
   found_zip =
-      let P : List ℕ × List ℕ → Type 0 = λ e. AreFoundFor texts verdicts plans e.0 (unwrap_or
-      (option_map imports_syntax reading) []) found in
+      let P : List ℕ × List ℕ → Type 0 = λ e. AreFoundFor texts verdicts plans e.0 (unwrap_or imports []) found in
       let Q : Option (List ImportSyntax) → Type 0 = λ o. AreFoundFor texts verdicts plans (name_at texts place)
       (unwrap_or o []) found in
       subst Q its_imports (subst P at_entry zip)
 
-  pub made_fits : AreFit devices entry.1 found
+  pub made_fits : AreFit devices reading found
   made_fits =
-      let P : List ℕ × List ℕ → Type 0 = λ e. AreFit devices e.1 found in
-      subst P (sym at_entry)
+      let P : List ℕ → Type 0 = λ t. AreFit devices t found in
+      subst P (sym at_text)
       (found_fits devices texts verdicts grounds plans differ sorted planned place found within asked found_zip)
 
   pub made_stale : (all : List ℕ → ModuleVerdict) → AreVerdicts devices texts all
-      → is_stale (judgements_from verdicts grounds) entry.0 entry.1 found
+      → is_stale (judgements_from verdicts grounds) entry.0 reading found
       ≡ is_stale_at (judgements_from verdicts grounds) texts all place
   made_stale all are =
-      ap (λ e. is_stale (judgements_from verdicts grounds) e.0 e.1 found) at_entry
+      ap (λ e. is_stale (judgements_from verdicts grounds) e.0 reading found) at_entry
+      ∙ ap (λ t. is_stale (judgements_from verdicts grounds) (name_at texts place) t found) at_text
       ∙ ap (is_stale (judgements_from verdicts grounds) (name_at texts place) (text_at texts place))
       (found_right texts verdicts grounds plans all (planned all are) place found asked found_zip)
 
   pub made_right : (plan : Plan)
-      → IsPlanFor devices (judgements_from verdicts grounds) entry.0 entry.1
+      → IsPlanFor devices (judgements_from verdicts grounds) entry.0 reading
       found plan
       → IsRightPlan devices texts (judgements_from verdicts grounds) place plan
   made_right plan is all are =
-      let P : List ℕ × List ℕ → Type 0 = λ e. IsPlanFor devices (judgements_from verdicts grounds) e.0 e.1 found plan in
+      let P : List ℕ × List ℕ → Type 0 = λ e. IsPlanFor devices (judgements_from verdicts grounds) e.0 reading found plan in
+      let Q : List ℕ → Type 0 = λ t. IsPlanFor devices (judgements_from verdicts grounds) (name_at texts place) t found
+      plan in
       plan_right devices texts (judgements_from verdicts grounds) place plan all found sorted within are
       (found_right texts verdicts grounds plans all (planned all are) place found asked found_zip)
-      (subst P at_entry is)
+      (subst Q at_text (subst P at_entry is))
 
 pub plans_counted : (devices : List DeviceDecl) (texts : Texts) (last : List Judgement) (plans : List (Option Plan))
     → NamesOfDevicesDiffer devices → ArePresent texts → ArePlans devices texts last plans

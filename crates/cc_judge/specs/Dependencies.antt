@@ -1,17 +1,14 @@
 -- What the program finds of the imports of the present texts. It serves the code alone.
-use Rattle.std.specs.Prelude.{◌≡◌, ℕ, nat_eq, true, List, [], ◌∷◌, ◌++◌, map, option_map, slice_get}
-use Rattle.std.specs.Prelude.{Option, Some, None, Vec}
+use Rattle.std.specs.Prelude.{◌≡◌, ℕ, nat_eq, true, List, [], ◌∷◌, ◌++◌, map, slice_get}
+use Rattle.std.specs.Prelude.{Option, Some, None}
 use Rattle.std.specs.BTreeMap.{insert_entry}
 use Rattle.std.specs.List.{AllByRecursion, list_any}
 use Rattle.std.specs.Map.{keys_of}
 use Rattle.std.specs.Str.{bytes_eq}
-use Rattle.std.specs.declared.alloc.Global.{Global}
-use Rattle.cc_base.specs.declared.literal.Import.{Import}
 use Rattle.cc_graph.specs.Graph.{ImportMap, compare_names, IsOrder}
 use Rattle.cc_grammar.specs.Syntax.{ImportSyntax}
 use Rattle.cc_meta_modules.specs.PresentTexts.{Texts, graph_of}
 use Rattle.cc_meta_modules.specs.Readings.{imports_of}
-use Rattle.cc_parse.specs.Trees.{imports_syntax}
 use Rattle.cc_judge.specs.declared.dependencies.Dependencies.{Dependencies}
 
 -- the names of the modules that are imported from
@@ -24,12 +21,12 @@ inserted name (Some imports) graph = insert_entry compare_names graph name (sour
 inserted name None graph = graph
 
 -- the imports of texts that are modules
-abbrev pub readings_of : List (Option (Vec Import Global)) → List (Option (List ImportSyntax))
-readings_of readings = map (option_map imports_syntax) readings
+abbrev pub readings_of : List (List ℕ) → List (Option (List ImportSyntax))
+readings_of readings = map imports_of readings
 
--- they are those of the present texts
-abbrev pub AreRead : Texts → List (Option (Vec Import Global)) → Type 0
-AreRead texts readings = readings_of readings ≡ map (λ one. imports_of one.1) texts
+-- the texts that were read are the present ones
+abbrev pub AreRead : Texts → List (List ℕ) → Type 0
+AreRead texts readings = readings ≡ map (λ one. one.1) texts
 
 -- at the place stands a text that is no module
 abbrev pub IsUnread : List (Option (List ImportSyntax)) → ℕ → Type 0
@@ -72,6 +69,6 @@ pub record IsSchedule (texts : Texts) (places : List ℕ) : Type 0 where
   pub named : ArePlacesOf (keys_of texts) names ordered
 
 pub record AreDependencies (texts : Texts) (found : Dependencies) : Type 0 where
-  pub read : AreRead texts found.imports.items
+  pub read : AreRead texts found.readings.items
   pub graph : found.graph ≡ graph_of texts
   pub schedule : IsSchedule texts found.schedule.items

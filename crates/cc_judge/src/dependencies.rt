@@ -2,6 +2,7 @@
 
 ghost use Rattle.std.specs.Prelude.{◌≡◌, [], map, option_map, IfOk, OnOk};
 ghost use Rattle.std.specs.BTreeMap.{insert_entry};
+ghost use Rattle.std.specs.List.Sorted.{IsStrictlySortedBy};
 ghost use Rattle.std.specs.Map.{keys_of};
 ghost use Rattle.cc_graph.specs.Graph.{compare_names};
 ghost use Rattle.cc_meta_modules.specs.PresentTexts.{ArePresent, graph_of};
@@ -9,35 +10,68 @@ ghost use Rattle.cc_parse.specs.Trees.{import_syntax, imports_syntax};
 ghost use Rattle.cc_judge.specs.Dependencies.{sources_of, inserted, readings_of, AreRead, with_unread, ListsUnread, PushesPlace, PushesNamed, IsSchedule, AreDependencies};
 
 use crate::grounds::SharedText;
-use crate::names::place_of_text;
+use crate::last::Last;
+use crate::names::{place_of_text, place_of_verdict};
+use crate::reading::ReadText;
 use cc_base::literal::Import;
 use cc_base::name::Name;
 use cc_graph::imports::{ImportGraph, Imports};
-use cc_module::imports::imports_of;
 use std::alloc::{AllocError, Global};
 
-/// For each present text its imports, if it is a module; the import graph; and the places of all texts in an order in
+/// The present texts as they were read, with their imports; the import graph; and the places of all texts in an order in
 /// which they can be judged.
 #[derive(Drop)]
 pub struct Dependencies {
-    pub imports: Vec<Option<Vec<Import>>>,
+    pub readings: Vec<ReadText>,
     pub graph: ImportGraph,
     pub schedule: Vec<usize>,
 }
 
-/// The imports of each text, if it is a module.
+// The text, read: as it was read before, where that is the same text.
+fn read_again(alloc: Global, before: &ReadText, text: &SharedText) -> Result<ReadText, AllocError>
+    ensures { IfOk result (λ read. read ≡ text.now) }
+{
+    if before.is_of(text) {
+        before.share()
+    } else {
+        ReadText::read(alloc, text)
+    }
+}
+
+// The text of the module of the name, read: as it was read before, where the module was judged last with that text.
+fn read_text(
+    alloc: Global,
+    last: &Last,
+    name: &Name,
+    text: &SharedText,
+) -> Result<ReadText, AllocError>
+    requires { IsStrictlySortedBy compare_names (keys_of last.now.verdicts.items) }
+    ensures { IfOk result (λ read. read ≡ text.now) }
+{
+    match place_of_verdict(last.verdicts.as_slice(), name) {
+        Some(at) => match last.grounds.get(at) {
+            Some(grounds) => read_again(alloc, &grounds.text, text),
+            None => ReadText::read(alloc, text),
+        },
+        None => ReadText::read(alloc, text),
+    }
+}
+
+/// The texts, read. What was judged last is not read again.
 ///
 /// Fails only for want of memory.
-pub fn read_imports(
+pub fn read_texts(
     alloc: Global,
     texts: &[(Name, SharedText)],
-) -> Result<Vec<Option<Vec<Import>>>, AllocError>
+    last: &Last,
+) -> Result<Vec<ReadText>, AllocError>
+    requires { IsStrictlySortedBy compare_names (keys_of last.now.verdicts.items) }
     ensures { IfOk result (λ readings. AreRead texts.now readings.items) }
 {
     let mut readings = Vec::with_capacity(alloc, texts.len())?;
     for entry in texts {
-        let imports = imports_of(alloc, entry.1.as_bytes())?;
-        readings.push(imports)?;
+        let read = read_text(alloc, last, &entry.0, &entry.1)?;
+        readings.push(read)?;
     }
     Ok(readings)
 }
@@ -83,13 +117,13 @@ fn insert_reading(
     }
 }
 
-/// The import graph of the texts, whose imports were read.
+/// The import graph of the texts, which were read.
 ///
 /// Fails only for want of memory.
 pub fn import_graph(
     alloc: Global,
     texts: &[(Name, SharedText)],
-    readings: &[Option<Vec<Import>>],
+    readings: &[ReadText],
 ) -> Result<ImportGraph, AllocError>
     requires present { ArePresent texts.now }
     requires read { AreRead texts.now readings.now }
@@ -99,7 +133,7 @@ pub fn import_graph(
     let mut left = texts.len();
     while left > 0 {
         left -= 1;
-        insert_reading(alloc, &mut graph, &texts[left].0, &readings[left])?;
+        insert_reading(alloc, &mut graph, &texts[left].0, readings[left].imports())?;
     }
     graph.close(alloc)
 }
@@ -119,12 +153,12 @@ fn push_if_unread(
 }
 
 // Puts the places of the texts that are no modules behind the others.
-fn push_unread(places: &mut Vec<usize>, readings: &[Option<Vec<Import>>]) -> Result<(), AllocError>
+fn push_unread(places: &mut Vec<usize>, readings: &[ReadText]) -> Result<(), AllocError>
     requires { places.old.items ≡ [] }
     ensures { OnOk result (ListsUnread (readings_of readings.now) places.new.items) }
 {
     for (place, reading) in readings.iter().enumerate() {
-        push_if_unread(&mut *places, reading, place)?;
+        push_if_unread(&mut *places, reading.imports(), place)?;
     }
     Ok(())
 }
@@ -164,7 +198,7 @@ fn push_named(
 fn schedule(
     alloc: Global,
     texts: &[(Name, SharedText)],
-    readings: &[Option<Vec<Import>>],
+    readings: &[ReadText],
     graph: &ImportGraph,
 ) -> Result<Vec<usize>, AllocError>
     requires present { ArePresent texts.now }
@@ -179,21 +213,24 @@ fn schedule(
     Ok(places)
 }
 
-/// What the texts import, where that leads, and an order in which they can be judged.
+/// What the texts import, where that leads, and an order in which they can be judged. What was judged last is not read
+/// again.
 ///
 /// Fails only for want of memory.
 pub fn find_dependencies(
     alloc: Global,
     texts: &[(Name, SharedText)],
+    last: &Last,
 ) -> Result<Dependencies, AllocError>
-    requires { ArePresent texts.now }
+    requires present { ArePresent texts.now }
+    requires names { IsStrictlySortedBy compare_names (keys_of last.now.verdicts.items) }
     ensures { IfOk result (AreDependencies texts.now) }
 {
-    let imports = read_imports(alloc, texts)?;
-    let graph = import_graph(alloc, texts, imports.as_slice())?;
-    let schedule = schedule(alloc, texts, imports.as_slice(), &graph)?;
+    let readings = read_texts(alloc, texts, last)?;
+    let graph = import_graph(alloc, texts, readings.as_slice())?;
+    let schedule = schedule(alloc, texts, readings.as_slice(), &graph)?;
     Ok(Dependencies {
-        imports,
+        readings,
         graph,
         schedule,
     })

@@ -50,8 +50,8 @@ fn found_or_none(def: Option<&CheckedDef>) -> Result<Finding, AllocError>
 fn finding_in(verdict: &ModuleVerdict, def: &Name) -> Result<Finding, AllocError>
     ensures { IfOk result (λ f. finding_of f ≡ plain.finding_in (module_verdict_of verdict.now) def.now) }
 {
-    match verdict.defs() {
-        Ok(defs) => found_or_none(definition_named(defs, def)),
+    match verdict.definition(def) {
+        Ok(found) => found_or_none(found),
         Err(_) => Ok(Finding::RefusedModule),
     }
 }

@@ -3,6 +3,7 @@
 ghost use Rattle.std.specs.Prelude.{◌≡◌, IfOk};
 ghost use Rattle.std.specs.Str.{bytes_eq};
 
+use crate::reading::ReadText;
 use cc_base::text::Text;
 use cc_module::finding::Finding;
 use std::alloc::{AllocError, Global};
@@ -93,6 +94,6 @@ impl Findings {
 /// What a module was judged by.
 #[derive(Drop)]
 pub struct Grounds {
-    pub text: SharedText,
+    pub text: ReadText,
     pub findings: Findings,
 }

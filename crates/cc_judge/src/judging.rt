@@ -55,14 +55,14 @@ fn findings_of(
     last: &Last,
     plans: &[Option<Plan>],
     name: &Name,
-    reading: &Option<Vec<Import>>,
+    imports: &Option<Vec<Import>>,
 ) -> Result<Vec<Finding>, AllocError>
     requires present { ArePresent texts.now }
     requires graph { dependencies.now.graph ≡ graph_of texts.now }
     requires count { length plans.now ≡ length texts.now }
-    ensures { IfOk result (λ found. AreFoundFor texts.now last.now.verdicts.items plans.now name.now (unwrap_or (option_map imports_syntax reading.now) []) (map finding_of found.items)) }
+    ensures { IfOk result (λ found. AreFoundFor texts.now last.now.verdicts.items plans.now name.now (unwrap_or (option_map imports_syntax imports.now) []) (map finding_of found.items)) }
 {
-    match reading {
+    match imports {
         Some(imports) => findings(
             alloc,
             texts,
@@ -97,10 +97,18 @@ fn plan_new<L: Ledger>(
     ensures ticks { (verdicts : List ℕ → ModuleVerdict) → AreVerdicts devices.now texts.now verdicts → steps.new ≤ steps.old + (if is_stale_at (judgements_of last.now) texts.now verdicts place then 1 else 0) }
     ensures plan { IfOk result (λ plan. IsRightPlan devices.now texts.now (judgements_of last.now) place plan) }
 {
-    let entry = &texts[place];
-    let reading = &dependencies.imports[place];
-    let found = findings_of(alloc, texts, dependencies, last, plans, &entry.0, reading)?;
-    plan_module(alloc, devices, last, &entry.0, &entry.1, found, steps)
+    let name = &texts[place].0;
+    let text = &dependencies.readings[place];
+    let found = findings_of(
+        alloc,
+        texts,
+        dependencies,
+        last,
+        plans,
+        name,
+        text.imports(),
+    )?;
+    plan_module(alloc, devices, last, name, text, found, steps)
 }
 
 // Makes the plan for the place, if it has none yet.
@@ -156,7 +164,7 @@ fn plan_all<L: Ledger>(
     ensures ticks { (verdicts : List ℕ → ModuleVerdict) → AreVerdicts devices.now texts.now verdicts → steps.new ≤ steps.old + stale_count (judgements_of last.now) texts.now verdicts }
     ensures plans { IfOk result (λ plans. AreAllPlanned devices.now texts.now (judgements_of last.now) plans.items) }
 {
-    let dependencies = find_dependencies(alloc, texts)?;
+    let dependencies = find_dependencies(alloc, texts, last)?;
     let mut plans = no_plans(alloc, texts.len())?;
     for place in dependencies.schedule.iter() {
         plan_place(

@@ -11,4 +11,5 @@ pub mod last;
 pub mod laws;
 pub mod names;
 mod plans;
+pub mod reading;
 mod same;

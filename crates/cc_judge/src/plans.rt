@@ -11,9 +11,10 @@ ghost use Rattle.cc_judge.specs.Judgements.{Judgement, is_stale};
 ghost use Rattle.cc_judge.specs.Kept.{judgements_of, IsKept};
 ghost use Rattle.cc_judge.specs.Plans.{plan_verdict, IsPlanFor, IsJudgedAt};
 
-use crate::grounds::{Findings, Grounds, SharedText};
+use crate::grounds::{Findings, Grounds};
 use crate::last::Last;
 use crate::names::place_of_verdict;
+use crate::reading::ReadText;
 use crate::same::are_grounds;
 use cc_base::device::DeviceDecl;
 use cc_base::name::Name;
@@ -47,7 +48,7 @@ pub(crate) fn plan_verdict<'a>(plan: &'a Plan, last: &'a Last) -> Option<&'a Mod
 }
 
 // The place of the last verdict of the module, if it was judged with this text and these findings.
-fn kept_place(last: &Last, name: &Name, text: &SharedText, findings: &[Finding]) -> Option<usize>
+fn kept_place(last: &Last, name: &Name, text: &ReadText, findings: &[Finding]) -> Option<usize>
     requires names { IsStrictlySortedBy compare_names (keys_of last.now.verdicts.items) }
     requires one_each { length last.now.grounds.items ≡ length last.now.verdicts.items }
     ensures { MatchOption result
@@ -71,7 +72,7 @@ fn judge<L: Ledger>(
     alloc: Global,
     devices: &[DeviceDecl],
     name: &Name,
-    text: &SharedText,
+    text: &ReadText,
     findings: Vec<Finding>,
     steps: &mut Steps<L>,
 ) -> Result<Plan, AllocError>
@@ -101,7 +102,7 @@ pub(crate) fn plan_module<L: Ledger>(
     devices: &[DeviceDecl],
     last: &Last,
     name: &Name,
-    text: &SharedText,
+    text: &ReadText,
     findings: Vec<Finding>,
     steps: &mut Steps<L>,
 ) -> Result<Plan, AllocError>

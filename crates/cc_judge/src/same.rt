@@ -6,7 +6,8 @@ ghost use Rattle.cc_core.specs.Views.{type_of};
 ghost use Rattle.cc_module.specs.Findings.{finding_of};
 ghost use Rattle.cc_judge.specs.SameFindings as plain;
 
-use crate::grounds::{Grounds, SharedText};
+use crate::grounds::Grounds;
+use crate::reading::ReadText;
 use cc_core::Ty;
 use cc_core::same::same_type;
 use cc_module::finding::Finding;
@@ -60,7 +61,7 @@ pub(crate) fn same_findings(left: &[Finding], right: &[Finding]) -> bool
 }
 
 /// Whether the grounds are this text and these findings.
-pub(crate) fn are_grounds(grounds: &Grounds, text: &SharedText, findings: &[Finding]) -> bool
+pub(crate) fn are_grounds(grounds: &Grounds, text: &ReadText, findings: &[Finding]) -> bool
     ensures { result ≡ (bytes_eq grounds.now.text text.now && plain.same_findings (map finding_of grounds.now.findings) (map finding_of findings.now)) }
 {
     grounds.text.is(text) && same_findings(grounds.findings.as_slice(), findings)

@@ -25,8 +25,9 @@ loop-left-preserved c =
       within = omega (arith, c.loop-left.invariant.within);
       made =
           c.in_ok-insert_reading.ensures
-          ∙ ap (inserted entry.0 (option_map imports_syntax c.index-readings-left.result))
+          ∙ ap (inserted entry.0 (option_map imports_syntax c.imports.result.now))
           (c.loop-left.invariant.made ∙ ap (λ n. graph_of (drop n c.args.texts.now)) next)
+          ∙ ap (λ o. inserted entry.0 o (graph_of (drop (left + 1) c.args.texts.now))) c.imports.ensures
           ∙ graph_step c.args.texts.now c.requires.present c.args.readings.now c.requires.read left
           entry c.index-readings-left.result within
           (get_or_default c.args.texts.now left c.index-texts-left.result entry within) c.index-readings-left.is;

@@ -1,3 +1,5 @@
+use Rattle.std.specs.Option.{option_map}
+use Rattle.cc_parse.specs.Trees.{imports_syntax}
 use Rattle.cc_judge.proofs.PushedPlaces.{unread_more, unread_end, unread_start}
 use Rattle.cc_judge.proofs.dependencies.push_unread.Goals as goal
 
@@ -6,8 +8,9 @@ loop-place-init c = unread_start _ c.args.places.now.items c.requires
 
 pub loop-place-preserved : goal.loop-place-preserved
 loop-place-preserved c =
-    unread_more c.args.readings.now c.loop-place.place c.index-readings-place.result c.loop-place.places.items
-    c.push_if_unread.new.places.items c.loop-place-test.true c.index-readings-place.is c.loop-place.invariant
+    unread_more c.args.readings.now c.loop-place.place c.index-readings-place.result
+    (option_map imports_syntax c.imports.result.now) c.loop-place.places.items c.push_if_unread.new.places.items
+    c.loop-place-test.true c.index-readings-place.is c.imports.ensures c.loop-place.invariant
     c.in_ok-push_if_unread.ensures
 
 pub returns : goal.returns

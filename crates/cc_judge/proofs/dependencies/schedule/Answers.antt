@@ -1,8 +1,10 @@
-use Rattle.std.proofs.Common.{subst, sym, List, Option, ℕ}
+use Rattle.std.proofs.Common.{subst, sym, ap, ◌∙◌, map, List, Option, ℕ}
 use Rattle.cc_grammar.specs.Syntax.{ImportSyntax}
 use Rattle.cc_graph.specs.Graph.{ImportMap, IsOrder}
 use Rattle.cc_meta_modules.specs.PresentTexts.{graph_of}
+use Rattle.cc_meta_modules.specs.Readings.{imports_of}
 use Rattle.cc_judge.specs.Dependencies.{ListsUnread}
+use Rattle.cc_judge.proofs.Graphs.{imports_by_text}
 use Rattle.cc_judge.proofs.PushedPlaces.{order_among_keys}
 use Rattle.cc_judge.proofs.dependencies.schedule.Goals as goal
 
@@ -19,7 +21,7 @@ returns c =
       ordered = more;
       names = c.as_slice.result.now;
       parts = parts;
-      lists = subst L c.requires.read c.in_ok-push_unread.ensures;
+      lists = subst L (ap (map imports_of) c.requires.read ∙ imports_by_text c.args.texts.now) c.in_ok-push_unread.ensures;
       order = order;
       named = named;
     }

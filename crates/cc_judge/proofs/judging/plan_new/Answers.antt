@@ -1,18 +1,20 @@
-use Rattle.std.proofs.Common.{◌≤◌, ◌+◌, if◌then◌else◌, Bool, map, subst, arith}
+use Rattle.std.proofs.Common.{◌≤◌, ◌+◌, if◌then◌else◌, Bool, ap, get_or, map, subst, arith}
 use Rattle.std.proofs.lemmas.Result.{IfOk-weaker}
+use Rattle.std.specs.Option.{option_map}
 use Rattle.cc_module.specs.Findings.{finding_of}
+use Rattle.cc_parse.specs.Trees.{imports_syntax}
 use Rattle.cc_judge.proofs.Graphs.{read_length}
 use Rattle.cc_judge.proofs.RightPlans.{made_fits, made_stale, made_right, plans_counted}
 use Rattle.cc_judge.specs.Kept.{judgements_of}
 use Rattle.cc_judge.proofs.judging.plan_new.Goals as goal
 
-pub index-reading-requires : goal.index-reading-requires
-index-reading-requires g c =
+pub index-text-requires : goal.index-text-requires
+index-text-requires g c =
     omega (
       arith,
       c.requires.within,
-      c.args.dependencies.now.imports.ok.0,
-      read_length c.args.texts.now c.args.dependencies.now.imports.items c.requires.found.read,
+      c.args.dependencies.now.readings.ok.0,
+      read_length c.args.texts.now c.args.dependencies.now.readings.items c.requires.found.read,
     )
 
 pub findings_of-requires-clause-graph : goal.findings_of-requires-clause-graph
@@ -26,9 +28,11 @@ findings_of-requires-clause-count g c =
 pub plan_module-requires-clause-fit : goal.plan_module-requires-clause-fit
 plan_module-requires-clause-fit g c =
     made_fits c.args.devices.now c.args.texts.now c.requires.differ c.requires.present
-    c.args.dependencies.now.imports.items c.requires.found.read c.args.last.now.verdicts.items
+    c.args.dependencies.now.readings.items c.requires.found.read c.args.last.now.verdicts.items
     c.args.last.now.grounds.items c.args.plans.now c.requires.plans c.args.place c.requires.within c.requires.asked
-    c.index-texts-place.result c.index-texts-place.is c.index-reading.result.now c.index-reading.ensures
+    (get_or c.args.texts.now c.args.place c.index-texts-place.result)
+    (ap (get_or c.args.texts.now c.args.place) c.index-texts-place.is) c.index-text.result.now c.index-text.ensures
+    (option_map imports_syntax c.imports.result.now) c.imports.ensures
     (map finding_of c.in_ok-found.found.items) c.in_ok-found.ensures
 
 pub returns-in_err-found-clause-ticks : goal.returns-in_err-found-clause-ticks
@@ -40,9 +44,11 @@ returns-clause-ticks g c =
     let P : Bool → Type 0 = λ b. c.plan_module.new.steps ≤ c.args.steps.now + (if b then 1 else 0) in
     subst P
     (made_stale c.args.devices.now c.args.texts.now c.requires.differ c.requires.present
-    c.args.dependencies.now.imports.items c.requires.found.read c.args.last.now.verdicts.items
+    c.args.dependencies.now.readings.items c.requires.found.read c.args.last.now.verdicts.items
     c.args.last.now.grounds.items c.args.plans.now c.requires.plans c.args.place c.requires.within c.requires.asked
-    c.index-texts-place.result c.index-texts-place.is c.index-reading.result.now c.index-reading.ensures
+    (get_or c.args.texts.now c.args.place c.index-texts-place.result)
+    (ap (get_or c.args.texts.now c.args.place) c.index-texts-place.is) c.index-text.result.now c.index-text.ensures
+    (option_map imports_syntax c.imports.result.now) c.imports.ensures
     (map finding_of c.in_ok-found.found.items) c.in_ok-found.ensures all are)
     c.plan_module.ensures.ticks
 
@@ -50,8 +56,10 @@ pub returns-clause-plan : goal.returns-clause-plan
 returns-clause-plan g c =
     IfOk-weaker c.plan_module.result _ _
     (made_right c.args.devices.now c.args.texts.now c.requires.differ c.requires.present
-    c.args.dependencies.now.imports.items c.requires.found.read c.args.last.now.verdicts.items
+    c.args.dependencies.now.readings.items c.requires.found.read c.args.last.now.verdicts.items
     c.args.last.now.grounds.items c.args.plans.now c.requires.plans c.args.place c.requires.within c.requires.asked
-    c.index-texts-place.result c.index-texts-place.is c.index-reading.result.now c.index-reading.ensures
+    (get_or c.args.texts.now c.args.place c.index-texts-place.result)
+    (ap (get_or c.args.texts.now c.args.place) c.index-texts-place.is) c.index-text.result.now c.index-text.ensures
+    (option_map imports_syntax c.imports.result.now) c.imports.ensures
     (map finding_of c.in_ok-found.found.items) c.in_ok-found.ensures)
     c.plan_module.ensures.plan
