@@ -1,16 +1,15 @@
 -- The modules of an entry as the code makes them, one after another.
 use Rattle.std.proofs.Common.{◌≡◌, ℕ, ◌+◌, ◌<◌, Bool, List, [], ◌∷◌, ◌++◌, length, get_or, map, take, Some}
-use Rattle.std.proofs.Common.{Option, Vec, sym, ap, ◌∙◌, subst, arith, if◌then◌else◌}
+use Rattle.std.proofs.Common.{Option, sym, ap, ◌∙◌, subst, arith, if◌then◌else◌}
 use Rattle.std.specs.Prelude.{zero, suc}
 use Rattle.std.proofs.lemmas.List.{get_or_default, get_or-map, map-append, take_more}
 use Rattle.std.proofs.lemmas.List.Elements.{filter-append}
 use Rattle.std.specs.List.{AllByRecursion, filter, slice_get}
 use Rattle.std.specs.Map.{keys_of}
-use Rattle.std.specs.Option.{unwrap_or, option_map}
-use Rattle.std.specs.declared.alloc.Global.{Global}
-use Rattle.cc_base.specs.declared.literal.Import.{Import}
+use Rattle.std.specs.Option.{unwrap_or}
 use Rattle.cc_entry.specs.declared.modules.EntryModule.{EntryModule}
 use Rattle.cc_entry.specs.Modules.{module_of}
+use Rattle.cc_grammar.specs.Syntax.{ImportSyntax}
 use Rattle.cc_meta_entries.specs.PresentEntries.{definitions_of, present_module}
 use Rattle.cc_judge.specs.Dependencies.{AreRead}
 use Rattle.cc_judge.specs.Places.{entry_at}
@@ -21,28 +20,29 @@ use Rattle.cc_meta_modules.specs.PresentTexts.{Texts, ArePresent, text_of}
 use Rattle.cc_meta_modules.specs.Readings.{imports_of}
 use Rattle.cc_module.specs.declared.judgement.ModuleVerdict.{ModuleVerdict as DeclaredVerdict}
 use Rattle.cc_module.specs.Judgements.{checked_definition_of, module_verdict_of}
-use Rattle.cc_parse.specs.Trees.{import_syntax, imports_syntax}
+use Rattle.cc_parse.specs.Trees.{import_syntax}
 use Rattle.cc_session.specs.EntryParts.{HaveVerdicts, ArePresentModules, AddsPresent}
 use Rattle.cc_session.proofs.CurrentVerdicts.{as_many}
 
 -- the module at a place is the present one of the name there
-pub made_module : (texts : Texts) → ArePresent texts → (readings : List (Option (Vec Import Global)))
+pub made_module : (texts : Texts) → ArePresent texts → (readings : List (List ℕ))
     → AreRead texts readings → (verdicts : List (List ℕ × DeclaredVerdict)) (all : List ℕ → ModuleVerdict)
     → HaveVerdicts texts all verdicts → (at : ℕ) (name : List ℕ) → slice_get (keys_of texts) at ≡ Some name
-    → (reading : Option (Vec Import Global)) → reading ≡ get_or readings at reading
+    → (reading : List ℕ) → reading ≡ get_or readings at reading
+    → (read_imports : Option (List ImportSyntax)) → read_imports ≡ imports_of reading
     → (verdict : List ℕ × DeclaredVerdict) → verdict ≡ get_or verdicts at verdict
     → (one : EntryModule) → one.name ≡ name
-    → map import_syntax one.imports.items ≡ unwrap_or (option_map imports_syntax reading) []
+    → map import_syntax one.imports.items ≡ unwrap_or read_imports []
     → map checked_definition_of one.defs.items ≡ definitions_of (module_verdict_of verdict.1)
     → module_of one ≡ present_module texts all name
-made_module texts sorted readings read verdicts all have at name stands reading is_reading verdict is_verdict one named
+made_module texts sorted readings read verdicts all have at name stands reading is_reading read_imports are_read verdict is_verdict one named
     imports definitions =
     let (within, same) = place_of_key texts at name stands in
     let entry = entry_at texts at in
     let T : List ℕ → Type 0 = λ n. text_of texts n ≡ Some entry.1 in
     let is_text = subst T same (text_of_place texts sorted at within) in
-    let reads = reading_of_place texts readings read at entry reading within
-    (get_or_default texts at ([], []) entry within) is_reading in
+    let reads = are_read ∙ ap imports_of (reading_of_place texts readings read at entry reading within
+    (get_or_default texts at ([], []) entry within) is_reading) in
     let inside : at < length verdicts = omega (arith, as_many texts all verdicts have) in
     let verdict_is : module_verdict_of verdict.1 ≡ all name =
     ap (λ (v : List ℕ × DeclaredVerdict). module_verdict_of v.1) is_verdict

@@ -2,10 +2,13 @@
 
 ghost use Rattle.std.specs.Prelude.{◌≡◌, ◌++◌, ◌∷◌, [], filter, map, length, option_map, IfOk, OnOk, IsTrue, if◌then◌else◌};
 ghost use Rattle.std.specs.List.{AllByRecursion};
+ghost use Rattle.std.specs.List.Sorted.{IsStrictlySortedBy};
+ghost use Rattle.std.specs.Map.{keys_of};
 ghost use Rattle.std.specs.Option.{unwrap_or, is_some};
 ghost use Rattle.cc_entry.specs.Entries.{entry_of};
 ghost use Rattle.cc_entry.specs.Modules.{module_of};
 ghost use Rattle.cc_meta_entries.specs.PresentEntries as plain;
+ghost use Rattle.cc_graph.specs.Graph.{compare_names};
 ghost use Rattle.cc_judge.specs.Dependencies.{AreRead};
 ghost use Rattle.cc_meta_modules.specs.ModuleLaws.{NamesOfDevicesDiffer};
 ghost use Rattle.cc_meta_modules.specs.PresentTexts.{ArePresent, text_of};
@@ -25,9 +28,11 @@ use cc_entry::entry::Entry;
 use cc_entry::modules::EntryModule;
 use cc_entry::starting::{authority_of, shapes_of_devices, takes_unit};
 use cc_graph::imports::ImportGraph;
-use cc_judge::dependencies::{import_graph, read_imports};
+use cc_judge::dependencies::{import_graph, read_texts};
 use cc_judge::grounds::SharedText;
+use cc_judge::last::Last;
 use cc_judge::names::place_of_text;
+use cc_judge::reading::ReadText;
 use cc_module::judgement::{CheckedDef, ModuleVerdict};
 use std::alloc::{AllocError, Global};
 
@@ -64,7 +69,7 @@ fn definitions_in(alloc: Global, verdict: &ModuleVerdict) -> Result<Vec<CheckedD
 fn present_module(
     alloc: Global,
     texts: &[(Name, SharedText)],
-    readings: &[Option<Vec<Import>>],
+    readings: &[ReadText],
     verdicts: &[(Name, ModuleVerdict)],
     name: &Name,
 ) -> Result<EntryModule, AllocError>
@@ -76,7 +81,7 @@ fn present_module(
 {
     match place_of_text(texts, name) {
         Some(at) => {
-            let imports = imports_in(alloc, &readings[at])?;
+            let imports = imports_in(alloc, readings[at].imports())?;
             let defs = definitions_in(alloc, &verdicts[at].1)?;
             let name = name.clone()?;
             Ok(EntryModule {
@@ -107,7 +112,7 @@ fn add(modules: &mut Vec<EntryModule>, one: EntryModule) -> Result<(), AllocErro
 fn add_reached(
     alloc: Global,
     texts: &[(Name, SharedText)],
-    readings: &[Option<Vec<Import>>],
+    readings: &[ReadText],
     verdicts: &[(Name, ModuleVerdict)],
     graph: &ImportGraph,
     from: &Name,
@@ -131,7 +136,7 @@ fn add_reached(
 fn reached_modules(
     alloc: Global,
     texts: &[(Name, SharedText)],
-    readings: &[Option<Vec<Import>>],
+    readings: &[ReadText],
     verdicts: &[(Name, ModuleVerdict)],
     graph: &ImportGraph,
     from: &Name,
@@ -163,14 +168,16 @@ fn reached_modules(
 fn entry_modules(
     alloc: Global,
     texts: &[(Name, SharedText)],
+    last: &Last,
     verdicts: &[(Name, ModuleVerdict)],
     from: &Name,
 ) -> Result<Vec<EntryModule>, AllocError>
     requires present { ArePresent texts.now }
+    requires names { IsStrictlySortedBy compare_names (keys_of last.now.verdicts.items) }
     requires count { length verdicts.now ≡ length texts.now }
     ensures { IfOk result (λ modules. AreReachedModules texts.now verdicts.now from.now modules.items) }
 {
-    let readings = read_imports(alloc, texts)?;
+    let readings = read_texts(alloc, texts, last)?;
     let graph = import_graph(alloc, texts, readings.as_slice())?;
     let names = graph.order(alloc)?;
     reached_modules(
@@ -201,6 +208,7 @@ pub(crate) fn make_entry(
     alloc: Global,
     devices: &[DeviceDecl],
     texts: &[(Name, SharedText)],
+    last: &Last,
     verdicts: &[(Name, ModuleVerdict)],
     module: &Name,
     def: &Name,
@@ -208,11 +216,12 @@ pub(crate) fn make_entry(
 ) -> Result<Entry, AllocError>
     requires differ { NamesOfDevicesDiffer devices.now }
     requires present { ArePresent texts.now }
+    requires names { IsStrictlySortedBy compare_names (keys_of last.now.verdicts.items) }
     requires current { HaveCurrentVerdicts devices.now texts.now verdicts.now }
     requires starts { IsStarted devices.now texts.now «module».now def.now (checked_definition_of started.now) }
     ensures { IfOk result (λ entry. IsCurrentEntry devices.now texts.now «module».now def.now (checked_definition_of started.now) (entry_of entry)) }
 {
-    let modules = entry_modules(alloc, texts, verdicts, module)?;
+    let modules = entry_modules(alloc, texts, last, verdicts, module)?;
     let shapes = shapes_of_devices(alloc, devices)?;
     let count = count_devices(devices)?;
     let authority = authority_of(alloc, count, &started.checked.sig.set)?;
@@ -227,6 +236,7 @@ pub(crate) fn start_entry(
     alloc: Global,
     devices: &[DeviceDecl],
     texts: &[(Name, SharedText)],
+    last: &Last,
     verdicts: &[(Name, ModuleVerdict)],
     module: &Name,
     def: &Name,
@@ -234,6 +244,7 @@ pub(crate) fn start_entry(
 ) -> Result<Entry, EntryError>
     requires differ { NamesOfDevicesDiffer devices.now }
     requires present { ArePresent texts.now }
+    requires names { IsStrictlySortedBy compare_names (keys_of last.now.verdicts.items) }
     requires current { HaveCurrentVerdicts devices.now texts.now verdicts.now }
     requires found { IsDefinitionOf devices.now texts.now «module».now def.now (checked_definition_of found.now) }
     ensures { AnswersEntry devices.now texts.now «module».now def.now result }
@@ -241,7 +252,7 @@ pub(crate) fn start_entry(
     if !takes_unit(&found.checked.sig.shape) {
         return Err(EntryError::Refused(Refused { code: Code::E35 }));
     }
-    match make_entry(alloc, devices, texts, verdicts, module, def, found) {
+    match make_entry(alloc, devices, texts, last, verdicts, module, def, found) {
         Ok(entry) => Ok(entry),
         Err(AllocError) => Err(EntryError::NoMemory),
     }

@@ -240,6 +240,7 @@ impl Session {
                 self.alloc,
                 self.devices.as_slice(),
                 self.present.as_slice(),
+                &self.last,
                 self.last.verdicts.as_slice(),
                 module,
                 def,

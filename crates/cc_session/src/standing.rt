@@ -20,7 +20,7 @@ use cc_core::Ctx;
 use cc_judge::grounds::Grounds;
 use cc_judge::last::Last;
 use cc_judge::names::place_of_verdict;
-use cc_module::imports::imports_of;
+use cc_judge::reading::ReadText;
 use cc_module::judgement::CheckedDef;
 use cc_module::standing::{context_behind, names_behind};
 use std::alloc::{AllocError, Global};
@@ -59,12 +59,12 @@ fn place_of_definition(defs: &[CheckedDef], name: &Name) -> Option<usize>
 }
 
 // The imports of the text, and none where it is no module.
-fn imports_in(alloc: Global, text: &[u8]) -> Result<Vec<Import>, AllocError>
-    ensures { IfOk result (λ imports. map import_syntax imports.items ≡ unwrap_or (imports_of text.now) []) }
+fn imports_in(text: &ReadText) -> &[Import]
+    ensures { map import_syntax result.now ≡ unwrap_or (imports_of text.now) [] }
 {
-    match imports_of(alloc, text)? {
-        Some(imports) => Ok(imports),
-        None => Ok(Vec::new(alloc)),
+    match text.imports() {
+        Some(imports) => imports.as_slice(),
+        None => &[],
     }
 }
 
@@ -80,8 +80,8 @@ fn standing_behind<'a>(
 {
     let findings = grounds.findings.as_slice();
     let ctx = context_behind(alloc, devices, findings, before, def)?;
-    let imports = imports_in(alloc, grounds.text.as_bytes())?;
-    let names = names_behind(alloc, devices, &imports, before, def)?;
+    let imports = imports_in(&grounds.text);
+    let names = names_behind(alloc, devices, imports, before, def)?;
     Ok(Standing { ctx, names, def })
 }
 

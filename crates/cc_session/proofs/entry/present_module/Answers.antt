@@ -1,5 +1,6 @@
 use Rattle.std.proofs.Common.{◌≡◌, ap, sym, ◌∙◌, true, false, ◌∷◌, [], List, ℕ}
-use Rattle.std.specs.Option.{is_some}
+use Rattle.std.specs.Option.{is_some, option_map}
+use Rattle.cc_parse.specs.Trees.{imports_syntax}
 use Rattle.cc_meta_entries.specs.PresentEntries.{definitions_of}
 use Rattle.cc_judge.proofs.Entries.{lookup_absent}
 use Rattle.cc_module.specs.declared.judgement.ModuleVerdict.{ModuleVerdict}
@@ -18,6 +19,7 @@ returns c =
     ap (λ one. one ∷ [])
     (made_module c.args.texts.now c.requires.present c.args.readings.now c.requires.read c.args.verdicts.now all have
     c.in-Some.at c.args.name.now c.in-Some.ensures c.index-readings-at.result c.index-readings-at.is
+    (option_map imports_syntax c.imports.result.now) c.imports.ensures
     c.index-verdicts-at.result c.index-verdicts-at.is
     (record {
       name = c.in_ok-name-in-Some.name;

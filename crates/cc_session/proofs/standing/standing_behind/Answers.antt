@@ -1,10 +1,7 @@
-use Rattle.std.proofs.Common.{[], map, refl, ap, ◌∙◌}
-use Rattle.std.specs.Option.{unwrap_or}
-use Rattle.cc_meta_modules.specs.Readings.{imports_of}
+use Rattle.std.proofs.Common.{map, refl, ap, ◌∙◌}
 use Rattle.cc_meta_modules.specs.StandingDefinitions.{context_behind, names_behind}
 use Rattle.cc_module.specs.Findings.{finding_of}
 use Rattle.cc_module.specs.Judgements.{checked_definition_of}
-use Rattle.cc_parse.specs.Trees.{import_syntax}
 use Rattle.cc_session.proofs.standing.standing_behind.Goals as goal
 
 pub returns : goal.returns
@@ -20,6 +17,5 @@ returns c =
       names =
           c.in_ok-names.ensures
           ∙ ap (λ imports. names_behind c.args.devices.now imports before one)
-          (ap (map import_syntax) c.deref.ensures.value ∙ c.in_ok-imports.ensures
-          ∙ ap (λ text. unwrap_or (imports_of text) []) c.as_bytes.ensures);
+          c.imports_in-imports.ensures;
     }
