@@ -1,6 +1,7 @@
 -- How far reading has come, and each step of it.
-use Rattle.std.proofs.Common.{◌≡◌, ℕ, suc, ◌+◌, ◌<◌, ◌≤◌, List, [], ◌∷◌, ◌++◌, ◌-◌, take, map, length, bytes_eq, refl, sym, ap, subst, ◌∙◌, arith, append_assoc}
+use Rattle.std.proofs.Common.{◌≡◌, ℕ, suc, ◌+◌, ◌<◌, ◌≤◌, List, [], ◌∷◌, ◌++◌, ◌-◌, take, map, length, bytes_eq, cond, refl, sym, ap, subst, ◌∙◌, arith, append_assoc}
 use Rattle.std.specs.List.{AllByRecursion, IsDistinct}
+use Rattle.indexmap.specs.IndexSet.{insert_key}
 use Rattle.std.proofs.lemmas.List.{length-append, append-nil}
 use Rattle.cc_base.specs.Names.{IsName}
 use Rattle.cc_core.specs.declared.types.Ty.{Ty}
@@ -74,6 +75,12 @@ module _ (bytes : List ℕ) (names : List (List ℕ)) (binds : List (List ℕ ×
       (subst (λ b. StandsAt bytes (names ++ name ∷ []) b context' lines' behind) (sym q)
       (subst (λ c. StandsAt bytes (names ++ name ∷ []) (binds ++ (name, type) ∷ []) c lines' behind) (sym r) there))
 
+  -- the name is new, so that it is put last
+  pub put_last : (name : List ℕ) (type : Ty) (behind : List ℕ) → next_line (Binding names context) rest ≡ Got (Binds name (type_of type)) behind
+      → insert_key bytes_eq names name ≡ names ++ name ∷ []
+  put_last name type behind h =
+      ap (λ b. cond b names (names ++ name ∷ [])) (next_line_gives (Binding names context) rest (Binds name (type_of type)) behind at.ok h).0.1
+
   pub shorter : (line : Line) (behind : List ℕ) → next_line (Binding names context) rest ≡ Got line behind → length behind < length rest
   shorter line behind h =
       let given = next_line_gives (Binding names context) rest line behind at.ok h in
@@ -82,13 +89,13 @@ module _ (bytes : List ℕ) (names : List (List ℕ)) (binds : List (List ℕ ×
   pub few_names : length names ≤ 4294967296
   few_names = let counted = at.counted in let same = at.same in let low = at.low in omega (arith, counted, same, low)
 
-  pub heading_there : (heading : Heading) (behind : List ℕ) → heading.names.items ≡ names → heading.binds.items ≡ binds → heading.lines ≡ lines + 1
+  pub heading_there : (heading : Heading) (behind : List ℕ) → heading.names ≡ names → heading.binds.items ≡ binds → heading.lines ≡ lines + 1
       → next_line (Binding names context) rest ≡ Got (States (term_of heading.term)) behind → IsHeading bytes heading behind
   heading_there heading behind p q s h =
       let come = come-read Start bytes (Opens ∷ map bind_line_of binds) (Binding names context) rest (States (term_of heading.term)) behind at.come at.ok h in
       let counted = at.counted in
       let same = subst (λ n. Come Start bytes ((Opens ∷ map bind_line_of binds) ++ States (term_of heading.term) ∷ []) (Proving n 0 []) behind) (sym p) come.0 in
-      let there = subst (λ b. Come Start bytes ((Opens ∷ map bind_line_of b) ++ States (term_of heading.term) ∷ []) (Proving heading.names.items 0 []) behind) (sym q) same in
+      let there = subst (λ b. Come Start bytes ((Opens ∷ map bind_line_of b) ++ States (term_of heading.term) ∷ []) (Proving heading.names 0 []) behind) (sym q) same in
       record {
         fit = there.fit;
         ends = there.ends;
@@ -156,17 +163,17 @@ end_refused bytes names binds context lines rest at NoMemory none e = tt
 
 -- the lines so far: those of the heading and of the nodes
 pub record NodesAt (bytes : List ℕ) (heading : Heading) (nodes : List CertNode) (count : ℕ) (unused : List ℕ) (lines : ℕ) (rest : List ℕ) : Type 0 where
-  pub come : Come Start bytes (heading_lines heading ++ map node_line_of nodes) (Proving heading.names.items count unused) rest
-  pub ok : StageOk (Proving heading.names.items count unused)
+  pub come : Come Start bytes (heading_lines heading ++ map node_line_of nodes) (Proving heading.names count unused) rest
+  pub ok : StageOk (Proving heading.names count unused)
   pub counted : lines ≡ length (heading_lines heading) + length nodes
 
 pub begin_nodes : (bytes : List ℕ) (heading : Heading) (rest : List ℕ) → IsHeading bytes heading rest → NodesAt bytes heading [] 0 [] heading.lines rest
 begin_nodes bytes heading rest h =
     let whole = sym (append-nil (heading_lines heading)) in
-    let come : Come Start bytes (heading_lines heading) (Proving heading.names.items 0 []) rest = record { fit = h.fit; ends = h.ends; written = h.written } in
+    let come : Come Start bytes (heading_lines heading) (Proving heading.names 0 []) rest = record { fit = h.fit; ends = h.ends; written = h.written } in
     let counted = h.counted in
     record {
-      come = subst (λ l. Come Start bytes l (Proving heading.names.items 0 []) rest) whole come;
+      come = subst (λ l. Come Start bytes l (Proving heading.names 0 []) rest) whole come;
       ok = (h.named, h.apart, tt);
       counted = omega (arith, counted);
     }
@@ -174,12 +181,12 @@ begin_nodes bytes heading rest h =
 module _ (bytes : List ℕ) (heading : Heading) (nodes : List CertNode) (count : ℕ) (unused : List ℕ) (lines : ℕ) (rest : List ℕ)
     (at : NodesAt bytes heading nodes count unused lines rest) where
   pub node_further : (nodes' : List CertNode) (count' : ℕ) (unused' : List ℕ) (lines' : ℕ) (node : CertNode) (behind : List ℕ)
-      → next_line (Proving heading.names.items count unused) rest ≡ Got (node_line_of node) behind
+      → next_line (Proving heading.names count unused) rest ≡ Got (node_line_of node) behind
       → nodes' ≡ nodes ++ node ∷ [] → count' ≡ count + 1
       → unused' ≡ take (length unused - length node.premises.items) unused ++ count' ∷ [] → lines' ≡ lines + 1
       → NodesAt bytes heading nodes' count' unused' lines' behind
   node_further nodes' count' unused' lines' node behind h p q r s =
-      let come = come-read Start bytes (heading_lines heading ++ map node_line_of nodes) (Proving heading.names.items count unused) rest (node_line_of node) behind at.come at.ok h in
+      let come = come-read Start bytes (heading_lines heading ++ map node_line_of nodes) (Proving heading.names count unused) rest (node_line_of node) behind at.come at.ok h in
       let counted = at.counted in
       let next : count' ≡ suc count = omega (arith, q) in
       let used : unused' ≡ take (length unused - length node.premises.items) unused ++ suc count ∷ [] = r ∙ ap (λ n. take (length unused - length node.premises.items) unused ++ n ∷ []) next in
@@ -187,7 +194,7 @@ module _ (bytes : List ℕ) (heading : Heading) (nodes : List CertNode) (count :
       append_assoc (heading_lines heading) (map node_line_of nodes) (node_line_of node ∷ []) ∙ ap (λ z. heading_lines heading ++ z) (map-snoc node_line_of nodes node) in
       let there : NodesAt bytes heading (nodes ++ node ∷ []) (suc count) (take (length unused - length node.premises.items) unused ++ suc count ∷ []) lines' behind =
       record {
-        come = subst (λ l. Come Start bytes l (Proving heading.names.items (suc count) (take (length unused - length node.premises.items) unused ++ suc count ∷ [])) behind) more come.0;
+        come = subst (λ l. Come Start bytes l (Proving heading.names (suc count) (take (length unused - length node.premises.items) unused ++ suc count ∷ [])) behind) more come.0;
         ok = come.1;
         counted = omega (arith, s, counted, length-append nodes (node ∷ []));
       } in
@@ -195,19 +202,19 @@ module _ (bytes : List ℕ) (heading : Heading) (nodes : List CertNode) (count :
       (subst (λ c. NodesAt bytes heading (nodes ++ node ∷ []) c unused' lines' behind) (sym next)
       (subst (λ u. NodesAt bytes heading (nodes ++ node ∷ []) (suc count) u lines' behind) (sym used) there))
 
-  pub node_shorter : (line : Line) (behind : List ℕ) → next_line (Proving heading.names.items count unused) rest ≡ Got line behind → length behind < length rest
+  pub node_shorter : (line : Line) (behind : List ℕ) → next_line (Proving heading.names count unused) rest ≡ Got line behind → length behind < length rest
   node_shorter line behind h =
-      let given = next_line_gives (Proving heading.names.items count unused) rest line behind at.ok h in
-      omega (arith, ap length given.1, length-append (line_text (Proving heading.names.items count unused) line) (10 ∷ behind))
+      let given = next_line_gives (Proving heading.names count unused) rest line behind at.ok h in
+      omega (arith, ap length given.1, length-append (line_text (Proving heading.names count unused) line) (10 ∷ behind))
 
   counted_lines : (number : ℕ) → number ≡ lines + 1 → number ≡ suc (length (heading_lines heading ++ map node_line_of nodes))
   counted_lines number e =
       let counted = at.counted in
       omega (arith, e, counted, length-append (heading_lines heading) (map node_line_of nodes), length-map node_line_of nodes)
 
-  pub bad_node : (number : ℕ) → next_line (Proving heading.names.items count unused) rest ≡ Wrong → 0 < length rest → number ≡ lines + 1 → IsBadLine bytes number
+  pub bad_node : (number : ℕ) → next_line (Proving heading.names count unused) rest ≡ Wrong → 0 < length rest → number ≡ lines + 1 → IsBadLine bytes number
   bad_node number h some e =
-      bad-there bytes (heading_lines heading ++ map node_line_of nodes) (Proving heading.names.items count unused) rest number at.come at.ok h
+      bad-there bytes (heading_lines heading ++ map node_line_of nodes) (Proving heading.names count unused) rest number at.come at.ok h
       (λ nothing. omega (arith, ap length nothing, some)) (counted_lines number e)
 
   nothing_left : (xs : List ℕ) → length xs ≡ 0 → xs ≡ []
@@ -216,12 +223,12 @@ module _ (bytes : List ℕ) (heading : Heading) (nodes : List CertNode) (count :
 
   pub bad_nodes : (number : ℕ) → length rest ≡ 0 → (length unused ≡ 1 → ⊥) → number ≡ lines + 1 → IsBadLine bytes number
   bad_nodes number none several e =
-      bad-end bytes (heading_lines heading ++ map node_line_of nodes) (Proving heading.names.items count unused) rest number at.come several (nothing_left rest none)
+      bad-end bytes (heading_lines heading ++ map node_line_of nodes) (Proving heading.names count unused) rest number at.come several (nothing_left rest none)
       (counted_lines number e)
 
   pub all_nodes : length rest ≡ 0 → length unused ≡ 1 → IsCertificate bytes (heading_lines heading ++ map node_line_of nodes)
   all_nodes none one =
-      whole-there bytes (heading_lines heading ++ map node_line_of nodes) (Proving heading.names.items count unused) rest at.come one (nothing_left rest none)
+      whole-there bytes (heading_lines heading ++ map node_line_of nodes) (Proving heading.names count unused) rest at.come one (nothing_left rest none)
 
 pub begin_nodes_with : (bytes : List ℕ) (heading : Heading) (nodes : List CertNode) (unused rest : List ℕ) → nodes ≡ [] → unused ≡ []
     → IsHeading bytes heading rest → NodesAt bytes heading nodes 0 unused heading.lines rest
@@ -231,7 +238,7 @@ begin_nodes_with bytes heading nodes unused rest p q h =
 
 pub node_refused : {A : Type 0} (view : A → List CertNode) (bytes : List ℕ) (heading : Heading) (nodes : List CertNode) (count : ℕ) (unused : List ℕ) (lines : ℕ) (rest : List ℕ)
     → NodesAt bytes heading nodes count unused lines rest → (stop : Stop) (error : ReadCertError) → 0 < length rest
-    → RefusedAs stop (next_line (Proving heading.names.items count unused) rest) → StopsAs stop lines error → ReadsNodes view bytes heading (Err error)
+    → RefusedAs stop (next_line (Proving heading.names count unused) rest) → StopsAs stop lines error → ReadsNodes view bytes heading (Err error)
 node_refused view bytes heading nodes count unused lines rest at stops.Misfit (BadCert line) some h e = bad_node bytes heading nodes count unused lines rest at line h some e
 node_refused view bytes heading nodes count unused lines rest at stops.Misfit NoMemory some h e = tt
 node_refused view bytes heading nodes count unused lines rest at stops.NoMemory (BadCert line) some h e = absurd e

@@ -49,12 +49,12 @@ heading_lines heading = (Opens ∷ map bind_line_of heading.binds.items) ++ Stat
 -- the bytes begin with these lines, which fit
 pub record IsHeading (bytes : List ℕ) (heading : Heading) (rest : List ℕ) : Type 0 where
   pub fit : AllFit Start (heading_lines heading)
-  pub ends : behind_lines Start (heading_lines heading) ≡ Proving heading.names.items 0 []
+  pub ends : behind_lines Start (heading_lines heading) ≡ Proving heading.names 0 []
   pub written : bytes ≡ lines_text Start (heading_lines heading) ++ rest
-  pub named : AllByRecursion IsName heading.names.items
-  pub apart : IsDistinct bytes_eq heading.names.items
+  pub named : AllByRecursion IsName heading.names
+  pub apart : IsDistinct bytes_eq heading.names
   pub counted : heading.lines ≡ length (heading_lines heading)
-  pub few : length heading.names.items ≤ 4294967296
+  pub few : length heading.names ≤ 4294967296
 
 abbrev pub ReadsHeading : List ℕ → Result (Heading × Bor (List ℕ)) ReadCertError → Type 0
 ReadsHeading bytes (Ok read) = IsHeading bytes read.0 read.1.now

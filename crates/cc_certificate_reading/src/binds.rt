@@ -1,8 +1,6 @@
 //! Binds and the term.
 
 ghost use Rattle.std.specs.Prelude.{◌≡◌, ◌≤◌, length, IfOk};
-ghost use Rattle.std.specs.Str.{bytes_eq};
-ghost use Rattle.std.specs.List.{list_any};
 ghost use Rattle.cc_core.specs.Places.{places_of};
 ghost use Rattle.cc_core.specs.Views.{term_of, context_of};
 ghost use Rattle.cc_certificate_text.specs.Certificates.{States};
@@ -13,6 +11,7 @@ ghost use Rattle.cc_certificate_reading.specs.Views.{bind_line_of};
 
 use cc_base::name::Name;
 use cc_certificate_terms::terms::read_term;
+use cc_certificate_types::names::Names;
 use cc_certificate_types::sets::Locals;
 use cc_certificate_types::stop::{Reading, Stop};
 use cc_certificate_types::types::read_type;
@@ -36,17 +35,11 @@ fn read_name<'a>(alloc: Global, bytes: &'a [u8]) -> Reading<'a, Name>
     }
 }
 
-fn is_among(names: &[Name], name: &Name) -> bool
-    ensures { result ≡ list_any (bytes_eq name.now) names.now }
-{
-    names.iter().any(|other| *name == *other)
-}
-
 /// The name and the type of a bind.
 #[tactic(auto, unfolding(cc_certificate_text::specs::LineReading::bind_at, cc_certificate_text::specs::Reading::type_at))]
 pub fn read_bind<'a>(
     alloc: Global,
-    names: &[Name],
+    names: &Names,
     ctx: &Ctx,
     bytes: &'a [u8],
 ) -> Reading<'a, (Name, Ty)>
@@ -54,7 +47,7 @@ pub fn read_bind<'a>(
     ensures { Agrees bind_line_of result (bind_at names.now (context_of ctx.now) bytes.now) }
 {
     let (name, rest) = read_name(alloc, bytes)?;
-    if is_among(names, &name) {
+    if names.contains(&name) {
         return Err(Stop::Misfit);
     }
     let (_, rest) = read_exact(" ", rest)?;
@@ -69,7 +62,7 @@ pub fn read_bind<'a>(
 #[tactic(auto, unfolding(cc_certificate_text::specs::LineReading::statement_at))]
 pub fn read_statement<'a>(
     alloc: Global,
-    names: &[Name],
+    names: &Names,
     ctx: &Ctx,
     bytes: &'a [u8],
 ) -> Reading<'a, Node>

@@ -25,7 +25,7 @@ ghost use Rattle.cc_certificate_text.specs.LineReading.{
 ghost use Rattle.cc_certificate_types.specs.Agreement.{Agrees};
 ghost use Rattle.cc_certificate_reading.specs.Views.{numbered_of, kind_of};
 
-use cc_base::name::Name;
+use cc_certificate_types::names::Names;
 use cc_certificate_types::sets::{Locals, read_set};
 use cc_certificate_types::stop::{Reading, Stop};
 use cc_certificate_types::types::{read_shape, read_type};
@@ -155,7 +155,7 @@ fn either(one: bool, other: bool) -> bool
 #[tactic(auto, unfolding(cc_certificate_text::specs::LineReading::set_claim_at))]
 fn read_set_claim<'a>(
     alloc: Global,
-    names: &[Name],
+    names: &Names,
     bytes: &'a [u8],
 ) -> Reading<'a, (Option<u32>, Claim)>
     requires { length names.now ≤ 4294967296 }
@@ -172,7 +172,7 @@ fn read_set_claim<'a>(
 #[tactic(auto, unfolding(cc_certificate_text::specs::LineReading::right_at))]
 fn read_right_shape<'a>(
     alloc: Global,
-    names: &[Name],
+    names: &Names,
     left: Shape,
     first: Option<u32>,
     bytes: &'a [u8],
@@ -194,7 +194,7 @@ fn read_right_shape<'a>(
 #[tactic(auto, unfolding(cc_certificate_text::specs::LineReading::below_at))]
 fn read_shape_claim<'a>(
     alloc: Global,
-    names: &[Name],
+    names: &Names,
     bytes: &'a [u8],
 ) -> Reading<'a, (Option<u32>, Claim)>
     requires { length names.now ≤ 4294967296 }
@@ -212,7 +212,7 @@ fn read_shape_claim<'a>(
 #[tactic(auto, unfolding(cc_certificate_text::specs::LineReading::right_at, cc_certificate_text::specs::Reading::type_at))]
 fn read_right_type<'a>(
     alloc: Global,
-    names: &[Name],
+    names: &Names,
     left: Ty,
     first: Option<u32>,
     bytes: &'a [u8],
@@ -235,7 +235,7 @@ fn read_right_type<'a>(
 #[tactic(auto, unfolding(cc_certificate_text::specs::LineReading::below_at, cc_certificate_text::specs::Reading::type_at))]
 fn read_type_claim<'a>(
     alloc: Global,
-    names: &[Name],
+    names: &Names,
     bytes: &'a [u8],
 ) -> Reading<'a, (Option<u32>, Claim)>
     requires { length names.now ≤ 4294967296 }
@@ -253,7 +253,7 @@ fn read_type_claim<'a>(
 #[tactic(auto, unfolding(cc_certificate_text::specs::LineReading::typing_claim_at, cc_certificate_text::specs::Reading::type_at))]
 fn read_typing_claim<'a>(
     alloc: Global,
-    names: &[Name],
+    names: &Names,
     bytes: &'a [u8],
 ) -> Reading<'a, (Option<u32>, Claim)>
     requires { length names.now ≤ 4294967296 }
@@ -273,7 +273,7 @@ fn read_typing_claim<'a>(
 #[tactic(auto, unfolding(cc_certificate_text::specs::LineReading::claim_at))]
 pub fn read_claim<'a>(
     alloc: Global,
-    names: &[Name],
+    names: &Names,
     kind: ClaimKind,
     bytes: &'a [u8],
 ) -> Reading<'a, (Option<u32>, Claim)>

@@ -10,7 +10,7 @@ ghost use Rattle.cc_certificate_reading.specs.Views.{node_line_of};
 use crate::certificate::CertNode;
 use crate::claims::read_claim;
 use crate::rules::{kind_of, read_rule};
-use cc_base::name::Name;
+use cc_certificate_types::names::Names;
 use cc_certificate_types::numbers::read_same;
 use cc_certificate_types::stop::{Reading, Stop};
 use cc_certificate_types::words::read_exact;
@@ -76,7 +76,7 @@ fn ends_with(numbers: &[u32], last: &[u32]) -> bool
 #[tactic(auto, unfolding(cc_certificate_text::specs::LineReading::conclusion_at))]
 fn read_conclusion<'a>(
     alloc: Global,
-    names: &[Name],
+    names: &Names,
     rule: Rule,
     premises: Vec<u32>,
     bytes: &'a [u8],
@@ -99,7 +99,7 @@ fn read_conclusion<'a>(
 #[tactic(auto, unfolding(cc_certificate_text::specs::LineReading::numbered_node_at))]
 fn read_numbered_node<'a>(
     alloc: Global,
-    names: &[Name],
+    names: &Names,
     unused: &[u32],
     bytes: &'a [u8],
 ) -> Reading<'a, CertNode>
@@ -119,7 +119,7 @@ fn read_numbered_node<'a>(
 #[tactic(auto, unfolding(cc_certificate_text::specs::LineReading::node_at))]
 pub fn read_node<'a>(
     alloc: Global,
-    names: &[Name],
+    names: &Names,
     count: u32,
     unused: &[u32],
     bytes: &'a [u8],

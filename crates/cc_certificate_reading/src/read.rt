@@ -1,6 +1,8 @@
 //! Whole certificates, line by line.
 
 ghost use Rattle.std.specs.Prelude.{◌≡◌, ◌≤◌, ◌-◌, ◌++◌, ◌∷◌, [], length, take, OnOk, IfOk};
+ghost use Rattle.std.specs.Str.{bytes_eq};
+ghost use Rattle.indexmap.specs.IndexSet.{insert_key};
 ghost use Rattle.cc_core.specs.Contexts.{entry_of};
 ghost use Rattle.cc_core.specs.Places.{places_of};
 ghost use Rattle.cc_core.specs.Views.{type_of, context_of};
@@ -15,6 +17,7 @@ use crate::binds::{read_bind, read_statement};
 use crate::certificate::{Cert, CertNode, ReadCertError};
 use crate::nodes::read_node;
 use cc_base::name::Name;
+use cc_certificate_types::names::Names;
 use cc_certificate_types::stop::{Reading, Stop};
 use cc_certificate_types::words::read_exact;
 use cc_core::{Bind, Ctx, Node, Ty};
@@ -32,7 +35,7 @@ pub enum Entry {
 /// The lines before the nodes, with how many they are.
 #[derive(Drop)]
 pub struct Heading {
-    pub names: Vec<Name>,
+    pub names: Names,
     pub binds: Vec<(Name, Ty)>,
     pub term: Node,
     pub lines: u32,
@@ -41,7 +44,7 @@ pub struct Heading {
 /// The binds so far.
 #[derive(Drop)]
 pub struct Bound {
-    pub names: Vec<Name>,
+    pub names: Names,
     pub binds: Vec<(Name, Ty)>,
     pub ctx: Ctx,
 }
@@ -58,7 +61,7 @@ fn read_opening(bytes: &[u8]) -> Reading<'_, ()>
 
 // The line of a bind or of the term.
 #[tactic(auto, unfolding(cc_certificate_text::specs::LineReading::next_line, cc_certificate_text::specs::LineReading::line_at, cc_certificate_text::specs::Reading::begun))]
-fn read_entry<'a>(alloc: Global, names: &[Name], ctx: &Ctx, bytes: &'a [u8]) -> Reading<'a, Entry>
+fn read_entry<'a>(alloc: Global, names: &Names, ctx: &Ctx, bytes: &'a [u8]) -> Reading<'a, Entry>
     requires { length names.now ≤ 4294967296 }
     ensures read { Agrees entry_line_of result (next_line (Binding names.now (context_of ctx.now)) bytes.now) }
     ensures placed { IfOk result (λ read. IsPlacedEntry read.0) }
@@ -80,7 +83,7 @@ fn read_entry<'a>(alloc: Global, names: &[Name], ctx: &Ctx, bytes: &'a [u8]) -> 
 #[tactic(auto, unfolding(cc_certificate_text::specs::LineReading::next_line, cc_certificate_text::specs::LineReading::line_at))]
 fn read_node_line<'a>(
     alloc: Global,
-    names: &[Name],
+    names: &Names,
     count: u32,
     unused: &[u32],
     bytes: &'a [u8],
@@ -126,15 +129,14 @@ fn with_entry(alloc: Global, ctx: &Ctx, ty: &Ty) -> Result<Ctx, AllocError>
     ctx.push(alloc, Bind::Var(Ty { shape, set }))
 }
 
-// Adds a bind.
+// Adds a bind. Its name is put last, unless it is there.
 fn add_bind(alloc: Global, bound: &mut Bound, name: Name, ty: Ty) -> Result<(), AllocError>
-    ensures names { OnOk result (bound.new.names.items ≡ bound.old.names.items ++ name ∷ []) }
+    ensures names { OnOk result (bound.new.names ≡ insert_key bytes_eq bound.old.names name) }
     ensures binds { OnOk result (bound.new.binds.items ≡ bound.old.binds.items ++ (name, ty) ∷ []) }
     ensures context { OnOk result (context_of bound.new.ctx ≡ entry_of (type_of ty) ∷ context_of bound.old.ctx) }
 {
     let ctx = with_entry(alloc, &bound.ctx, &ty)?;
-    let shared = name.clone()?;
-    bound.names.push(shared)?;
+    bound.names.add(&name)?;
     bound.binds.push((name, ty))?;
     bound.ctx = ctx;
     Ok(())
@@ -163,14 +165,14 @@ pub fn read_heading<'a>(
         Err(stop) => return Err(stopped(stop, 0)),
     };
     let mut bound = Bound {
-        names: Vec::new(alloc),
+        names: Names::new(alloc),
         binds: Vec::new(alloc),
         ctx: Ctx::new(),
     };
     let mut lines: u32 = 1;
     let mut rest = opening.1;
     while rest.len() > 0 {
-        let (entry, behind) = match read_entry(alloc, bound.names.as_slice(), &bound.ctx, rest) {
+        let (entry, behind) = match read_entry(alloc, &bound.names, &bound.ctx, rest) {
             Ok(read) => read,
             Err(stop) => return Err(stopped(stop, lines)),
         };
@@ -212,7 +214,7 @@ pub fn read_nodes(
     while rest.len() > 0 {
         let (node, behind) = match read_node_line(
             alloc,
-            heading.names.as_slice(),
+            &heading.names,
             count,
             unused.as_slice(),
             rest,

@@ -40,9 +40,9 @@ ghost use Rattle.cc_certificate_types.specs.Agreement.{Agrees};
 
 use crate::literals::{literal_of, text_of};
 use cc_base::literal::{Lit, Op, Operator};
-use cc_base::name::Name;
 use cc_base::place::Place;
 use cc_capture::Var;
+use cc_certificate_types::names::Names;
 use cc_certificate_types::numbers::read_same;
 use cc_certificate_types::sets::{Locals, read_set, variable_of};
 use cc_certificate_types::stop::{Reading, Stop};
@@ -69,7 +69,7 @@ fn node(form: Form) -> Node
 
 // A variable of terms.
 #[tactic(auto, unfolding(cc_certificate_text::specs::Reading::variable_at))]
-fn read_variable<'a>(names: &[Name], depth: u64, bytes: &'a [u8]) -> Reading<'a, Var>
+fn read_variable<'a>(names: &Names, depth: u64, bytes: &'a [u8]) -> Reading<'a, Var>
     requires names { length names.now ≤ 4294967296 }
     requires depth { depth ≤ 4294967296 }
     ensures { Agrees (λ variable. variable) result (variable_at names.now depth bytes.now) }
@@ -82,7 +82,7 @@ fn read_variable<'a>(names: &[Name], depth: u64, bytes: &'a [u8]) -> Reading<'a,
 }
 
 // A variable of terms, where a part of height 1 has room.
-fn read_operand<'a>(names: &[Name], room: u32, depth: u64, bytes: &'a [u8]) -> Reading<'a, Var>
+fn read_operand<'a>(names: &Names, room: u32, depth: u64, bytes: &'a [u8]) -> Reading<'a, Var>
     requires names { length names.now ≤ 4294967296 }
     requires depth { depth ≤ 4294967296 }
     ensures { Agrees (λ variable. variable) result (where_true (nat_lt 0 room) (variable_at names.now depth bytes.now)) }
@@ -97,7 +97,7 @@ fn read_operand<'a>(names: &[Name], room: u32, depth: u64, bytes: &'a [u8]) -> R
 #[tactic(auto, unfolding(cc_certificate_text::specs::Reading::note_at, cc_certificate_text::specs::Reading::begun))]
 fn read_note<'a>(
     alloc: Global,
-    names: &[Name],
+    names: &Names,
     room: u32,
     depth: u64,
     bytes: &'a [u8],
@@ -121,7 +121,7 @@ fn read_note<'a>(
 #[tactic(auto, unfolding(cc_certificate_text::specs::Reading::term_rule_at))]
 fn read_function<'a>(
     alloc: Global,
-    names: &[Name],
+    names: &Names,
     room: u32,
     depth: u64,
     bytes: &'a [u8],
@@ -146,7 +146,7 @@ fn read_function<'a>(
 #[tactic(auto, unfolding(cc_certificate_text::specs::Reading::term_rule_at))]
 fn read_type_function<'a>(
     alloc: Global,
-    names: &[Name],
+    names: &Names,
     room: u32,
     depth: u64,
     bytes: &'a [u8],
@@ -171,7 +171,7 @@ fn read_type_function<'a>(
 #[tactic(auto, unfolding(cc_certificate_text::specs::Reading::term_rule_at))]
 fn read_let<'a>(
     alloc: Global,
-    names: &[Name],
+    names: &Names,
     room: u32,
     depth: u64,
     bytes: &'a [u8],
@@ -197,7 +197,7 @@ fn read_let<'a>(
 #[tactic(auto, unfolding(cc_certificate_text::specs::Reading::term_rule_at))]
 fn read_choice<'a>(
     alloc: Global,
-    names: &[Name],
+    names: &Names,
     room: u32,
     depth: u64,
     bytes: &'a [u8],
@@ -228,7 +228,7 @@ fn read_choice<'a>(
 #[tactic(auto, unfolding(cc_certificate_text::specs::Reading::term_rule_at))]
 fn read_boundary<'a>(
     alloc: Global,
-    names: &[Name],
+    names: &Names,
     room: u32,
     depth: u64,
     bytes: &'a [u8],
@@ -250,7 +250,7 @@ fn read_boundary<'a>(
 
 // What is boxed.
 #[tactic(auto, unfolding(cc_certificate_text::specs::Reading::term_rule_at))]
-fn read_boxing<'a>(names: &[Name], room: u32, depth: u64, bytes: &'a [u8]) -> Reading<'a, Node>
+fn read_boxing<'a>(names: &Names, room: u32, depth: u64, bytes: &'a [u8]) -> Reading<'a, Node>
     requires names { length names.now ≤ 4294967296 }
     requires depth { depth ≤ 4294967296 }
     ensures read { Agrees term_of result (term_rule_at (term_parts names.now room (shape_at Counted names.now room) (term_at names.now room)) BoxingRule depth bytes.now) }
@@ -264,7 +264,7 @@ fn read_boxing<'a>(names: &[Name], room: u32, depth: u64, bytes: &'a [u8]) -> Re
 #[tactic(auto, unfolding(cc_certificate_text::specs::Reading::term_rule_at))]
 fn read_unboxing<'a>(
     alloc: Global,
-    names: &[Name],
+    names: &Names,
     room: u32,
     depth: u64,
     bytes: &'a [u8],
@@ -282,7 +282,7 @@ fn read_unboxing<'a>(
 
 // A repetition, behind its parenthesis.
 #[tactic(auto, unfolding(cc_certificate_text::specs::Reading::term_rule_at))]
-fn read_repetition<'a>(names: &[Name], room: u32, depth: u64, bytes: &'a [u8]) -> Reading<'a, Node>
+fn read_repetition<'a>(names: &Names, room: u32, depth: u64, bytes: &'a [u8]) -> Reading<'a, Node>
     requires names { length names.now ≤ 4294967296 }
     requires depth { depth ≤ 4294967296 }
     ensures read { Agrees term_of result (term_rule_at (term_parts names.now room (shape_at Counted names.now room) (term_at names.now room)) RepeatRule depth bytes.now) }
@@ -299,7 +299,7 @@ fn read_repetition<'a>(names: &[Name], room: u32, depth: u64, bytes: &'a [u8]) -
 #[tactic(auto, unfolding(cc_certificate_text::specs::Reading::term_rule_at))]
 fn read_leaving<'a>(
     alloc: Global,
-    names: &[Name],
+    names: &Names,
     room: u32,
     depth: u64,
     bytes: &'a [u8],
@@ -322,7 +322,7 @@ fn read_leaving<'a>(
 // A call, behind its parenthesis.
 #[tactic(auto, unfolding(cc_certificate_text::specs::Reading::head_rule_at))]
 fn read_call<'a>(
-    names: &[Name],
+    names: &Names,
     room: u32,
     depth: u64,
     head: Var,
@@ -345,7 +345,7 @@ fn read_call<'a>(
 #[tactic(auto, unfolding(cc_certificate_text::specs::Reading::head_rule_at))]
 fn read_type_call<'a>(
     alloc: Global,
-    names: &[Name],
+    names: &Names,
     room: u32,
     depth: u64,
     head: Var,
@@ -368,7 +368,7 @@ fn read_type_call<'a>(
 // The second operand of an operator.
 #[tactic(auto, unfolding(cc_certificate_text::specs::Reading::head_rule_at))]
 fn read_right<'a>(
-    names: &[Name],
+    names: &Names,
     room: u32,
     depth: u64,
     head: Var,
@@ -390,7 +390,7 @@ fn read_right<'a>(
 // The argument of an operation, behind the parenthesis.
 #[tactic(auto, unfolding(cc_certificate_text::specs::Reading::head_rule_at))]
 fn read_told<'a>(
-    names: &[Name],
+    names: &Names,
     room: u32,
     depth: u64,
     head: Var,
@@ -413,7 +413,7 @@ fn read_told<'a>(
 // The end of an operation without an argument.
 #[tactic(auto, unfolding(cc_certificate_text::specs::Reading::head_rule_at))]
 fn read_asked<'a>(
-    names: &[Name],
+    names: &Names,
     room: u32,
     depth: u64,
     head: Var,
@@ -435,7 +435,7 @@ fn read_asked<'a>(
 // An operator and its second operand, or the variable alone.
 #[tactic(auto, unfolding(cc_certificate_text::specs::Reading::computed_at, cc_certificate_text::specs::Reading::begun))]
 fn read_computed<'a>(
-    names: &[Name],
+    names: &Names,
     room: u32,
     depth: u64,
     head: Var,
@@ -467,7 +467,7 @@ fn read_computed<'a>(
 // An operation, or what begins otherwise with the variable.
 #[tactic(auto, unfolding(cc_certificate_text::specs::Reading::operated_at, cc_certificate_text::specs::Reading::begun))]
 fn read_operated<'a>(
-    names: &[Name],
+    names: &Names,
     room: u32,
     depth: u64,
     head: Var,
@@ -500,7 +500,7 @@ fn read_operated<'a>(
 #[tactic(auto, unfolding(cc_certificate_text::specs::Reading::headed_at, cc_certificate_text::specs::Reading::begun))]
 fn read_headed<'a>(
     alloc: Global,
-    names: &[Name],
+    names: &Names,
     room: u32,
     depth: u64,
     head: Var,
@@ -539,7 +539,7 @@ fn read_text<'a>(alloc: Global, bytes: &'a [u8]) -> Reading<'a, Node>
 #[tactic(auto, unfolding(cc_certificate_text::specs::Reading::word_term_at))]
 fn read_word_term<'a>(
     alloc: Global,
-    names: &[Name],
+    names: &Names,
     room: u32,
     depth: u64,
     bytes: &'a [u8],
@@ -563,7 +563,7 @@ fn read_word_term<'a>(
 #[tactic(auto, unfolding(cc_certificate_text::specs::Reading::plain_term_at, cc_certificate_text::specs::Reading::begun))]
 fn read_plain_term<'a>(
     alloc: Global,
-    names: &[Name],
+    names: &Names,
     room: u32,
     depth: u64,
     bytes: &'a [u8],
@@ -596,7 +596,7 @@ fn read_plain_term<'a>(
 #[tactic(auto, unfolding(cc_certificate_text::specs::Reading::term_over, cc_certificate_text::specs::Reading::begun))]
 fn read_term_over<'a>(
     alloc: Global,
-    names: &[Name],
+    names: &Names,
     room: u32,
     depth: u64,
     bytes: &'a [u8],
@@ -629,7 +629,7 @@ fn read_term_over<'a>(
 #[tactic(auto, using(crate::proofs::Rooms::term_above, crate::proofs::Rooms::term_nowhere))]
 pub fn read_term<'a>(
     alloc: Global,
-    names: &[Name],
+    names: &Names,
     room: u32,
     depth: u64,
     bytes: &'a [u8],

@@ -5,7 +5,6 @@ ghost use Rattle.cc_words.specs.Words.{all_of};
 ghost use Rattle.cc_certificate_text.specs.Reading.{
   local_at,
   local_of,
-  position_of,
   variable_of,
   element_of,
   other_of,
@@ -22,8 +21,8 @@ ghost use Rattle.cc_capture.specs.declared.var.Elem.TheVariants as elems;
 ghost use Rattle.cc_certificate_types.specs.Agreement.{Agrees};
 ghost use Rattle.cc_certificate_types.specs.Numberings.{locals_of, follows};
 
+use crate::names::Names;
 use crate::stop::{Reading, Stop};
-use cc_base::name::Name;
 use cc_capture::{CapSet, Elem, Var, compare_elem};
 use cc_words::words::{behind, cut_at, first_and_rest, number_of, split_at};
 use std::alloc::{AllocError, Global};
@@ -66,29 +65,16 @@ pub fn local_of(locals: Locals, depth: u64, digits: &[u8]) -> Option<Var>
     }
 }
 
-// The position of the first name that the word spells.
-fn position_of(names: &[Name], word: &[u8]) -> Option<u32>
-    requires { length names.now ≤ 4294967296 }
-    ensures { result ≡ position_of names.now word.now }
-{
-    for (at, name) in names.iter().enumerate() {
-        if name.as_str().as_bytes() == word {
-            return Some(at as u32);
-        }
-    }
-    None
-}
-
 /// The variable of terms that the word is.
 #[tactic(auto, unfolding(cc_certificate_text::specs::Reading::variable_of))]
-pub fn variable_of(locals: Locals, names: &[Name], depth: u64, word: &[u8]) -> Option<Var>
+pub fn variable_of(locals: Locals, names: &Names, depth: u64, word: &[u8]) -> Option<Var>
     requires names { length names.now ≤ 4294967296 }
     requires depth { depth ≤ 4294967296 }
     ensures { result ≡ variable_of (locals_of locals) names.now depth word.now }
 {
     match behind(word, "_") {
         Some(digits) => local_of(locals, depth, digits),
-        None => match position_of(names, word) {
+        None => match names.position(word) {
             Some(position) => Some(Var::Free(position)),
             None => None,
         },
@@ -97,7 +83,7 @@ pub fn variable_of(locals: Locals, names: &[Name], depth: u64, word: &[u8]) -> O
 
 // The element that the word is.
 #[tactic(auto, unfolding(cc_certificate_text::specs::Reading::element_of))]
-fn element_of(locals: Locals, names: &[Name], depth: u64, word: &[u8]) -> Option<Elem>
+fn element_of(locals: Locals, names: &Names, depth: u64, word: &[u8]) -> Option<Elem>
     requires names { length names.now ≤ 4294967296 }
     requires depth { depth ≤ 4294967296 }
     ensures { result ≡ element_of (locals_of locals) names.now depth word.now }
@@ -113,7 +99,7 @@ fn element_of(locals: Locals, names: &[Name], depth: u64, word: &[u8]) -> Option
 
 // An element behind a space.
 #[tactic(auto, unfolding(cc_certificate_text::specs::Reading::other_of))]
-fn other_of(locals: Locals, names: &[Name], depth: u64, word: &[u8]) -> Option<Elem>
+fn other_of(locals: Locals, names: &Names, depth: u64, word: &[u8]) -> Option<Elem>
     requires names { length names.now ≤ 4294967296 }
     requires depth { depth ≤ 4294967296 }
     ensures { result ≡ other_of (locals_of locals) names.now depth word.now }
@@ -128,7 +114,7 @@ fn other_of(locals: Locals, names: &[Name], depth: u64, word: &[u8]) -> Option<E
 fn elements_behind(
     alloc: Global,
     locals: Locals,
-    names: &[Name],
+    names: &Names,
     depth: u64,
     first: Elem,
     words: &[&[u8]],
@@ -153,7 +139,7 @@ fn elements_behind(
 fn elements_of(
     alloc: Global,
     locals: Locals,
-    names: &[Name],
+    names: &Names,
     depth: u64,
     words: &[&[u8]],
 ) -> Result<Option<Vec<Elem>>, AllocError>
@@ -250,7 +236,7 @@ fn stand_in_order(locals: Locals, elems: &[Elem]) -> bool
 fn set_of(
     alloc: Global,
     locals: Locals,
-    names: &[Name],
+    names: &Names,
     depth: u64,
     content: &[u8],
 ) -> Result<Option<CapSet>, AllocError>
@@ -274,7 +260,7 @@ fn set_of(
 pub fn read_some_set<'a>(
     alloc: Global,
     locals: Locals,
-    names: &[Name],
+    names: &Names,
     depth: u64,
     bytes: &'a [u8],
 ) -> Reading<'a, CapSet>
@@ -296,7 +282,7 @@ pub fn read_some_set<'a>(
 pub fn read_set<'a>(
     alloc: Global,
     locals: Locals,
-    names: &[Name],
+    names: &Names,
     depth: u64,
     bytes: &'a [u8],
 ) -> Reading<'a, CapSet>

@@ -23,12 +23,12 @@ ghost use Rattle.cc_certificate_text.specs.Reading.{
 ghost use Rattle.cc_certificate_types.specs.Agreement.{Agrees};
 ghost use Rattle.cc_certificate_types.specs.Numberings.{locals_of};
 
+use crate::names::Names;
 use crate::numbers::read_same;
 use crate::sets::{Locals, local_of, read_some_set};
 use crate::stop::{Reading, Stop};
 use crate::words::{read_exact, word_at};
 use cc_base::literal::Base;
-use cc_base::name::Name;
 use cc_capture::CapSet;
 use cc_core::{Shape, Ty};
 use cc_words::words::behind;
@@ -112,7 +112,7 @@ fn is_arrow(shape: &Shape) -> bool
 fn read_captured<'a>(
     alloc: Global,
     locals: Locals,
-    names: &[Name],
+    names: &Names,
     depth: u64,
     shape: Rc<Shape>,
     bytes: &'a [u8],
@@ -142,7 +142,7 @@ fn read_captured<'a>(
 fn read_arrow_type<'a>(
     alloc: Global,
     locals: Locals,
-    names: &[Name],
+    names: &Names,
     room: u32,
     depth: u64,
     bytes: &'a [u8],
@@ -167,7 +167,7 @@ fn read_arrow_type<'a>(
 fn read_plain_type<'a>(
     alloc: Global,
     locals: Locals,
-    names: &[Name],
+    names: &Names,
     room: u32,
     depth: u64,
     bytes: &'a [u8],
@@ -192,7 +192,7 @@ fn read_plain_type<'a>(
 pub fn read_type<'a>(
     alloc: Global,
     locals: Locals,
-    names: &[Name],
+    names: &Names,
     room: u32,
     depth: u64,
     bytes: &'a [u8],
@@ -216,7 +216,7 @@ pub fn read_type<'a>(
 fn read_function<'a>(
     alloc: Global,
     locals: Locals,
-    names: &[Name],
+    names: &Names,
     room: u32,
     depth: u64,
     bytes: &'a [u8],
@@ -241,7 +241,7 @@ fn read_function<'a>(
 fn read_type_function<'a>(
     alloc: Global,
     locals: Locals,
-    names: &[Name],
+    names: &Names,
     room: u32,
     depth: u64,
     bytes: &'a [u8],
@@ -266,7 +266,7 @@ fn read_type_function<'a>(
 fn read_box<'a>(
     alloc: Global,
     locals: Locals,
-    names: &[Name],
+    names: &Names,
     room: u32,
     depth: u64,
     bytes: &'a [u8],
@@ -287,7 +287,7 @@ fn read_box<'a>(
 fn read_exit<'a>(
     alloc: Global,
     locals: Locals,
-    names: &[Name],
+    names: &Names,
     room: u32,
     depth: u64,
     bytes: &'a [u8],
@@ -308,7 +308,7 @@ fn read_exit<'a>(
 fn read_shape_over<'a>(
     alloc: Global,
     locals: Locals,
-    names: &[Name],
+    names: &Names,
     room: u32,
     depth: u64,
     bytes: &'a [u8],
@@ -338,7 +338,7 @@ fn read_shape_over<'a>(
 pub fn read_shape<'a>(
     alloc: Global,
     locals: Locals,
-    names: &[Name],
+    names: &Names,
     room: u32,
     depth: u64,
     bytes: &'a [u8],

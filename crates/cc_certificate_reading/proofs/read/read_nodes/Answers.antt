@@ -15,27 +15,24 @@ pub returns-in-Err : goal.returns-in-Err
 returns-in-Err c =
     let some : 0 < length c.loop-rest.rest.now = omega arith in
     node_refused {A = ℕ} (λ n. []) _ _ _ _ _ _ _ c.loop-rest.invariant c.in-Err.stop c.stopped.result some
-    (subst (λ n. RefusedAs c.in-Err.stop (next_line (Proving n c.loop-rest.count c.loop-rest.unused.items) c.loop-rest.rest.now)) c.as_slice.ensures.value
-    (subst (λ u. RefusedAs c.in-Err.stop (next_line (Proving c.as_slice.result.now c.loop-rest.count u) c.loop-rest.rest.now)) c.as_slice-in-loop-rest.ensures.value
-    c.in-Err.ensures))
+    (subst (λ u. RefusedAs c.in-Err.stop (next_line (Proving c.args.heading.now.names c.loop-rest.count u) c.loop-rest.rest.now)) c.as_slice.ensures.value
+    c.in-Err.ensures)
     c.stopped.ensures
 
 pub loop-rest-smaller : goal.loop-rest-smaller
 loop-rest-smaller c =
     node_shorter _ _ _ _ _ _ _ c.loop-rest.invariant (node_line_of c.in-Ok.read.0) c.in-Ok.read.1.now
-    (subst (λ n. next_line (Proving n c.loop-rest.count c.loop-rest.unused.items) c.loop-rest.rest.now ≡ Got (node_line_of c.in-Ok.read.0) c.in-Ok.read.1.now) c.as_slice.ensures.value
-    (subst (λ u. next_line (Proving c.as_slice.result.now c.loop-rest.count u) c.loop-rest.rest.now ≡ Got (node_line_of c.in-Ok.read.0) c.in-Ok.read.1.now) c.as_slice-in-loop-rest.ensures.value
-    c.in-Ok.ensures))
+    (subst (λ u. next_line (Proving c.args.heading.now.names c.loop-rest.count u) c.loop-rest.rest.now ≡ Got (node_line_of c.in-Ok.read.0) c.in-Ok.read.1.now) c.as_slice.ensures.value
+    c.in-Ok.ensures)
 
 pub loop-rest-preserved : goal.loop-rest-preserved
 loop-rest-preserved c =
     node_further _ _ _ _ _ _ _ c.loop-rest.invariant c.push.new.self.items c.in_ok-count.count c.use_up.new.unused.items c.in_ok-lines.lines c.in-Ok.read.0 c.in-Ok.read.1.now
-    (subst (λ n. next_line (Proving n c.loop-rest.count c.loop-rest.unused.items) c.loop-rest.rest.now ≡ Got (node_line_of c.in-Ok.read.0) c.in-Ok.read.1.now) c.as_slice.ensures.value
-    (subst (λ u. next_line (Proving c.as_slice.result.now c.loop-rest.count u) c.loop-rest.rest.now ≡ Got (node_line_of c.in-Ok.read.0) c.in-Ok.read.1.now) c.as_slice-in-loop-rest.ensures.value
-    c.in-Ok.ensures))
+    (subst (λ u. next_line (Proving c.args.heading.now.names c.loop-rest.count u) c.loop-rest.rest.now ≡ Got (node_line_of c.in-Ok.read.0) c.in-Ok.read.1.now) c.as_slice.ensures.value
+    c.in-Ok.ensures)
     c.in_ok-push.ensures.items c.in_ok-count.ensures.next
     (subst (λ ps. c.use_up.new.unused.items ≡ take (length c.loop-rest.unused.items - length ps) c.loop-rest.unused.items ++ c.in_ok-count.count ∷ [])
-    c.as_slice-in-loop-rest-2.ensures.value c.in_ok-use_up.ensures)
+    c.as_slice-in-loop-rest.ensures.value c.in_ok-use_up.ensures)
     c.in_ok-lines.ensures.next
 
 pub returns-else-len-eq1 : goal.returns-else-len-eq1
