@@ -22,6 +22,16 @@ if [ $# -eq 0 ]; then
     [ -x "$judge.by-rattle" ] && judges=("$judge" "$judge.by-rattle")
 fi
 
+# what is said of bad words
+usage='capc: bad words
+Reads a job from standard input, carries it out, and writes the replies.
+
+Usage: capc [OPTIONS]
+
+Options:
+      --workload <N>  Carry out the job of a workload of N modules, 1 to 200, and write its summary
+'
+
 work=$(mktemp -d) || exit 1
 trap 'rm -rf "$work"' EXIT
 passed=0
@@ -47,6 +57,22 @@ expect() {
 run() {
     timeout 120 "$program" "$@" > "$work/out" 2> "$work/err"
     echo $? > "$work/status"
+}
+
+# words NAME OUTPUT WORD ..: the words give this output, and standard input is not read
+words() {
+    local name=$1 output=$2
+    shift 2
+    run "$@" < /
+    expect "$name" 0 "$output" ''
+}
+
+# bad_words NAME WORD ..: the words are in no form, and standard input is not read
+bad_words() {
+    local name=$1
+    shift
+    run "$@" < /
+    expect "$name" 6 '' "$usage"
 }
 
 # job STATUS NAME OUTPUT: the job on standard input has this output, after what is written for its puts, which say no more
@@ -246,13 +272,31 @@ for program; do
     sed 's/device out/device  out/' "$jobs/accepted.job" | bad 2 'two spaces'
     sed 's/console$/console /' "$jobs/accepted.job" | bad 2 'a space at the end of a line'
 
-    # Words.
-    run --frob < "$jobs/accepted.job"
-    expect 'a word' 6 '' 'capc: bad words\n'
-    run '' < "$jobs/accepted.job"
-    expect 'an empty word' 6 '' 'capc: bad words\n'
-    run $'\xff' < "$jobs/accepted.job"
-    expect 'a word that is no text' 6 '' 'capc: bad words\n'
+    # Words. A directory, which cannot be read, stands where standard input is not to be read.
+    words 'a workload' 'workload 2\nlines 17\nbytes 183\nlast done unit after 12 steps\n' --workload 2
+    words 'a workload in one word' 'workload 2\nlines 17\nbytes 183\nlast done unit after 12 steps\n' --workload=2
+    words 'the least workload' 'workload 1\nlines 14\nbytes 159\nlast done unit after 7 steps\n' --workload 1
+    words 'the greatest workload' 'workload 200\nlines 611\nbytes 5619\nlast done unit after 1002 steps\n' --workload 200
+    bad_words 'no number' --workload
+    bad_words 'no number behind the sign' --workload=
+    bad_words 'no module' --workload 0
+    bad_words 'too many modules' --workload 201
+    bad_words 'too many modules in one word' --workload=201
+    bad_words 'a number that begins with 0' --workload 07
+    bad_words 'a number with a sign' --workload +2
+    bad_words 'a number beyond all' --workload 18446744073709551618
+    bad_words 'a word too many' --workload 2 x
+    bad_words 'a word before' x --workload 2
+    bad_words 'a workload twice' --workload 2 --workload 2
+    bad_words 'dashes before' -- --workload 2
+    bad_words 'help' --help
+    bad_words 'another option' --frob
+    bad_words 'an empty word' ''
+    bad_words 'a word that is no text' $'\xff'
+    timeout 120 "$program" --workload 2 > /dev/full 2> "$work/err"
+    echo $? > "$work/status"
+    : > "$work/out"
+    expect 'a summary that cannot be written' 4 '' 'capc: write fault\n'
 
     # A directory opens and cannot be read, and the full device takes nothing.
     run < /

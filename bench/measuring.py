@@ -3,7 +3,7 @@ import os
 import tempfile
 
 
-def measured(program, job, runs):
+def measured(program, job, runs, words=()):
     """The shortest time of the runs in milliseconds, the greatest memory in MB, the last status, and the last line."""
     best, most = None, 0
     with tempfile.TemporaryDirectory() as folder:
@@ -15,7 +15,7 @@ def measured(program, job, runs):
             if child == 0:
                 os.dup2(os.open(path, os.O_RDONLY), 0)
                 os.dup2(os.open(out, os.O_WRONLY | os.O_CREAT | os.O_TRUNC), 1)
-                os.execv(program, [program])
+                os.execv(program, [program, *words])
             _, status, used = os.wait4(child, 0)
             took = (used.ru_utime + used.ru_stime) * 1000
             best = took if best is None else min(best, took)

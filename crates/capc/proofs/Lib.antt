@@ -3,6 +3,8 @@ mod SessionReplies
 mod CommandFacts
 mod Answering
 mod Outcomes
+mod WorkloadOutcomes
+mod CallFacts
 mod Exact
 mod WorkedStatuses
 mod RunFacts

@@ -8,10 +8,10 @@ use Rattle.capc.specs.declared.status.Status.TheVariants.{BadWords}
 use Rattle.capc.specs.Outcome.{Ends, Outcome}
 use Rattle.capc.specs.WorkloadOutcome.{WorkloadOutcome}
 
--- `SourceStays` and `SinkStays` say that the source and the sink are, whole, as they were.
+-- `SourceStays` and `SinkStays` say of the source and of the sink that they are, whole, as they were.
 
--- The job of the source is carried out. A workload is carried out, and the source is not touched. Where nothing is asked
--- for, the words are bad, and nothing is touched.
+-- The job of the source is carried out; or a workload is, and the source is not touched; or the words are bad, and
+-- nothing is touched.
 abbrev pub Does : (SourceStays SinkStays : Type 0) → Ends → Ends → Asked → Status → Type 0
 Does SourceStays SinkStays before after Job status = Outcome before after status
 Does SourceStays SinkStays before after (Workload number) status =
@@ -19,7 +19,7 @@ Does SourceStays SinkStays before after (Workload number) status =
 Does SourceStays SinkStays before after Nothing status =
     (status ≡ BadWords) × SourceStays × SinkStays × (after.judged ≡ before.judged)
 
--- The call did what its words ask for.
+-- the call did what its words ask for
 pub record IsCall (SourceStays SinkStays : Type 0) (before after : Ends) (words : List (List ℕ)) (status : Status) :
     Type 0 where
   pub asked : Asked

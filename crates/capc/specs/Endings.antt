@@ -1,8 +1,7 @@
 -- How the program ends, for whatever the system answers when it is asked for the words of the command line, and what it
 -- says then.
-use Rattle.std.specs.Prelude.{◌≡◌, ◌⊎◌, ℕ, List, Option, map, drop, Result, Ok, Err}
+use Rattle.std.specs.Prelude.{◌≡◌, ◌⊎◌, ℕ, List, Option, drop, Result, Ok, Err}
 use Rattle.std.specs.IoError.{error_kind}
-use Rattle.std.specs.String.{string_bytes}
 use Rattle.std.specs.Vec.Iter.{into_iter_items}
 use Rattle.std.specs.declared.io.Error.{Error}
 use Rattle.std.specs.declared.vec.IntoIter.{IntoIter}
@@ -17,6 +16,16 @@ use Rattle.capc.specs.Words.{status_without_words}
 
 -- The words are all that the system gives but the first, which is the program's name, unless memory lacks for them.
 -- Where the system gives none, its error says how the program ends.
-abbrev pub EndsBy : {W X Z : Type 0} → (List W → Status → Type 0) → Type 0 → Result (IntoIter X Z) Error → Status → Type 0
+abbrev pub EndsBy : {X Z : Type 0} → (List X → Status → Type 0) → Type 0 → Result (IntoIter X Z) Error → Status → Type 0
 EndsBy Calls Untouched (Ok args) status = Calls (drop 1 (into_iter_items args)) status ⊎ ((status ≡ NoMemory) × Untouched)
 EndsBy Calls Untouched (Err error) status = (status ≡ status_without_words (error_kind error)) × Untouched
+
+-- Behind bad words the usage text is said, unless memory lacks for it.
+abbrev pub IsUsageTold : {W : Type 0} → (W → List ℕ → Result (Unit {0}) Error → W → Type 0) → Status → W → W → Type 0
+IsUsageTold gives BadWords old new = (usage : Option (List ℕ)) × IsTold gives usage old new
+IsUsageTold gives status old new = new ≡ old
+
+-- What is said: the message of the status, in one call, where it has one; and behind bad words the usage text.
+abbrev pub IsSaid : {W : Type 0} → (W → List ℕ → Result (Unit {0}) Error → W → Type 0) → Status → W → W → Type 0
+IsSaid {W = W} gives status old new =
+    (between : W) × IsTold gives (message_of status) old between × IsUsageTold gives status between new

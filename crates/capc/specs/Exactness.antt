@@ -10,6 +10,7 @@ use Rattle.capc.specs.declared.status.Status.{Status}
 use Rattle.capc.specs.declared.status.Status.TheVariants as statuses
 use Rattle.capc.specs.Requests.{requests_of}
 use Rattle.capc.specs.Outcome.{job_limit, Ends, IsSilent, ReadsJob, JudgesStale, IsCarriedOut, Outcome}
+use Rattle.capc.specs.WorkloadOutcome.{IsSummarized, IsSummaryCutOff, WorkloadOutcome}
 
 -- how a call ends that carried the job out, where a reply is a refusal or none is
 abbrev pub status_of : Bool → Status
@@ -76,3 +77,18 @@ OnlyTheOutputIsWritten = (before after : Ends) (status : Status) → Outcome bef
 abbrev pub OnlyStaleModulesAreJudged : Type 0
 OnlyStaleModulesAreJudged = (before after : Ends) (status : Status) → Outcome before after status
     → (after.judged ≡ before.judged) ⊎ ((job : Job) × ReadsJob before after job × JudgesStale before after job)
+
+-- Where no write failed, the summary of a workload is written whole, unless memory lacks: then a front of it is written.
+abbrev pub AWorkloadIsSummarized : Type 0
+AWorkloadIsSummarized = (before after : Ends) (number : ℕ) (status : Status)
+    → WorkloadOutcome before after number status → after.write_faults ≡ before.write_faults
+    → ((refused : Bool) × IsSummarized before after number refused × (status ≡ status_of refused))
+    ⊎ ((status ≡ statuses.NoMemory) × IsSummaryCutOff before after number)
+
+-- With a workload a write failed exactly where the status says so. No job is bad or too long, and no read fails.
+abbrev pub AFaultOfAWorkloadIsTold : Type 0
+AFaultOfAWorkloadIsTold = (before after : Ends) (number : ℕ) (status : Status)
+    → WorkloadOutcome before after number status
+    → ((before.write_faults < after.write_faults) ↔ (status ≡ statuses.WriteFault))
+    × ((line : ℕ) → status ≡ statuses.BadJob line → ⊥) × (status ≡ statuses.ReadFault → ⊥)
+    × (status ≡ statuses.TooLong → ⊥)

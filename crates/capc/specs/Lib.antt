@@ -5,6 +5,8 @@ pub mod Running
 pub mod SoundJobs
 pub mod Carried
 pub mod Outcome
+pub mod WorkloadOutcome
+pub mod Calls
 pub mod Exactness
 pub mod Endings
 pub mod StatusTable

@@ -1,6 +1,6 @@
 -- What a call of the program that carries a workload out may do: what is written, and how many modules are judged, for
 -- each status.
-use Rattle.std.specs.Prelude.{◌≡◌, ℕ, ◌<◌, ◌⊎◌, Bool, true, false, List, []}
+use Rattle.std.specs.Prelude.{◌≡◌, ℕ, ◌<◌, Bool, true, false, List, []}
 use Rattle.std.specs.Io.KnownBytes.{Appends}
 use Rattle.cc_io.specs.Wholes.{AppendsFront}
 use Rattle.cc_replies.specs.Outputs.{IsOutput}
@@ -9,7 +9,7 @@ use Rattle.cc_summary.specs.Summaries.{summary_text}
 use Rattle.cc_workload.specs.Workloads.{workload}
 use Rattle.capc.specs.declared.status.Status.{Status}
 use Rattle.capc.specs.declared.status.Status.TheVariants as statuses
-use Rattle.capc.specs.Outcome.{Ends, IsSilent, JudgesStale}
+use Rattle.capc.specs.Outcome.{Ends, JudgesStale}
 use Rattle.capc.specs.Requests.{requests_of}
 
 -- the text is the whole output of the workload's job, and it is told whether a reply in it is a refusal
@@ -50,7 +50,6 @@ WorkloadOutcome before after number statuses.Refusals = IsSummarized before afte
 WorkloadOutcome before after number (statuses.BadJob line) = ⊥
 WorkloadOutcome before after number statuses.ReadFault = ⊥
 WorkloadOutcome before after number statuses.WriteFault = FailsToSummarize before after number
-WorkloadOutcome before after number statuses.NoMemory =
-    IsSilent before after ⊎ LacksMemoryToSummarize before after number
+WorkloadOutcome before after number statuses.NoMemory = LacksMemoryToSummarize before after number
 WorkloadOutcome before after number statuses.BadWords = ⊥
 WorkloadOutcome before after number statuses.TooLong = ⊥

@@ -2,7 +2,7 @@
 //! faults, what is written and how many modules are judged, for all streams.
 ghost use Rattle.capc.specs.StatusTable.{StatusesShow, JobsHaveSoManyBytes};
 ghost use Rattle.capc.specs.SoundJobs.{EveryJobIsSound, ShownRunsAreSafe, ShownTasksAreSafe};
-ghost use Rattle.capc.specs.Exactness.{AJobIsAnswered, WhatIsNoJobIsRefused, WhatIsTooLongIsRefused, AFaultIsTold, OnlyTheOutputIsWritten, OnlyStaleModulesAreJudged};
+ghost use Rattle.capc.specs.Exactness.{AJobIsAnswered, WhatIsNoJobIsRefused, WhatIsTooLongIsRefused, AFaultIsTold, OnlyTheOutputIsWritten, OnlyStaleModulesAreJudged, AWorkloadIsSummarized, AFaultOfAWorkloadIsTold};
 
 /// A job is carried out and its output written whole, unless memory lacks: then a front of it is written.
 pub fn a_job_is_answered()
@@ -32,6 +32,16 @@ pub fn only_the_output_is_written()
 /// No module is judged but those that the commands of the job that was read find stale.
 pub fn only_stale_modules_are_judged()
     ensures { OnlyStaleModulesAreJudged }
+{}
+
+/// The summary of a workload is written whole, unless memory lacks: then a front of it is written.
+pub fn a_workload_is_summarized()
+    ensures { AWorkloadIsSummarized }
+{}
+
+/// With a workload a write failed exactly where the status says so, and no read did.
+pub fn a_fault_of_a_workload_is_told()
+    ensures { AFaultOfAWorkloadIsTold }
 {}
 
 /// The number and the message of each status, written out.

@@ -1,6 +1,7 @@
 //! Checks and runs modules whose types tell which capabilities their values may hold.
 //!
-//! The program reads a job from standard input, carries it out, and writes one reply for each command.
+//! The program reads a job from standard input, carries it out, and writes one reply for each command. With the words of
+//! a workload it carries that one's job out, and writes a summary of the replies.
 #![tactic(auto)]
 
 mod commands;
@@ -13,7 +14,9 @@ mod running;
 mod status;
 #[cfg(test)]
 mod tests;
+mod usage;
 mod words;
+mod workload;
 
 use crate::program::{Ending, program};
 use cc_io::{StdSink, StdSource};

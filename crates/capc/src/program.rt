@@ -1,13 +1,16 @@
 //! One call of the program, with whatever streams and words it is given.
-ghost use Rattle.std.specs.Prelude.{◌≡◌, ◌-◌, ◌^◌, ◌<◌, ℕ};
+ghost use Rattle.std.specs.Prelude.{◌≡◌, ◌-◌, ◌^◌, ◌<◌, ℕ, List, Option, map};
 ghost use Rattle.std.specs.Process.{exit_status};
+ghost use Rattle.std.specs.String.{string_bytes};
 ghost use Rattle.cc_io.specs.Messages.{IsTold};
 ghost use Rattle.capc.specs.Status.{number_of, message_of};
-ghost use Rattle.capc.specs.Outcome.{Outcome, ends};
-ghost use Rattle.capc.specs.Endings.{EndsBy};
+ghost use Rattle.capc.specs.Calls.{IsCall};
+ghost use Rattle.capc.specs.Outcome.{ends};
+ghost use Rattle.capc.specs.Endings.{EndsBy, IsUsageTold, IsSaid};
 
 use crate::run::capc;
 use crate::status::Status;
+use crate::usage::usage_text;
 use crate::words::{status_without_words, words_of};
 use cc_base::steps::Steps;
 use cc_io::{Messages, Sink, Source};
@@ -32,7 +35,7 @@ impl Termination for Ending {
     }
 }
 
-/// Carries out the job with the words of the command line, where the system gave them.
+/// Carries out what the words of the command line ask for, where the system gave them.
 fn carried<S: Source, K: Sink, L: Ledger>(
     alloc: Global,
     answer: io::Result<Args>,
@@ -43,9 +46,10 @@ fn carried<S: Source, K: Sink, L: Ledger>(
     requires source { S.faults source.old < 2 ^ 64 - 1 }
     requires sink { K.faults sink.old < 2 ^ 64 - 1 }
     ensures { EndsBy
-        (Outcome
+        (λ words status. IsCall (source.new ≡ source.old) (sink.new ≡ sink.old)
         (ends (S.left source.old) (S.faults source.old) (K.written sink.old) (K.faults sink.old) steps.old)
-        (ends (S.left source.new) (S.faults source.new) (K.written sink.new) (K.faults sink.new) steps.new))
+        (ends (S.left source.new) (S.faults source.new) (K.written sink.new) (K.faults sink.new) steps.new)
+        (map string_bytes words) status)
         ((source.new ≡ source.old) × (sink.new ≡ sink.old))
         answer result }
 {
@@ -60,7 +64,7 @@ fn carried<S: Source, K: Sink, L: Ledger>(
 }
 
 /// Says why nothing more came, where the job was not carried out. A message that cannot be written changes nothing.
-fn tell<E: Messages>(errors: &mut E, status: Status)
+fn tell_message<E: Messages>(errors: &mut E, status: Status)
     ensures { IsTold E.gives (message_of status) errors.old errors.new }
 {
     if status.has_message() {
@@ -68,7 +72,35 @@ fn tell<E: Messages>(errors: &mut E, status: Status)
     }
 }
 
-/// Calls `capc` once, with the words that the system gave behind the program's name, and then says why nothing more came.
+/// Says which words there are, if there is memory for it.
+fn give_usage<E: Messages>(alloc: Global, errors: &mut E)
+    ensures { (usage : Option (List ℕ)) × IsTold E.gives usage errors.old errors.new }
+{
+    if let Ok(text) = usage_text(alloc) {
+        let _ = errors.give_line(text.as_str().trim_end());
+    }
+}
+
+/// Says behind bad words which ones there are, if there is memory for it.
+fn tell_usage<E: Messages>(alloc: Global, errors: &mut E, status: Status)
+    ensures { IsUsageTold E.gives status errors.old errors.new }
+{
+    match status {
+        Status::BadWords => give_usage(alloc, errors),
+        _ => {}
+    }
+}
+
+/// Says what there is to say of the status.
+fn tell<E: Messages>(alloc: Global, errors: &mut E, status: Status)
+    ensures { IsSaid E.gives status errors.old errors.new }
+{
+    tell_message(&mut *errors, status);
+    tell_usage(alloc, errors, status);
+}
+
+/// Calls `capc` once, with the words that the system gave behind the program's name, and then says why nothing more came,
+/// and behind bad words the usage text.
 ///
 /// Where the system gave no words, or where memory lacks for them, nothing is read or written but the message.
 pub fn program<S: Source, K: Sink, E: Messages, L: Ledger>(
@@ -87,17 +119,19 @@ pub fn program<S: Source, K: Sink, E: Messages, L: Ledger>(
 
     // The source was read and the sink was written as a call of `capc` with these words does, which ended with the status.
     ensures call { (judged : ℕ) × EndsBy
-        (Outcome
+        (λ words status. IsCall (source.new ≡ source.old) (sink.new ≡ sink.old)
         (ends (S.left source.old) (S.faults source.old) (K.written sink.old) (K.faults sink.old) 0)
-        (ends (S.left source.new) (S.faults source.new) (K.written sink.new) (K.faults sink.new) judged))
+        (ends (S.left source.new) (S.faults source.new) (K.written sink.new) (K.faults sink.new) judged)
+        (map string_bytes words) status)
         ((source.new ≡ source.old) × (sink.new ≡ sink.old))
         answer result.status }
 
-    // The message of the status was given to the writer of messages, and nothing where there is none.
-    ensures told { IsTold E.gives (message_of result.status) errors.old errors.new }
+    // The message of the status was given to the writer of messages, and nothing where there is none; behind bad words the
+    // usage text was.
+    ensures told { IsSaid E.gives result.status errors.old errors.new }
 {
     let mut steps = Steps::<L>::new(blank);
     let status = carried(alloc, answer, source, sink, &mut steps);
-    tell(errors, status);
+    tell(alloc, errors, status);
     Ending { status }
 }

@@ -1,6 +1,9 @@
 //! Runs of the top call over memory, with answers worked out by hand.
 ghost use Rattle.std.specs.Prelude.{◌≡◌, ◌<◌};
 
+mod cuts;
+mod faults;
+
 use crate::run::capc;
 use crate::status::Status;
 use cc_base::steps::Steps;
@@ -33,7 +36,7 @@ struct Ended {
 
 fn run<L: Ledger>(
     alloc: Global,
-    word: &[u8],
+    texts: &[&[u8]],
     job: &[u8],
     reads: Plan,
     writes: Plan,
@@ -47,8 +50,8 @@ fn run<L: Ledger>(
 {
     let mut steps = Steps::<L>::new(blank);
     let mut words = Vec::new(alloc);
-    if !word.is_empty() {
-        words.push(String::from_utf8_lossy(alloc, word)?)?;
+    for text in texts {
+        words.push(String::from_utf8_lossy(alloc, text)?)?;
     }
     let mut source = MemSource::new(
         Vec::from_slice(alloc, job)?,
@@ -103,7 +106,7 @@ fn pieces_and_faults(rt: HostRuntime) -> Result<(), Fail> {
                         most: write_most,
                         fails: write_fails,
                     };
-                    let ended = run::<Brand>(alloc, b"", job, reads, writes, Blank::new(1))?;
+                    let ended = run::<Brand>(alloc, &[], job, reads, writes, Blank::new(1))?;
                     // The last read finds the end.
                     let read_calls = calls(job.len(), read_most).saturating_add(1);
                     assert!(rt; whole.len() >= first);
@@ -223,8 +226,43 @@ fn modules_are_judged_where_they_are_stale(rt: HostRuntime) -> Result<(), Fail> 
         job.extend_from_slice(rest)?;
         let mut wanted = Vec::from_slice(alloc, PUTS)?;
         wanted.extend_from_slice(answer)?;
-        let ended = run::<Brand>(alloc, b"", &job, EASY, EASY, Blank::new(1))?;
+        let ended = run::<Brand>(alloc, &[], &job, EASY, EASY, Blank::new(1))?;
         assert_eq!(rt; ended.written.as_slice(), wanted.as_slice());
+        assert_eq!(rt; ended.steps, steps);
+    }
+    Ok(())
+}
+
+/// The summary of a workload is written, each of its modules is judged once at each of its two checks, and no read of the
+/// source, which would fail, is made.
+#[test]
+fn workloads_are_summarized(rt: HostRuntime) -> Result<(), Fail> {
+    let alloc = rt.alloc();
+    let cases: [(&[&[u8]], &[u8], u64); 3] = [
+        (
+            &[b"--workload", b"2"],
+            b"workload 2\nlines 17\nbytes 183\nlast done unit after 12 steps\n",
+            6,
+        ),
+        (
+            &[b"--workload=2"],
+            b"workload 2\nlines 17\nbytes 183\nlast done unit after 12 steps\n",
+            6,
+        ),
+        (
+            &[b"--workload", b"200"],
+            b"workload 200\nlines 611\nbytes 5619\nlast done unit after 1002 steps\n",
+            402,
+        ),
+    ];
+    let fails = Plan {
+        most: 4096,
+        fails: 1,
+    };
+    for (words, summary, steps) in cases {
+        let ended = run::<Brand>(alloc, words, b"no job", fails, EASY, Blank::new(1))?;
+        assert_eq!(rt; ended.status, Status::Clean);
+        assert_eq!(rt; ended.written.as_slice(), summary);
         assert_eq!(rt; ended.steps, steps);
     }
     Ok(())
@@ -234,18 +272,18 @@ fn modules_are_judged_where_they_are_stale(rt: HostRuntime) -> Result<(), Fail> 
 #[test]
 fn what_is_refused_is_silent(rt: HostRuntime) -> Result<(), Fail> {
     let alloc = rt.alloc();
-    let cases: [(&[u8], &[u8], Status); 4] = [
-        (b"--frob", b"capc 1\nput m 0\ncheck\n", Status::BadWords),
-        (b"", b"", Status::BadJob(1)),
-        (b"", b"capc 1\ncheck\nput m 2\nx\n", Status::BadJob(5)),
+    let cases: [(&[&[u8]], &[u8], Status); 4] = [
+        (&[b"--frob"], b"capc 1\nput m 0\ncheck\n", Status::BadWords),
+        (&[], b"", Status::BadJob(1)),
+        (&[], b"capc 1\ncheck\nput m 2\nx\n", Status::BadJob(5)),
         (
-            b"",
+            &[],
             b"capc 1\ncheck\ndevice out console\n",
             Status::BadJob(3),
         ),
     ];
-    for (word, job, status) in cases {
-        let ended = run::<Brand>(alloc, word, job, EASY, EASY, Blank::new(1))?;
+    for (words, job, status) in cases {
+        let ended = run::<Brand>(alloc, words, job, EASY, EASY, Blank::new(1))?;
         assert_eq!(rt; ended.status, status);
         assert!(rt; ended.written.is_empty() && ended.steps == 0);
     }

@@ -1,5 +1,7 @@
-use Rattle.std.proofs.Common.{◌≡◌, subst}
-use Rattle.capc.specs.Outcome.{Outcome, ends}
+use Rattle.std.proofs.Common.{◌≡◌, map, subst}
+use Rattle.std.specs.String.{string_bytes}
+use Rattle.capc.specs.Calls.{IsCall}
+use Rattle.capc.specs.Outcome.{ends}
 use Rattle.capc.specs.Endings.{EndsBy}
 use Rattle.capc.proofs.program.program.Goals as goal
 
@@ -10,11 +12,13 @@ returns-clause-call g c =
       counted,
       subst (λ begun.
           EndsBy
-          (Outcome
+          (λ words status.
+          IsCall (c.carried-status.new.source ≡ c.args.source.now) (c.carried-status.new.sink ≡ c.args.sink.now)
           (ends (g.S.Source.left c.args.source.now) (g.S.Source.faults c.args.source.now) (g.K.Sink.written c.args.sink.now)
           (g.K.Sink.faults c.args.sink.now) begun)
           (ends (g.S.Source.left c.carried-status.new.source) (g.S.Source.faults c.carried-status.new.source)
-          (g.K.Sink.written c.carried-status.new.sink) (g.K.Sink.faults c.carried-status.new.sink) counted))
+          (g.K.Sink.written c.carried-status.new.sink) (g.K.Sink.faults c.carried-status.new.sink) counted)
+          (map string_bytes words) status)
           ((c.carried-status.new.source ≡ c.args.source.now) × (c.carried-status.new.sink ≡ c.args.sink.now)) c.args.answer
           c.carried-status.result)
           c.new-steps.ensures c.carried-status.ensures,

@@ -1,0 +1,74 @@
+"""Runs the program again and again, and refuses it another call of the allocator each time.
+
+Each answer has to be the whole one, or want of memory: then the status is 5, the message says so, and what is written is
+a front of the whole text. Words that are bad stay so, with or without the usage text. The program that is run is the
+built one, proved or not; the refusals come from a library in C that is laid before the allocator (refusing.c), which gcc
+builds. It prints a line for each wrong answer and then one for each job.
+
+Usage: python3 checks/refused_memory.py [--most N] [PROGRAM]
+"""
+import argparse
+import os
+import subprocess
+import sys
+import tempfile
+
+TOP = os.path.join(os.path.dirname(os.path.abspath(__file__)), '..')
+
+
+def answered(program, words, job, library, number, folder):
+    """Status, text and message of a run to which the call of this number is refused, and how many calls there were."""
+    counted = os.path.join(folder, 'counted')
+    environment = dict(os.environ, LD_PRELOAD=library, REFUSED=str(number), COUNTED=counted)
+    run = subprocess.run([program] + words, input=job, capture_output=True, env=environment, timeout=120)
+    with open(counted) as file:
+        return run.returncode, run.stdout, run.stderr, int(file.read())
+
+
+def is_right(answer, whole):
+    """Whether an answer is the whole one, or want of memory with a front of its text."""
+    if answer[:3] == whole[:3]:
+        return True
+    if whole[0] == 6:
+        return answer[0] == 6 and answer[1] == b'' and answer[2] == b'capc: bad words\n'
+    return answer[0] == 5 and whole[1].startswith(answer[1]) and answer[2] == b'capc: out of memory\n'
+
+
+def tried(name, program, words, job, library, most, folder):
+    """How many answers are wrong."""
+    whole = answered(program, words, job, library, 0, folder)
+    calls = whole[3]
+    wrong, wanting, step = 0, 0, max(1, -(-calls // most))
+    for number in range(1, calls + 1, step):
+        answer = answered(program, words, job, library, number, folder)
+        wanting += answer[0] == 5
+        if not is_right(answer, whole):
+            wrong += 1
+            print('FAILED %s: call %d refused: status %d, %r' % (name, number, answer[0], answer[2]))
+    print('%s: %d calls of the allocator, %d of them refused in turn, %d times want of memory, %d wrong answers'
+          % (name, calls, len(range(1, calls + 1, step)), wanting, wrong))
+    return wrong
+
+
+def main():
+    parser = argparse.ArgumentParser()
+    parser.add_argument('--most', type=int, default=5000, help='how many calls of one job are refused at most')
+    parser.add_argument('program', nargs='?', default=os.path.join(TOP, 'crates/capc/out/capc'))
+    given = parser.parse_args()
+    wrong = 0
+    with tempfile.TemporaryDirectory() as folder:
+        library = os.path.join(folder, 'refusing.so')
+        subprocess.run(['gcc', '-shared', '-fPIC', '-O1', '-fno-builtin', '-o', library,
+                        os.path.join(TOP, 'checks/refusing.c')], check=True)
+        examples = os.path.join(TOP, 'examples')
+        for name in sorted(os.listdir(examples)):
+            if name.endswith('.job'):
+                with open(os.path.join(examples, name), 'rb') as file:
+                    wrong += tried(name, given.program, [], file.read(), library, given.most, folder)
+        for words in (['--workload', '2'], ['--workload=200'], ['--frob']):
+            wrong += tried(' '.join(words), given.program, words, b'', library, given.most, folder)
+    sys.exit(1 if wrong else 0)
+
+
+if __name__ == '__main__':
+    main()
