@@ -1,13 +1,15 @@
 """Runs the program again and again, and refuses it another call of the allocator each time.
 
 Each answer has to be the whole one, or want of memory: then the status is 5, the message says so, and what is written is
-a front of the whole text. Words that are bad stay so, with or without the usage text. The program that is run is the
-built one, proved or not; the refusals come from a library in C that is laid before the allocator (refusing.c), which gcc
-builds. It prints a line for each wrong answer and then one for each job.
+a front of the whole text. Words that are bad stay so, with or without the usage text, unless memory lacks for the words
+themselves. The program that is run is the built one; the refusals come from a library in C that is laid before the
+allocator (refusing.c), which gcc builds. The jobs are those that are named, or else the examples; workloads and bad words
+are tried besides. It prints a line for each wrong answer and then one for each job.
 
-Usage: python3 checks/refused_memory.py [--most N] [PROGRAM]
+Usage: python3 checks/refused_memory.py [--most N] [--program PROGRAM] [JOB ..]
 """
 import argparse
+import glob
 import os
 import subprocess
 import sys
@@ -29,8 +31,8 @@ def is_right(answer, whole):
     """Whether an answer is the whole one, or want of memory with a front of its text."""
     if answer[:3] == whole[:3]:
         return True
-    if whole[0] == 6:
-        return answer[0] == 6 and answer[1] == b'' and answer[2] == b'capc: bad words\n'
+    if whole[0] == 6 and answer[0] == 6:
+        return answer[1:3] == (b'', b'capc: bad words\n')
     return answer[0] == 5 and whole[1].startswith(answer[1]) and answer[2] == b'capc: out of memory\n'
 
 
@@ -53,18 +55,18 @@ def tried(name, program, words, job, library, most, folder):
 def main():
     parser = argparse.ArgumentParser()
     parser.add_argument('--most', type=int, default=5000, help='how many calls of one job are refused at most')
-    parser.add_argument('program', nargs='?', default=os.path.join(TOP, 'crates/capc/out/capc'))
+    parser.add_argument('--program', default=os.path.join(TOP, 'crates/capc/out/capc'))
+    parser.add_argument('jobs', nargs='*', metavar='JOB', help='files of jobs; the examples where there is none')
     given = parser.parse_args()
+    jobs = given.jobs or sorted(glob.glob(os.path.join(TOP, 'examples/*.job')))
     wrong = 0
     with tempfile.TemporaryDirectory() as folder:
         library = os.path.join(folder, 'refusing.so')
         subprocess.run(['gcc', '-shared', '-fPIC', '-O1', '-fno-builtin', '-o', library,
                         os.path.join(TOP, 'checks/refusing.c')], check=True)
-        examples = os.path.join(TOP, 'examples')
-        for name in sorted(os.listdir(examples)):
-            if name.endswith('.job'):
-                with open(os.path.join(examples, name), 'rb') as file:
-                    wrong += tried(name, given.program, [], file.read(), library, given.most, folder)
+        for path in jobs:
+            with open(path, 'rb') as file:
+                wrong += tried(os.path.relpath(path, TOP), given.program, [], file.read(), library, given.most, folder)
         for words in (['--workload', '2'], ['--workload=200'], ['--frob']):
             wrong += tried(' '.join(words), given.program, words, b'', library, given.most, folder)
     sys.exit(1 if wrong else 0)

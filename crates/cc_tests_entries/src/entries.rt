@@ -15,7 +15,7 @@ use std::marker::Brand;
 use std::sync::ledger::{Blank, Ledger};
 use std::test::Fail;
 
-fn name(alloc: Global, text: &str) -> Result<Option<Name>, AllocError> {
+pub(crate) fn name(alloc: Global, text: &str) -> Result<Option<Name>, AllocError> {
     match Name::read(alloc, text) {
         Ok(name) => Ok(Some(name)),
         Err(NameError::NotAName) => Ok(None),
@@ -43,7 +43,7 @@ fn two(alloc: Global, out: Name, log: Name) -> Result<Vec<DeviceDecl>, AllocErro
     Ok(devices)
 }
 
-fn devices(alloc: Global) -> Result<Option<Vec<DeviceDecl>>, AllocError>
+pub(crate) fn devices(alloc: Global) -> Result<Option<Vec<DeviceDecl>>, AllocError>
     ensures { IfOk result (λ devices. IfSome devices (λ d. NamesOfDevicesDiffer d.items)) }
 {
     match (name(alloc, "out")?, name(alloc, "log")?) {
