@@ -1,9 +1,10 @@
 #!/usr/bin/env bash
 # Measures whole jobs, in milliseconds a run of the processor's time, the start of the process among them: a job of 4 MiB
 # with 256 modules that is read and checked, and the memory that this takes; a row of modules, each of which imports the
-# one before it, and the same for half of them; edits of one module with a check behind each, and half as many; and a row
-# of 200 in which one module is edited so that its signature stays. It fails where there is no program, or where an
-# answer is wrong.
+# one before it, and the same for half of them; edits of one module with a check behind each, and half as many, also
+# among 200 and 100 modules of 5,000 bytes, and beside 60 and 30 modules that import 2,700 definitions of one each; the
+# first check of these; and a row of 200 in which one module is edited so that its signature stays. It fails where there
+# is no program, or where an answer is wrong.
 # Build the program first: cd crates/capc && rt run
 # Usage: bench/jobs.sh [PROGRAM [RUNS]]
 set -u
@@ -42,6 +43,37 @@ halves('modules in a row of imports', lambda n: 'capc 1\n' + row(n) + 'check\n',
 halves('edits of one module with a check behind each',
        lambda n: 'capc 1\n' + row(10) + 'check\n' + ''.join(link(5, 'x + %d' % i) + 'check\n' for i in range(n)), 400,
        lambda n: '  m009 ok')
+
+
+def edited(modules, edits):
+    """Modules of 5,000 bytes, each of which imports a definition of the one before it, and edits of the middle one."""
+    def one(number, added):
+        imports = ['import m%03d.d%dx79' % (number - 1, number - 1)] if number > 0 else []
+        lines = ['def d%dx%d = fun (x: Int) => x * %d + %d // %s' % (number, i, i, added, 'x' * 20) for i in range(80)]
+        return put('m%03d' % number, imports + lines)
+    texts = ''.join(one(number, 0) for number in range(modules))
+    return 'capc 1\n' + texts + 'check\n' + ''.join(one(modules // 2, i + 1) + 'check\n' for i in range(edits))
+
+
+def importing(modules, edits):
+    """Modules that import 2,700 definitions of one, and edits of a module that none of them imports."""
+    texts = put('n', ['def d%d = %d' % (i, i) for i in range(2700)])
+    texts += ''.join(put('m%02d' % number, ['import n.d%d' % i for i in range(2700)]) for number in range(modules))
+    return 'capc 1\n' + texts + 'check\n' + ''.join(put('a', ['def a = %d' % i]) + 'check\n' for i in range(edits))
+
+
+def behind(words, job_of, modules, edits, last_of):
+    """What an edit with a check costs, beyond the first check, for so many modules and for half of them."""
+    costs = []
+    for count in (modules, modules // 2):
+        first, all_of = (measured(job_of(count, n), last_of(count))[0] for n in (0, edits))
+        costs.append((all_of - first) / edits)
+    print('%s: %.2f ms for %d, %.2f ms for half of them' % (words, costs[0], modules, costs[1]))
+
+
+behind('an edit of one among modules of 5,000 bytes, and a check', edited, 200, 40, lambda n: '  m%03d ok' % (n - 1))
+halves('modules that import 2,700 definitions', lambda n: importing(n, 0), 60, lambda n: '  n ok')
+behind('an edit of one beside modules that import 2,700 definitions, and a check', importing, 60, 20, lambda n: '  n ok')
 before = measured('capc 1\n' + row(200) + 'check\n', '  m199 ok')[0]
 after = measured('capc 1\n' + row(200) + 'check\n' + link(100, 'x + 2') + 'check\n', '  m199 ok')[0]
 print('an edit of one module among 200 in a row, which keeps its signature: %.1f ms more than %.1f ms' % (after - before, before))

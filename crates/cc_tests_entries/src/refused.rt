@@ -129,7 +129,8 @@ fn in_the_end<L: Ledger>(alloc: Global, blank: Blank) -> Result<Vec<u8>, AllocEr
 #[test]
 fn what_finds_no_memory_changes_nothing(rt: HostRuntime) -> Result<(), Fail> {
     let end = in_the_end::<Brand>(rt.alloc(), Blank::new(1))?;
-    let wanted: &[u8] = b"import b.line def main = fun (u: Unit) => line(1)\ndef line = fun (n: Int) => log.write(n)\n";
+    let wanted: &[u8] =
+        b"import b.line def main = fun (u: Unit) => line(1)\ndef line = fun (n: Int) => log.write(n)\n";
     assert_eq!(rt; end.as_slice(), wanted);
     Ok(())
 }
