@@ -4,7 +4,9 @@ Each answer has to be the whole one, or want of memory: then the status is 5, th
 a front of the whole text. Words that are bad stay so, with or without the usage text, unless memory lacks for the words
 themselves. The program that is run is the built one; the refusals come from a library in C that is laid before the
 allocator (refusing.c), which gcc builds. The jobs are those that are named, or else the examples; workloads and bad words
-are tried besides. It prints a line for each wrong answer and then one for each job.
+are tried besides. It prints a line for each wrong answer and then one for each job. Where the tests of entries are built
+(`rt test` in crates/cc_tests_entries), so is the test of a session there whose calls are made again where they found no
+memory: it has to pass, or to find no memory before the session is there.
 
 Usage: python3 checks/refused_memory.py [--most N] [--program PROGRAM] [JOB ..]
 """
@@ -52,6 +54,22 @@ def tried(name, program, words, job, library, most, folder):
     return wrong
 
 
+def session_tried(program, library, folder):
+    """How many runs of the test of a session are wrong."""
+    words = ['refused::what_finds_no_memory_changes_nothing']
+    wrong, early = 0, 0
+    calls = answered(program, words, b'', library, 0, folder)[3]
+    for number in range(1, calls + 1):
+        status, said, error, _ = answered(program, words, b'', library, number, folder)
+        early += status != 0 and b'AllocError' in said + error
+        if status != 0 and b'AllocError' not in said + error:
+            wrong += 1
+            print('FAILED a session: call %d refused: %r' % (number, said + error))
+    print('a session: %d calls of the allocator refused in turn, %d of them before it was there, %d wrong answers'
+          % (calls, early, wrong))
+    return wrong
+
+
 def main():
     parser = argparse.ArgumentParser()
     parser.add_argument('--most', type=int, default=5000, help='how many calls of one job are refused at most')
@@ -69,6 +87,9 @@ def main():
                 wrong += tried(os.path.relpath(path, TOP), given.program, [], file.read(), library, given.most, folder)
         for words in (['--workload', '2'], ['--workload=200'], ['--frob']):
             wrong += tried(' '.join(words), given.program, words, b'', library, given.most, folder)
+        session = os.path.join(TOP, 'crates/cc_tests_entries/out/cc_tests_entries_tests')
+        if os.path.exists(session):
+            wrong += session_tried(session, library, folder)
     sys.exit(1 if wrong else 0)
 
 
