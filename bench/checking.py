@@ -156,8 +156,26 @@ def many_positions(count):
     return definitions(49) + large_function() + ''.join(text % at for at in range(1, count))
 
 
+def chains_of_bounds(count, lower=''):
+    """A chain of so many type parameters on each side, each of whose bounds names the one before it twice. The last two
+    are compared, and in the end the lower set with the empty one."""
+    text = 'def f=fun(c:Console^{cap})=>fun[X0<:(z:Int)->Int]=>fun[Y0<:Int]=>'
+    for at in range(1, count + 1):
+        above = '(z:Y%d%s)->Int' % (at - 1, '' if at > 1 else lower)
+        text += 'fun[X%d<:(p:%s)->Int]=>' % (at, functions('X%d' % (at - 1), 2, 'Int'))
+        text += 'fun[Y%d<:%s]=>' % (at, functions('(%s)' % above, 2, 'Int'))
+    return text + 'fun(x:X%d)=>val r:(z:Y%d)->Int=x;unit\n' % (count, count)
+
+
+def chains_of_bounds_apart(count):
+    """The same where the sets are not below each other in the end."""
+    return chains_of_bounds(count, '^{c}')
+
+
 TEXTS = [
     ('definitions', definitions, 5000, 5000),
+    ('a chain of bounds', chains_of_bounds, 45, 1),
+    ('the same where sets are apart', chains_of_bounds_apart, 45, 'E15'),
     ('98 vals inside one another', vals, 80, 80),
     ('comparisons of types of size 1,985', comparisons, 4200, 1),
     ('the same beside an omitted set', comparisons_beside_a_hole, 4200, 1),
@@ -184,7 +202,7 @@ def used(program, text, want):
     test.stdin.close()
     output = test.stdout.read()
     _, status, usage = os.wait4(test.pid, 0)
-    if status or b'verdict %s\n' % want.encode() not in output:
+    if status or b'verdict %s' % want.encode() not in output:
         sys.exit('bench/checking.py: not %s: %r' % (want, output[:200]))
     return usage.ru_utime + usage.ru_stime, usage.ru_maxrss / 1024
 
@@ -194,7 +212,8 @@ def measured(words, make, count, accepted):
     text = make(count)
     if len(text) > LIMIT:
         sys.exit('bench/checking.py: %s: a text of %d bytes' % (words, len(text)))
-    runs = [used(program, text, 'ok %d' % accepted) for _ in range(int(times))]
+    want = accepted + ' 1:' if isinstance(accepted, str) else 'ok %d\n' % accepted
+    runs = [used(program, text, want) for _ in range(int(times))]
     return min(time for time, _ in runs), max(memory for _, memory in runs), len(text)
 
 
@@ -205,9 +224,10 @@ for words, make, count, accepted in TEXTS:
     if wanted and not any(word in words for word in wanted):
         continue
     half = count // 2
-    rest = accepted - count if accepted >= count else 0
+    each = isinstance(accepted, int) and accepted >= count
+    rest = accepted - count if each else 0
     time, memory, size = measured(words, make, count, accepted)
-    half_time, half_memory, _ = measured(words, make, half, half + rest if accepted >= count else accepted)
+    half_time, half_memory, _ = measured(words, make, half, half + rest if each else accepted)
     print('%-42s %6d %6d %9.1f %5.2f %8.1f %5.2f' % (
         words, count, size, time * 1000, time / half_time, memory, memory / half_memory), flush=True)
     if time >= 1 or memory >= 200:

@@ -7,7 +7,7 @@ use Rattle.std.proofs.lemmas.Bool.{or_right}
 use Rattle.std.proofs.lemmas.List.{length-map}
 use Rattle.cc_base.specs.declared.place.Place.{Place}
 use Rattle.cc_capture.specs.declared.var.Elem.{Elem}
-use Rattle.cc_capture.specs.Sets.{Set, empty, is_subset, same_set}
+use Rattle.cc_capture.specs.Sets.{Set, empty, is_subset}
 use Rattle.cc_core.specs.declared.context.Bind.{Bind as DeclaredBind}
 use Rattle.cc_core.specs.Contexts.{Bind, TermEntry, TypeEntry, Context}
 use Rattle.cc_core.specs.Reading.{read_set}
@@ -63,23 +63,19 @@ still : (n : ℕ) (g : Context) (x : Set) → IsWellFormedSet g x → read_set n
 still n g x h = read_set-still n 0 x (well_formed-bound_within SetSort g x h)
 
 -- two sets that are known
-pub known_other : (n : ℕ) (base : Context) (l r : Set) → IsKnown base l r → same_set l r ≡ false
-    → false ≡ same_set (read_set n l) (read_set n r)
-known_other n base l r k other =
-    let p = still n base l k.lower in
-    let q = still n base r k.upper in
-    sym ((λ i. same_set (p i) (q i)) ∙ other)
-
-pub known_goes : (at : Place) (n : ℕ) (base g : Context) (l r : Set) (log : List Placed) → StandsOn base g
-    → IsKnown base l r → log ≡ with_one log (demand_at at (demanded g (read_set n l) (read_set n r)))
-known_goes at n base g l r log s k =
+pub known_settled : (n : ℕ) (base g : Context) (l r : Set) → StandsOn base g → IsKnown base l r
+    → is_demand_settled (demanded g (read_set n l) (read_set n r)) ≡ true
+known_settled n base g l r s k =
     let p = still n base l k.lower in
     let q = still n base r k.upper in
     let here : is_demand_settled (demanded g l r) ≡ true =
     subst (λ x. is_demand_settled (demanded x l r) ≡ true) (sym s.is) (settled_on s.passed base l r k.settled) in
-    sym
-    (settled_goes log (demand_at at (demanded g (read_set n l) (read_set n r)))
-    ((λ i. is_demand_settled (demanded g (p i) (q i))) ∙ here))
+    (λ i. is_demand_settled (demanded g (p i) (q i))) ∙ here
+
+pub known_goes : (at : Place) (n : ℕ) (base g : Context) (l r : Set) (log : List Placed) → StandsOn base g
+    → IsKnown base l r → log ≡ with_one log (demand_at at (demanded g (read_set n l) (read_set n r)))
+known_goes at n base g l r log s k =
+    sym (settled_goes log (demand_at at (demanded g (read_set n l) (read_set n r))) (known_settled n base g l r s k))
 
 pub none_known : (g : Context) → IsKnown g empty empty
 none_known g = record {

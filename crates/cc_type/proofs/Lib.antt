@@ -1,6 +1,7 @@
 pub mod AvoidedGreatest
 pub mod CheckedHoles
 pub mod ClosingWithout
+pub mod ComparedAgain
 pub mod FilledAlike
 pub mod FormedParts
 pub mod FoundHoles
@@ -19,6 +20,7 @@ pub mod LoggedDemands
 pub mod LostDemands
 pub mod NewestVariables
 pub mod RememberedInstances
+pub mod RememberedPairs
 pub mod RepeatedDemands
 pub mod SettledTests
 pub mod StandingTerms

@@ -1,10 +1,9 @@
 -- The parts of what is well formed once it is read are so too, each in the context where it stands.
-use Rattle.std.proofs.Common.{◌≡◌, ℕ, suc, [], ◌∷◌, length, Some, sym, subst}
+use Rattle.std.proofs.Common.{◌≡◌, ℕ, [], ◌∷◌, length, Some, sym, subst}
 use Rattle.cc_capture.specs.declared.var.Var.{Var}
-use Rattle.cc_capture.specs.Sets.{Set}
-use Rattle.cc_core.specs.Shapes.{Shape, FunctionShape, TypeFunctionShape, BoxShape, CapturingType, capturing}
-use Rattle.cc_core.specs.Contexts.{Bind, TermEntry, TypeEntry, Context, entry_of}
-use Rattle.cc_core.specs.Reading.{reading, read_set, read_shape, read_type}
+use Rattle.cc_core.specs.Shapes.{Shape, FunctionShape, TypeFunctionShape, BoxShape, CapturingType}
+use Rattle.cc_core.specs.Contexts.{Bind, TypeEntry, Context, entry_of}
+use Rattle.cc_core.specs.Reading.{reading, read_set}
 use Rattle.cc_core.specs.Traversal.{act_type}
 use Rattle.cc_core.specs.WellFormed.{kind_of, kinds_of, IsWellFormedContext, IsWellFormedShape, IsWellFormedType}
 use Rattle.cc_core.specs.WellFormed.{IsWellFormedSet}
@@ -101,3 +100,7 @@ bound_part g v bound formed there =
     let own = entry_at g v bound (IsKindedContext-from g formed) there in
     IsKinded-test (kinds_of g) [] (shape_in g bound)
     (subst (IsKinded (kinds_of g) []) (sym (read_bound g bound own)) own)
+
+pub bound_read : (g : Context) (v : Var) (bound : Shape) → IsWellFormedContext g → bound_of g v ≡ Some bound
+    → shape_in g bound ≡ bound
+bound_read g v bound formed there = read_bound g bound (entry_at g v bound (IsKindedContext-from g formed) there)

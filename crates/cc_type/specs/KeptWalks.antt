@@ -1,21 +1,47 @@
 -- How a comparison is gone through where what it demands is kept as it is found, and what is known on the way. This
 -- serves proofs alone.
-use Rattle.std.specs.Prelude.{◌≡◌, true, ◌++◌}
+use Rattle.std.specs.Prelude.{◌≡◌, ℕ, Bool, true, false, ◌&&◌, ◌||◌, not, map, List, [], ◌++◌, length, Option}
+use Rattle.std.specs.Prelude.{Some, None, if◌then◌else◌}
+use Rattle.std.specs.List.{list_all}
 use Rattle.cc_base.specs.declared.place.Place.{Place}
+use Rattle.cc_capture.specs.declared.var.Var.{Var}
 use Rattle.cc_capture.specs.Sets.{Set}
 use Rattle.cc_core.specs.Contexts.{Context}
-use Rattle.cc_core.specs.WellFormed.{IsWellFormedSet}
-use Rattle.cc_sets.specs.Comparison.{demanded}
+use Rattle.cc_core.specs.Comparison.{same_shape}
+use Rattle.cc_core.specs.Reading.{read_shape}
+use Rattle.cc_core.specs.Shapes.{Shape, TypeVariable}
+use Rattle.cc_core.specs.Views.{shape_of}
+use Rattle.cc_core.specs.WellFormed.{kinds_of, is_well_formed_shape, IsWellFormedSet}
+use Rattle.cc_sets.specs.Comparison.{Demand, demanded, Comparison, Unfinished, Mismatch, Matches, bound_of}
+use Rattle.cc_sets.specs.Comparison.{bound_compared, by_form, comparison}
+use Rattle.cc_sets.specs.Outcomes.{Placed}
 use Rattle.cc_sets.specs.Inference.{demand_at}
-use Rattle.cc_subty.specs.Walking.{Asking}
-use Rattle.cc_type.specs.Keeping.{with_one, is_demand_settled}
+use Rattle.cc_type.specs.ComparedAgain.{told}
+use Rattle.cc_type.specs.Keeping.{has_hole, is_demand_settled, keeping}
+use Rattle.cc_type.specs.declared.pairs.Pair.{Pair}
 
--- Each demand is kept behind the log, unless that is needless. What two that are one demand is so, so it is not kept.
-abbrev pub keeping_at : Place → Asking
-keeping_at at = record {
-  asks = λ demand log. with_one log (demand_at at demand);
-  settles = λ before log. log;
-}
+-- What is kept of a comparison that ends: the two do not match, or they do, and what they demand is kept behind the
+-- log. Where it is said afterwards that all was settled, it was so before, and each of the demands is settled.
+abbrev pub Keeps : Place → Comparison → Bool → Bool → Bool → List Placed → List Placed → Type 0
+Keeps at Unfinished matched was is before after = ⊥
+Keeps at Mismatch matched was is before after = matched ≡ false
+Keeps at (Matches demands) matched was is before after =
+    (matched ≡ true) × (after ≡ keeping before (map (demand_at at) demands))
+    × (is ≡ true → (was ≡ true) × (list_all is_demand_settled demands ≡ true))
+
+-- the comparison of two shapes, read in the context, by their forms alone where they are not one
+abbrev pub form_compared : ℕ → Context → Shape → Shape → Comparison
+form_compared steps context left right =
+    if same_shape (read_shape (length context) left) (read_shape (length context) right)
+    then Matches []
+    else by_form (comparison steps) context (read_shape (length context) left) (read_shape (length context) right)
+
+-- the comparison of a type variable with a shape that is read in the context, by its bound where they are not one
+abbrev pub variable_compared : ℕ → Context → Var → Shape → Comparison
+variable_compared steps context variable right =
+    if same_shape (TypeVariable variable) (read_shape (length context) right)
+    then Matches []
+    else bound_compared (comparison steps) context (bound_of context variable) (read_shape (length context) right)
 
 -- the context has entries on top of those of another
 pub record StandsOn (base context : Context) : Type 0 where
@@ -27,3 +53,23 @@ pub record IsKnown (context : Context) (left right : Set) : Type 0 where
   pub lower : IsWellFormedSet context left
   pub upper : IsWellFormedSet context right
   pub settled : is_demand_settled (demanded context left right) ≡ true
+
+-- Whether a demand is not kept behind any log, or else behind one where something is lost.
+abbrev pub goes : Bool → Demand → Bool
+goes lost demand = is_demand_settled demand || (lost && not (has_hole demand.right))
+
+-- it is told, and told that they pass
+abbrev pub is_told : Option Bool → Bool
+is_told (Some all) = all
+is_told None = false
+
+-- Whether a type variable and a shape are names and shapes of the context, and the comparison of the variable's bound
+-- with the shape matches in so many steps, with demands that are not kept.
+abbrev pub is_remembered_as : Context → Bool → ℕ → Var → Shape → Bool
+is_remembered_as context lost steps variable right =
+    (is_well_formed_shape (kinds_of context) [] (TypeVariable variable) && is_well_formed_shape (kinds_of context) [] right)
+    && is_told (told (goes lost) (bound_compared (comparison steps) context (bound_of context variable) right))
+
+-- the same of a pair as it is stored
+abbrev pub is_remembered : Context → Pair → Bool
+is_remembered context pair = is_remembered_as context pair.lost pair.steps pair.variable (shape_of pair.right)

@@ -1,3 +1,4 @@
+pub mod ComparedAgain
 pub mod Ends
 pub mod FilledHoles
 pub mod FormedDemands

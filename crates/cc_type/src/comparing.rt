@@ -15,7 +15,6 @@ use crate::walking::{keep_shapes, keep_types};
 use cc_base::code::Code;
 use cc_base::place::Place;
 use cc_core::{Ctx, Shape, Ty};
-use cc_subty::walking::Walked;
 use std::alloc::Global;
 
 /// The left type has to be below the right one.
@@ -33,9 +32,10 @@ pub fn below(
     ensures { Meets (λ u. u) result (asked_of log.new.demands) (after (asked_of log.old.demands) (plain.below comparing at (context_of ctx.now) (type_of left.now) (type_of right.now))) }
 {
     log.known = Known::new(alloc, ctx.clone()?);
-    match keep_types(alloc, ctx, left, right, at, log, u32::MAX)? {
-        Walked::Mismatched => Err(refused(Code::E14, at)),
-        Walked::Matched(_) => Ok(()),
+    if keep_types(alloc, ctx, left, right, at, log, u32::MAX)? {
+        Ok(())
+    } else {
+        Err(refused(Code::E14, at))
     }
 }
 
@@ -54,8 +54,9 @@ pub(crate) fn against(
     ensures { Meets (λ u. u) result (asked_of log.new.demands) (after (asked_of log.old.demands) (plain.against comparing at (context_of ctx.now) (shape_of left.now) (shape_of right.now))) }
 {
     log.known = Known::new(alloc, ctx.clone()?);
-    match keep_shapes(alloc, ctx, left, right, at, log, u32::MAX)? {
-        Walked::Mismatched => Err(refused(Code::E14, at)),
-        Walked::Matched(_) => Ok(()),
+    if keep_shapes(alloc, ctx, left, right, at, log, u32::MAX)? {
+        Ok(())
+    } else {
+        Err(refused(Code::E14, at))
     }
 }

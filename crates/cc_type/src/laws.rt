@@ -1,5 +1,6 @@
 //! The laws that checking a definition stands on, apart from any code. The functions do nothing; each has a law as its
 //! contract.
+ghost use Rattle.cc_type.specs.ComparedAgain.{ComparedAgain};
 ghost use Rattle.cc_type.specs.FilledHoles as holes;
 ghost use Rattle.cc_type.specs.KeepingExamples as example;
 ghost use Rattle.cc_type.specs.KeepingLaws as keeping;
@@ -34,6 +35,11 @@ pub fn kept()
     ensures served { keeping.KeptIsServedAlike }
     ensures fails { keeping.KeptFailsAlike }
     ensures fit { keeping.KeptIsFit }
+{}
+
+/// A comparison that comes again where other binders were passed tells the same of what it demands.
+pub fn compared_again()
+    ensures { ComparedAgain }
 {}
 
 /// The greatest position is the greatest that is free; among globals it is that of a definition.

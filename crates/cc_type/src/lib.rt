@@ -12,6 +12,7 @@ mod known;
 pub mod laws;
 pub mod log;
 pub mod operands;
+mod pairs;
 mod repeated;
 mod rows;
 mod sizes;

@@ -11,7 +11,6 @@ ghost use Rattle.cc_subty.specs.Demands.{demand_of, asked_of};
 ghost use Rattle.cc_type.specs.Keeping as keeping;
 ghost use Rattle.cc_type.specs.Keeping.{has_lost};
 ghost use Rattle.cc_type.specs.FormedDemands.{IsWellFormedAsked};
-ghost use Rattle.cc_type.specs.KeptWalks.{IsKnown};
 
 use crate::instances::Instances;
 use crate::known::Known;
@@ -40,6 +39,8 @@ pub struct Log {
     marks: Marks,
     // What was last found to be settled.
     pub(crate) known: Known,
+    // Whether all that was demanded since it was last said so was settled.
+    pub(crate) settled: bool,
     // What type functions gave.
     pub(crate) instances: Instances,
     ghost clear: { IsClear marks },
@@ -56,8 +57,16 @@ impl Log {
             lost: false,
             marks: Marks::new(alloc),
             known: Known::new(alloc, Ctx::new()),
+            settled: false,
             instances: Instances::new(alloc),
         }
+    }
+
+    // Whether something that is kept is lost.
+    pub(crate) fn is_lost(&self) -> bool
+        ensures { result ≡ has_lost (asked_of self.now.demands) }
+    {
+        self.lost
     }
 
     /// What is kept, in order.
@@ -258,6 +267,7 @@ fn add(log: &mut Log, demand: Demand, lost: bool) -> Result<(), AllocError>
     requires { lost ≡ has_lost (asked_of log.old.demands ++ demand_of demand ∷ []) }
     ensures added { OnOk result (asked_of log.new.demands ≡ asked_of log.old.demands ++ demand_of demand ∷ []) }
     ensures base { log.new.known.base ≡ log.old.known.base }
+    ensures still { log.new.settled ≡ log.old.settled }
 {
     log.demands.push(demand)?;
     log.lost = lost;
@@ -307,6 +317,7 @@ pub(crate) fn keep_below(
     ensures kept { OnOk result (asked_of log.new.demands ≡ keeping.with_one (asked_of log.old.demands) (demand_at at (demanded (context_of ctx.now) left.now right.now))) }
     ensures settled { IfOk result (λ s. IsTrue s → keeping.is_demand_settled (demanded (context_of ctx.now) left.now right.now) ≡ true) }
     ensures base { log.new.known.base ≡ log.old.known.base }
+    ensures still { log.new.settled ≡ log.old.settled }
 {
     if log.lost && !has_hole(right) {
         return Ok(false);
@@ -321,15 +332,4 @@ pub(crate) fn keep_below(
     let lost = is_either_lost(alloc, log.lost, &mut log.marks, &demand)?;
     add(log, demand, lost)?;
     Ok(false)
-}
-
-/// Keeps in mind that the left set is below the right one, in the context in which the comparison began.
-pub(crate) fn learn(log: &mut Log, left: CapSet, right: CapSet) -> Result<(), AllocError>
-    requires { IsKnown (context_of log.old.known.base) left right }
-    ensures demands { log.new.demands ≡ log.old.demands }
-    ensures base { log.new.known.base ≡ log.old.known.base }
-{
-    let base = log.known.base.clone()?;
-    log.known = Known { base, left, right };
-    Ok(())
 }

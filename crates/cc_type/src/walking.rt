@@ -1,35 +1,36 @@
 //! One walk over two types keeps what their comparison demands, as it is found. Nothing is opened: what stands under a
 //! binder is read in the context where it stands, and only where that is another set and in what is kept is it built.
+//! What matched with demands that need not be kept is remembered, and not gone through again.
 
-ghost use Rattle.std.specs.Prelude.{◌≡◌, true, List, length, IfOk, OnOk};
+ghost use Rattle.std.specs.Prelude.{◌≡◌, ◌<◌, true, length, IfOk, OnOk, Some, IsTrue};
 ghost use Rattle.std.specs.Option.{unwrap_or};
-ghost use Rattle.cc_capture.specs.Sets as set;
+ghost use Rattle.cc_core.specs.Comparison.{same_shape};
 ghost use Rattle.cc_core.specs.Reading as reading;
-ghost use Rattle.cc_core.specs.Shapes.{FunctionShape, TypeFunctionShape, BoxShape};
+ghost use Rattle.cc_core.specs.Shapes.{FunctionShape, TypeFunctionShape, BoxShape, TypeVariable};
 ghost use Rattle.cc_core.specs.Views.{shape_of, type_of, context_of};
 ghost use Rattle.cc_core.specs.WellFormed.{IsWellFormedContext, IsWellFormedShape, IsWellFormedType, IsWellFormedSet};
-ghost use Rattle.cc_sets.specs.Comparison.{demanded};
+ghost use Rattle.cc_sets.specs.Comparison as plain;
+ghost use Rattle.cc_sets.specs.Comparison.{comparison, demanded};
 ghost use Rattle.cc_sets.specs.Inference.{demand_at, shape_in, type_in};
-ghost use Rattle.cc_sets.specs.Outcomes.{Placed};
 ghost use Rattle.cc_subty.specs.Demands.{asked_of};
-ghost use Rattle.cc_subty.specs.Walking as walk;
-ghost use Rattle.cc_subty.specs.Walking.{walk_of};
 ghost use Rattle.cc_type.specs.Keeping.{with_one, is_demand_settled};
-ghost use Rattle.cc_type.specs.KeptWalks.{keeping_at, StandsOn};
+ghost use Rattle.cc_type.specs.KeptWalks.{Keeps, StandsOn, form_compared, variable_compared};
 
-use crate::log::{Log, keep_below, learn};
+use crate::log::{Log, keep_below};
 use crate::steps::entries;
 use cc_base::place::Place;
 use cc_capture::{CapSet, Var};
 use cc_core::acting::read_variable;
 use cc_core::reading::read_if_other;
+use cc_core::wellformed::wf_shape;
 use cc_core::{Ctx, Shape, Ty};
 use cc_subty::exposing::bound_of;
-use cc_subty::walking::{
-    Walked, and_same, is_any, is_variable, same_read, under_bound, under_parameter, walk_itself,
-};
+use cc_subty::walking::{is_any, is_variable, same_read, under_bound, under_parameter};
 use std::alloc::{AllocError, Global};
 use std::rc::Rc;
+
+// What is remembered was compared in so many steps fewer than were left, so that it is known so many levels deeper too.
+const FEWER: u32 = 262144;
 
 // The set that it became, or else the set itself.
 fn chosen<'a>(became: &'a Option<CapSet>, set: &'a CapSet) -> &'a CapSet
@@ -57,17 +58,17 @@ fn learn_read(
     requires base { StandsOn (context_of log.old.known.base) (context_of ctx.now) }
     ensures demands { log.new.demands ≡ log.old.demands }
     ensures base { log.new.known.base ≡ log.old.known.base }
+    ensures still { log.new.settled ≡ log.old.settled }
 {
     if left_read.is_none() && right_read.is_none() && ctx.len() == log.known.base.len() {
         let left = left.clone()?;
         let right = right.clone()?;
-        learn(log, left, right)?;
+        log.known.learn(left, right);
     }
     Ok(())
 }
 
-// Keeps that the left set is below the right one, where both are read in the context, unless that is needless. The
-// answer is whether they are one.
+// Keeps that the left set is below the right one, where both are read in the context, unless that is needless.
 fn keep_read_sets(
     alloc: Global,
     ctx: &Ctx,
@@ -75,13 +76,14 @@ fn keep_read_sets(
     right: &CapSet,
     at: Place,
     log: &mut Log,
-) -> Result<bool, AllocError>
+) -> Result<(), AllocError>
     requires context { IsWellFormedContext (context_of ctx.now) }
     requires left { IsWellFormedSet (context_of ctx.now) (reading.read_set (length (context_of ctx.now)) left.now) }
     requires right { IsWellFormedSet (context_of ctx.now) (reading.read_set (length (context_of ctx.now)) right.now) }
     requires base { StandsOn (context_of log.old.known.base) (context_of ctx.now) }
-    ensures same { IfOk result (λ b. b ≡ set.same_set (reading.read_set (length (context_of ctx.now)) left.now) (reading.read_set (length (context_of ctx.now)) right.now)) }
     ensures kept { OnOk result (asked_of log.new.demands ≡ with_one (asked_of log.old.demands) (demand_at at (demanded (context_of ctx.now) (reading.read_set (length (context_of ctx.now)) left.now) (reading.read_set (length (context_of ctx.now)) right.now)))) }
+    ensures before { OnOk result (log.new.settled ≡ true → log.old.settled ≡ true) }
+    ensures settled { OnOk result (log.new.settled ≡ true → is_demand_settled (demanded (context_of ctx.now) (reading.read_set (length (context_of ctx.now)) left.now) (reading.read_set (length (context_of ctx.now)) right.now)) ≡ true) }
     ensures base { log.new.known.base ≡ log.old.known.base }
 {
     let left_read = read_if_other(alloc, left, entries(ctx))?;
@@ -90,8 +92,10 @@ fn keep_read_sets(
     let other = chosen(&right_read, right);
     if keep_below(alloc, ctx, one, other, at, log)? {
         learn_read(ctx, left, right, &left_read, &right_read, log)?;
+    } else {
+        log.settled = false;
     }
-    Ok(*one == *other)
+    Ok(())
 }
 
 // The same, where two sets that are known are not gone over again.
@@ -102,22 +106,100 @@ fn keep_sets(
     right: &CapSet,
     at: Place,
     log: &mut Log,
-) -> Result<bool, AllocError>
+) -> Result<(), AllocError>
     requires context { IsWellFormedContext (context_of ctx.now) }
     requires left { IsWellFormedSet (context_of ctx.now) (reading.read_set (length (context_of ctx.now)) left.now) }
     requires right { IsWellFormedSet (context_of ctx.now) (reading.read_set (length (context_of ctx.now)) right.now) }
     requires base { StandsOn (context_of log.old.known.base) (context_of ctx.now) }
-    ensures same { IfOk result (λ b. b ≡ set.same_set (reading.read_set (length (context_of ctx.now)) left.now) (reading.read_set (length (context_of ctx.now)) right.now)) }
     ensures kept { OnOk result (asked_of log.new.demands ≡ with_one (asked_of log.old.demands) (demand_at at (demanded (context_of ctx.now) (reading.read_set (length (context_of ctx.now)) left.now) (reading.read_set (length (context_of ctx.now)) right.now)))) }
+    ensures before { OnOk result (log.new.settled ≡ true → log.old.settled ≡ true) }
+    ensures settled { OnOk result (log.new.settled ≡ true → is_demand_settled (demanded (context_of ctx.now) (reading.read_set (length (context_of ctx.now)) left.now) (reading.read_set (length (context_of ctx.now)) right.now)) ≡ true) }
     ensures base { log.new.known.base ≡ log.old.known.base }
 {
     if *left == *right {
-        return Ok(true);
+        return Ok(());
     }
     if log.known.has(left, right) {
-        return Ok(false);
+        return Ok(());
     }
     keep_read_sets(alloc, ctx, left, right, at, log)
+}
+
+// Goes over the bound of the variable and the shape, and remembers that they match where nothing has to be kept.
+#[cycle(walk)]
+fn keep_new(
+    alloc: Global,
+    ctx: &Ctx,
+    variable: Var,
+    bound: &Shape,
+    right: &Shape,
+    at: Place,
+    log: &mut Log,
+    steps: u32,
+) -> Result<bool, AllocError>
+    requires context { IsWellFormedContext (context_of ctx.now) }
+    requires right { IsWellFormedShape (context_of ctx.now) (shape_in (context_of ctx.now) (shape_of right.now)) }
+    requires base { StandsOn (context_of log.old.known.base) (context_of ctx.now) }
+    requires there { plain.bound_of (context_of ctx.now) variable ≡ Some (shape_of bound.now) }
+    requires named { IsWellFormedShape (context_of log.old.known.base) (TypeVariable variable) }
+    requires shape { IsWellFormedShape (context_of log.old.known.base) (shape_of right.now) }
+    ensures kept { IfOk result (λ m. Keeps at (comparison steps (context_of ctx.now) (shape_in (context_of ctx.now) (shape_of bound.now)) (shape_in (context_of ctx.now) (shape_of right.now))) m log.old.settled log.new.settled (asked_of log.old.demands) (asked_of log.new.demands)) }
+    ensures base { log.new.known.base ≡ log.old.known.base }
+{
+    let settled = log.settled;
+    let count = log.demands.len();
+    log.settled = true;
+    let matched = keep_shapes(alloc, ctx, bound, right, at, log, steps)?;
+    if !matched {
+        return Ok(false);
+    }
+    let all = log.settled;
+    if all {
+        log.known.remember(variable, right, steps, false)?;
+    } else if log.demands.len() == count {
+        log.known.remember(variable, right, steps, true)?;
+    }
+    log.settled = settled && all;
+    Ok(true)
+}
+
+// Goes over the bound of the variable and the shape, unless it is remembered that they match.
+#[cycle(walk)]
+fn keep_bound(
+    alloc: Global,
+    ctx: &Ctx,
+    variable: Var,
+    bound: &Shape,
+    right: &Shape,
+    at: Place,
+    log: &mut Log,
+    steps: u32,
+) -> Result<bool, AllocError>
+    requires context { IsWellFormedContext (context_of ctx.now) }
+    requires right { IsWellFormedShape (context_of ctx.now) (shape_in (context_of ctx.now) (shape_of right.now)) }
+    requires base { StandsOn (context_of log.old.known.base) (context_of ctx.now) }
+    requires there { plain.bound_of (context_of ctx.now) variable ≡ Some (shape_of bound.now) }
+    ensures kept { IfOk result (λ m. Keeps at (comparison steps (context_of ctx.now) (shape_in (context_of ctx.now) (shape_of bound.now)) (shape_in (context_of ctx.now) (shape_of right.now))) m log.old.settled log.new.settled (asked_of log.old.demands) (asked_of log.new.demands)) }
+    ensures base { log.new.known.base ≡ log.old.known.base }
+{
+    if steps <= FEWER {
+        return keep_shapes(alloc, ctx, bound, right, at, log, steps);
+    }
+    let name = Shape::TVar(variable);
+    if !wf_shape(&log.known.base, &name) {
+        return keep_shapes(alloc, ctx, bound, right, at, log, steps);
+    }
+    if !wf_shape(&log.known.base, right) {
+        return keep_shapes(alloc, ctx, bound, right, at, log, steps);
+    }
+    if log.known.matches(variable, right, steps, false) {
+        return Ok(true);
+    }
+    if log.is_lost() && log.known.matches(variable, right, steps, true) {
+        log.settled = false;
+        return Ok(true);
+    }
+    keep_new(alloc, ctx, variable, bound, right, at, log, steps - FEWER)
 }
 
 #[cycle(walk)]
@@ -129,22 +211,19 @@ fn keep_variable(
     at: Place,
     log: &mut Log,
     steps: u32,
-) -> Result<Walked, AllocError>
+) -> Result<bool, AllocError>
     requires context { IsWellFormedContext (context_of ctx.now) }
     requires right { IsWellFormedShape (context_of ctx.now) (shape_in (context_of ctx.now) (shape_of right.now)) }
     requires base { StandsOn (context_of log.old.known.base) (context_of ctx.now) }
-    ensures walked { IfOk result (λ w. walk_of w (asked_of log.new.demands) ≡ walk.variable_walked (walk.walked (keeping_at at) steps) (context_of ctx.now) variable (shape_of right.now) (asked_of log.old.demands)) }
+    ensures kept { IfOk result (λ m. Keeps at (variable_compared steps (context_of ctx.now) variable (shape_of right.now)) m log.old.settled log.new.settled (asked_of log.old.demands) (asked_of log.new.demands)) }
     ensures base { log.new.known.base ≡ log.old.known.base }
 {
     if is_variable(entries(ctx), variable, right) {
-        return Ok(Walked::Matched(true));
+        return Ok(true);
     }
     match bound_of(ctx, variable) {
-        Some(bound) => {
-            let walked = keep_shapes(alloc, ctx, bound, right, at, log, steps)?;
-            Ok(and_same(false, walked))
-        }
-        None => Ok(Walked::Mismatched),
+        Some(bound) => keep_bound(alloc, ctx, variable, bound, right, at, log, steps),
+        None => Ok(false),
     }
 }
 
@@ -160,24 +239,22 @@ fn keep_functions(
     at: Place,
     log: &mut Log,
     steps: u32,
-) -> Result<Walked, AllocError>
+) -> Result<bool, AllocError>
     requires context { IsWellFormedContext (context_of ctx.now) }
     requires left { let t = type_of takes.now in let g = type_of gives.now in
         IsWellFormedShape (context_of ctx.now) (shape_in (context_of ctx.now) (FunctionShape t.shape t.set g.shape g.set)) }
     requires right { let t = type_of others.now in let g = type_of other_gives.now in
         IsWellFormedShape (context_of ctx.now) (shape_in (context_of ctx.now) (FunctionShape t.shape t.set g.shape g.set)) }
     requires base { StandsOn (context_of log.old.known.base) (context_of ctx.now) }
-    ensures walked { IfOk result (λ w. walk_of w (asked_of log.new.demands) ≡ walk.functions_walked (walk.walked (keeping_at at) steps) (keeping_at at) (context_of ctx.now) (type_of takes.now) (type_of gives.now) (type_of others.now) (type_of other_gives.now) (asked_of log.old.demands)) }
+    ensures kept { let t = type_of takes.now in let g = type_of gives.now in let t' = type_of others.now in let g' = type_of other_gives.now in
+        IfOk result (λ m. Keeps at (form_compared steps (context_of ctx.now) (FunctionShape t.shape t.set g.shape g.set) (FunctionShape t'.shape t'.set g'.shape g'.set)) m log.old.settled log.new.settled (asked_of log.old.demands) (asked_of log.new.demands)) }
     ensures base { log.new.known.base ≡ log.old.known.base }
 {
-    match keep_types(alloc, ctx, others, takes, at, log, steps)? {
-        Walked::Mismatched => Ok(Walked::Mismatched),
-        Walked::Matched(same) => {
-            let under = under_parameter(alloc, ctx, others)?;
-            let results = keep_types(alloc, &under, gives, other_gives, at, log, steps)?;
-            Ok(and_same(same, results))
-        }
+    if !keep_types(alloc, ctx, others, takes, at, log, steps)? {
+        return Ok(false);
     }
+    let under = under_parameter(alloc, ctx, others)?;
+    keep_types(alloc, &under, gives, other_gives, at, log, steps)
 }
 
 #[cycle(walk)]
@@ -191,27 +268,54 @@ fn keep_type_functions(
     at: Place,
     log: &mut Log,
     steps: u32,
-) -> Result<Walked, AllocError>
+) -> Result<bool, AllocError>
     requires context { IsWellFormedContext (context_of ctx.now) }
     requires left { let g = type_of gives.now in
         IsWellFormedShape (context_of ctx.now) (shape_in (context_of ctx.now) (TypeFunctionShape (shape_of bound.now.value) g.shape g.set)) }
     requires right { let g = type_of other_gives.now in
         IsWellFormedShape (context_of ctx.now) (shape_in (context_of ctx.now) (TypeFunctionShape (shape_of other.now.value) g.shape g.set)) }
     requires base { StandsOn (context_of log.old.known.base) (context_of ctx.now) }
-    ensures walked { let g = type_of other_gives.now in
-        IfOk result (λ w. walk_of w (asked_of log.new.demands) ≡ walk.type_function_walked (walk.walked (keeping_at at) steps) (keeping_at at) (context_of ctx.now) (shape_of bound.now.value) (type_of gives.now) (TypeFunctionShape (shape_of other.now.value) g.shape g.set) (asked_of log.old.demands)) }
+    ensures kept { let g = type_of gives.now in let g' = type_of other_gives.now in
+        IfOk result (λ m. Keeps at (form_compared steps (context_of ctx.now) (TypeFunctionShape (shape_of bound.now.value) g.shape g.set) (TypeFunctionShape (shape_of other.now.value) g'.shape g'.set)) m log.old.settled log.new.settled (asked_of log.old.demands) (asked_of log.new.demands)) }
     ensures base { log.new.known.base ≡ log.old.known.base }
 {
-    if same_read(alloc, bound, other, entries(ctx), 0)? {
-        let under = under_bound(alloc, ctx, bound)?;
-        keep_types(alloc, &under, gives, other_gives, at, log, steps)
-    } else {
-        Ok(Walked::Mismatched)
+    if !same_read(alloc, bound, other, entries(ctx), 0)? {
+        return Ok(false);
     }
+    let under = under_bound(alloc, ctx, bound)?;
+    keep_types(alloc, &under, gives, other_gives, at, log, steps)
 }
 
 #[cycle(walk)]
-#[tactic(auto, unfolding(cc_subty::specs::Walking::form_walked))]
+fn keep_boxes(
+    alloc: Global,
+    ctx: &Ctx,
+    content: &Ty,
+    other: &Ty,
+    at: Place,
+    log: &mut Log,
+    steps: u32,
+) -> Result<bool, AllocError>
+    requires context { IsWellFormedContext (context_of ctx.now) }
+    requires left { IsWellFormedType (context_of ctx.now) (type_in (context_of ctx.now) (type_of content.now)) }
+    requires right { IsWellFormedType (context_of ctx.now) (type_in (context_of ctx.now) (type_of other.now)) }
+    requires base { StandsOn (context_of log.old.known.base) (context_of ctx.now) }
+    ensures kept { let t = type_of content.now in let t' = type_of other.now in
+        IfOk result (λ m. Keeps at (form_compared steps (context_of ctx.now) (BoxShape t.shape t.set) (BoxShape t'.shape t'.set)) m log.old.settled log.new.settled (asked_of log.old.demands) (asked_of log.new.demands)) }
+    ensures base { log.new.known.base ≡ log.old.known.base }
+{
+    keep_types(alloc, ctx, content, other, at, log, steps)
+}
+
+// Two shapes, of which the left one matches no other but Any, which the right one is not.
+fn keep_itself(alloc: Global, ctx: &Ctx, left: &Shape, right: &Shape) -> Result<bool, AllocError>
+    ensures { IfOk result (λ m. m ≡ same_shape (shape_in (context_of ctx.now) (shape_of left.now)) (shape_in (context_of ctx.now) (shape_of right.now))) }
+{
+    same_read(alloc, left, right, entries(ctx), 0)
+}
+
+#[cycle(walk)]
+#[tactic(auto, unfolding(cc_sets::specs::Comparison::by_form))]
 fn keep_form(
     alloc: Global,
     ctx: &Ctx,
@@ -220,17 +324,17 @@ fn keep_form(
     at: Place,
     log: &mut Log,
     steps: u32,
-) -> Result<Walked, AllocError>
+) -> Result<bool, AllocError>
     requires context { IsWellFormedContext (context_of ctx.now) }
     requires left { IsWellFormedShape (context_of ctx.now) (shape_in (context_of ctx.now) (shape_of left.now)) }
     requires right { IsWellFormedShape (context_of ctx.now) (shape_in (context_of ctx.now) (shape_of right.now)) }
     requires base { StandsOn (context_of log.old.known.base) (context_of ctx.now) }
-    ensures walked { IfOk result (λ w. walk_of w (asked_of log.new.demands) ≡ walk.form_walked (walk.walked (keeping_at at) steps) (keeping_at at) (context_of ctx.now) (shape_of left.now) (shape_of right.now) (asked_of log.old.demands)) }
+    ensures kept { IfOk result (λ m. Keeps at (form_compared steps (context_of ctx.now) (shape_of left.now) (shape_of right.now)) m log.old.settled log.new.settled (asked_of log.old.demands) (asked_of log.new.demands)) }
     ensures base { log.new.known.base ≡ log.old.known.base }
 {
     match left {
-        Shape::Base(_) => walk_itself(alloc, ctx, left, right),
-        Shape::Any => walk_itself(alloc, ctx, left, right),
+        Shape::Base(_) => keep_itself(alloc, ctx, left, right),
+        Shape::Any => keep_itself(alloc, ctx, left, right),
         Shape::TVar(variable) => {
             let variable = read_variable(entries(ctx), 0, *variable);
             keep_variable(alloc, ctx, variable, right, at, log, steps)
@@ -247,7 +351,7 @@ fn keep_form(
                 log,
                 steps,
             ),
-            _ => Ok(Walked::Mismatched),
+            _ => Ok(false),
         },
         Shape::TFun(bound, gives) => match right {
             Shape::TFun(other, other_gives) => keep_type_functions(
@@ -261,22 +365,21 @@ fn keep_form(
                 log,
                 steps,
             ),
-            _ => Ok(Walked::Mismatched),
+            _ => Ok(false),
         },
         Shape::Boxed(content) => match right {
-            Shape::Boxed(other) => keep_types(alloc, ctx, content, other, at, log, steps),
-            _ => Ok(Walked::Mismatched),
+            Shape::Boxed(other) => keep_boxes(alloc, ctx, content, other, at, log, steps),
+            _ => Ok(false),
         },
-        Shape::Exit(_) => walk_itself(alloc, ctx, left, right),
+        Shape::Exit(_) => keep_itself(alloc, ctx, left, right),
     }
 }
 
-/// Goes over two shapes, read in the context, in so many levels at most. What their comparison demands is kept at the
-/// place behind the log, unless that is needless.
+/// Goes over two shapes, read in the context, in so many levels at most, and answers whether they match. What their
+/// comparison demands is kept at the place behind the log, unless that is needless.
 ///
 /// Fails for want of memory, as which too many levels count.
 #[cycle(walk)]
-#[tactic(auto, unfolding(cc_subty::specs::Walking::walked))]
 pub(crate) fn keep_shapes(
     alloc: Global,
     ctx: &Ctx,
@@ -285,19 +388,19 @@ pub(crate) fn keep_shapes(
     at: Place,
     log: &mut Log,
     steps: u32,
-) -> Result<Walked, AllocError>
+) -> Result<bool, AllocError>
     requires context { IsWellFormedContext (context_of ctx.now) }
     requires left { IsWellFormedShape (context_of ctx.now) (shape_in (context_of ctx.now) (shape_of left.now)) }
     requires right { IsWellFormedShape (context_of ctx.now) (shape_in (context_of ctx.now) (shape_of right.now)) }
     requires base { StandsOn (context_of log.old.known.base) (context_of ctx.now) }
-    ensures walked { IfOk result (λ w. walk_of w (asked_of log.new.demands) ≡ walk.walked (keeping_at at) steps (context_of ctx.now) (shape_of left.now) (shape_of right.now) (asked_of log.old.demands)) }
+    ensures kept { IfOk result (λ m. Keeps at (comparison steps (context_of ctx.now) (shape_in (context_of ctx.now) (shape_of left.now)) (shape_in (context_of ctx.now) (shape_of right.now))) m log.old.settled log.new.settled (asked_of log.old.demands) (asked_of log.new.demands)) }
     ensures base { log.new.known.base ≡ log.old.known.base }
 {
     if steps == 0 {
         return Err(AllocError);
     }
     if is_any(right) {
-        return Ok(Walked::Matched(is_any(left)));
+        return Ok(true);
     }
     keep_form(alloc, ctx, left, right, at, log, steps - 1)
 }
@@ -312,15 +415,14 @@ pub(crate) fn keep_types(
     at: Place,
     log: &mut Log,
     steps: u32,
-) -> Result<Walked, AllocError>
+) -> Result<bool, AllocError>
     requires context { IsWellFormedContext (context_of ctx.now) }
     requires left { IsWellFormedType (context_of ctx.now) (type_in (context_of ctx.now) (type_of left.now)) }
     requires right { IsWellFormedType (context_of ctx.now) (type_in (context_of ctx.now) (type_of right.now)) }
     requires base { StandsOn (context_of log.old.known.base) (context_of ctx.now) }
-    ensures walked { IfOk result (λ w. walk_of w (asked_of log.new.demands) ≡ walk.types_walked (walk.walked (keeping_at at) steps) (keeping_at at) (context_of ctx.now) (type_of left.now) (type_of right.now) (asked_of log.old.demands)) }
+    ensures kept { IfOk result (λ m. Keeps at (plain.type_comparison steps (context_of ctx.now) (type_in (context_of ctx.now) (type_of left.now)) (type_in (context_of ctx.now) (type_of right.now))) m log.old.settled log.new.settled (asked_of log.old.demands) (asked_of log.new.demands)) }
     ensures base { log.new.known.base ≡ log.old.known.base }
 {
-    let same = keep_sets(alloc, ctx, &left.set, &right.set, at, log)?;
-    let shapes = keep_shapes(alloc, ctx, &left.shape, &right.shape, at, log, steps)?;
-    Ok(and_same(same, shapes))
+    keep_sets(alloc, ctx, &left.set, &right.set, at, log)?;
+    keep_shapes(alloc, ctx, &left.shape, &right.shape, at, log, steps)
 }

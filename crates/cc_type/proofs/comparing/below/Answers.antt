@@ -1,16 +1,14 @@
-use Rattle.std.proofs.Common.{sym, ap, ◌∙◌, subst}
-use Rattle.cc_core.specs.Comparison.{same_type}
+use Rattle.std.proofs.Common.{true, false, subst}
 use Rattle.cc_core.specs.Views.{type_of, context_of}
 use Rattle.cc_sets.specs.Comparison.{type_comparison}
 use Rattle.cc_sets.specs.Inference as plain
+use Rattle.cc_sets.specs.Inference.{type_in}
 use Rattle.cc_subty.specs.Comparing.{most_steps}
 use Rattle.cc_subty.specs.Demands.{asked_of}
-use Rattle.cc_subty.specs.Walking.{walk_of}
-use Rattle.cc_subty.proofs.CallLemmas.{types_walked_so}
-use Rattle.cc_subty.proofs.WalkAgreement.{Agrees}
+use Rattle.cc_type.specs.KeptWalks.{Keeps}
 use Rattle.cc_type.specs.Logs.{after}
 use Rattle.cc_type.specs.Rows.{comparing}
-use Rattle.cc_type.proofs.KeptWalks.{keeping_puts, matched_after, apart_after, refused_met}
+use Rattle.cc_type.proofs.KeptWalks.{matched_after, apart_after, refused_met, types_root}
 use Rattle.cc_type.proofs.WalkedParts.{type_standing}
 use Rattle.cc_type.proofs.comparing.below.Goals as goal
 
@@ -20,29 +18,31 @@ keep_types-requires-clause-left c = type_standing (context_of c.args.ctx.now) (t
 pub keep_types-requires-clause-right : goal.keep_types-requires-clause-right
 keep_types-requires-clause-right c = type_standing (context_of c.args.ctx.now) (type_of c.args.right.now) c.requires.right
 
-pub returns-in-Mismatched : goal.returns-in-Mismatched
-returns-in-Mismatched c =
+pub returns-then-branch : goal.returns-then-branch
+returns-then-branch c =
     let g = context_of c.args.ctx.now in
     let left = type_of c.args.left.now in
     let right = type_of c.args.right.now in
-    let log = asked_of c.args.log.now.demands in
-    let more = asked_of c.keep_types.new.log.demands in
-    let puts = keeping_puts c.args.at in
-    let is = ap (λ w. walk_of w more) (sym c.in-Mismatched.is) ∙ c.in_ok-keep_types.ensures.walked in
-    refused_met more c.refused.result c.args.at (after log (plain.below comparing c.args.at g left right)) c.refused.ensures
-    (apart_after c.args.at (same_type left right) (type_comparison most_steps g left right) log
-    (subst (Agrees puts (same_type left right) (type_comparison most_steps g left right) log) (sym is)
-    (types_walked_so puts most_steps g left right log c.requires.context c.requires.left c.requires.right)))
+    let was = c.args.log.now in
+    let now = c.keep_types.new.log in
+    let log = asked_of was.demands in
+    let more = asked_of now.demands in
+    matched_after c.args.at (type_comparison most_steps g left right) was.settled now.settled log more
+    (types_root c.args.at most_steps g left right true was.settled now.settled log more c.requires.left c.requires.right
+    (subst (λ m. Keeps c.args.at (type_comparison most_steps g (type_in g left) (type_in g right)) m was.settled
+    now.settled log more) c.if-branch.true c.in_ok-keep_types.ensures.kept))
 
-pub returns-in-Matched : goal.returns-in-Matched
-returns-in-Matched c =
+pub returns-else-branch : goal.returns-else-branch
+returns-else-branch c =
     let g = context_of c.args.ctx.now in
     let left = type_of c.args.left.now in
     let right = type_of c.args.right.now in
-    let log = asked_of c.args.log.now.demands in
-    let more = asked_of c.keep_types.new.log.demands in
-    let puts = keeping_puts c.args.at in
-    let is = ap (λ w. walk_of w more) (sym c.in-Matched.is) ∙ c.in_ok-keep_types.ensures.walked in
-    matched_after c.args.at (same_type left right) c.in-Matched.field-0 (type_comparison most_steps g left right) log more
-    (subst (Agrees puts (same_type left right) (type_comparison most_steps g left right) log) (sym is)
-    (types_walked_so puts most_steps g left right log c.requires.context c.requires.left c.requires.right))
+    let was = c.args.log.now in
+    let now = c.keep_types.new.log in
+    let log = asked_of was.demands in
+    let more = asked_of now.demands in
+    refused_met more c.refused.result c.args.at (after log (plain.below comparing c.args.at g left right)) c.refused.ensures
+    (apart_after c.args.at (type_comparison most_steps g left right) was.settled now.settled log more
+    (types_root c.args.at most_steps g left right false was.settled now.settled log more c.requires.left c.requires.right
+    (subst (λ m. Keeps c.args.at (type_comparison most_steps g (type_in g left) (type_in g right)) m was.settled
+    now.settled log more) c.if-branch.false c.in_ok-keep_types.ensures.kept)))

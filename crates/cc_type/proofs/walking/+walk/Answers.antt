@@ -1,22 +1,118 @@
-use Rattle.std.proofs.Common.{Some, sym, ap, ◌∙◌, arith}
+use Rattle.std.proofs.Common.{◌≡◌, ◌-◌, length, true, false, Some, refl, sym, ap, ◌∙◌, subst, arith}
+use Rattle.std.proofs.lemmas.List.{length-map}
 use Rattle.std.proofs.lemmas.Result.{IfOk-weaker}
+use Rattle.cc_core.specs.Comparison.{same_shape}
 use Rattle.cc_core.specs.Contexts.{TypeEntry, entry_of}
+use Rattle.cc_core.specs.Reading.{read_shape}
 use Rattle.cc_core.specs.Views.{shape_of, type_of, context_of}
+use Rattle.cc_sets.specs.Comparison.{comparison, type_comparison}
 use Rattle.cc_sets.specs.Inference.{shape_in, type_in}
-use Rattle.cc_subty.specs.Demands.{asked_of}
-use Rattle.cc_type.proofs.KeptWalks.{step_kept}
+use Rattle.cc_subty.specs.Demands.{demand_of, asked_of}
+use Rattle.cc_subty.specs.Walking.{is_variable}
+use Rattle.cc_type.specs.KeptWalks.{Keeps, is_remembered_as}
+use Rattle.cc_type.proofs.KeptWalks.{step_keeps, any_keeps, functions_kept, functions_parted, boxes_kept, variable_keeps}
+use Rattle.cc_type.proofs.KeptWalks.{type_functions_kept, type_functions_parted}
 use Rattle.cc_type.proofs.KnownSets.{stands_same, stands_deeper}
-use Rattle.cc_type.proofs.WalkedParts.{under_takes, gives_part, under_bound, result_part, bound_part}
+use Rattle.cc_type.proofs.RememberedPairs.{remembered_keeps, remembers_settled, remembers_lost, more_keep}
+use Rattle.cc_type.proofs.WalkedParts.{under_takes, gives_part, under_bound, result_part, bound_part, bound_read}
 use Rattle.cc_type.proofs.walking.+walk.Goals as goal
 
-pub keep_functions-keep_types-requires-in-Matched : goal.keep_functions-keep_types-requires-in-Matched
-keep_functions-keep_types-requires-in-Matched t c =
+pub keep_bound-keep_shapes-requires : goal.keep_bound-keep_shapes-requires
+keep_bound-keep_shapes-requires t c =
+    let g = context_of c.args.ctx.now in (
+      omega arith,
+      (
+        c.requires.context,
+        (
+          bound_part g c.args.variable (shape_of c.args.bound.now) c.requires.context c.requires.there,
+          (c.requires.right, c.requires.base),
+        ),
+      ),
+    )
+
+pub keep_bound-keep_shapes-requires-then-not-wf_shape : goal.keep_bound-keep_shapes-requires-then-not-wf_shape
+keep_bound-keep_shapes-requires-then-not-wf_shape t c =
+    let g = context_of c.args.ctx.now in (
+      omega arith,
+      (
+        c.requires.context,
+        (
+          bound_part g c.args.variable (shape_of c.args.bound.now) c.requires.context c.requires.there,
+          (c.requires.right, c.requires.base),
+        ),
+      ),
+    )
+
+pub keep_bound-keep_shapes-requires-then-not-wf_shape-2 : goal.keep_bound-keep_shapes-requires-then-not-wf_shape-2
+keep_bound-keep_shapes-requires-then-not-wf_shape-2 t c =
+    let g = context_of c.args.ctx.now in (
+      omega arith,
+      (
+        c.requires.context,
+        (
+          bound_part g c.args.variable (shape_of c.args.bound.now) c.requires.context c.requires.there,
+          (c.requires.right, c.requires.base),
+        ),
+      ),
+    )
+
+pub keep_bound-returns-then-matches-clause-kept : goal.keep_bound-returns-then-matches-clause-kept
+keep_bound-returns-then-matches-clause-kept t c =
+    let log = c.args.log.now in
+    remembered_keeps false c.args.at (context_of log.known.base) (context_of c.args.ctx.now) c.args.variable
+    (shape_of c.args.bound.now) (shape_of c.args.right.now) c.args.steps log.settled log.settled (asked_of log.demands)
+    c.requires.context c.requires.base c.requires.there (λ e. cc) (λ e. (e, refl)) (c.matches.ensures c.if-matches.true)
+
+pub keep_bound-returns-then-matches-2-clause-kept : goal.keep_bound-returns-then-matches-2-clause-kept
+keep_bound-returns-then-matches-2-clause-kept t c =
+    let log = c.args.log.now in
+    remembered_keeps true c.args.at (context_of log.known.base) (context_of c.args.ctx.now) c.args.variable
+    (shape_of c.args.bound.now) (shape_of c.args.right.now) c.args.steps log.settled false (asked_of log.demands)
+    c.requires.context c.requires.base c.requires.there (λ e. sym c.is_lost.ensures ∙ c.if-is_lost.true) (λ e. cc)
+    (c.matches-then-is_lost.ensures c.if-matches-2.true)
+
+pub keep_bound-returns-clause-kept : goal.keep_bound-returns-clause-kept
+keep_bound-returns-clause-kept t c =
     let g = context_of c.args.ctx.now in
-    let under = context_of c.in_ok-under-in-Matched.under in
+    let log = c.args.log.now in
+    let after = c.keep_new.new.log in
+    IfOk-weaker c.keep_new.result _ _
+    (λ m k.
+    more_keep c.args.at (c.args.steps - 262144) c.args.steps g (shape_in g (shape_of c.args.bound.now))
+    (shape_in g (shape_of c.args.right.now)) m log.settled after.settled (asked_of log.demands) (asked_of after.demands)
+    (omega arith) k)
+    c.keep_new.ensures.kept
+
+pub keep_boxes-returns-clause-kept : goal.keep_boxes-returns-clause-kept
+keep_boxes-returns-clause-kept t c =
+    let log = c.args.log.now in
+    let after = c.keep_types.new.log in
+    IfOk-weaker c.keep_types.result _ _
+    (λ m k.
+    boxes_kept c.args.at c.args.steps (context_of c.args.ctx.now) (type_of c.args.content.now) (type_of c.args.other.now) m
+    log.settled after.settled (asked_of log.demands) (asked_of after.demands) k)
+    c.keep_types.ensures.kept
+
+pub keep_functions-returns-then-not-branch-clause-kept : goal.keep_functions-returns-then-not-branch-clause-kept
+keep_functions-returns-then-not-branch-clause-kept t c =
+    let g = context_of c.args.ctx.now in
+    let log = c.args.log.now in
+    let after = c.keep_types.new.log in
+    let takes = type_of c.args.takes.now in
+    let others = type_of c.args.others.now in
+    functions_parted c.args.at c.args.steps g takes (type_of c.args.gives.now) others (type_of c.args.other_gives.now)
+    log.settled after.settled (asked_of log.demands) (asked_of after.demands)
+    (subst (λ m. Keeps c.args.at (type_comparison c.args.steps g (type_in g others) (type_in g takes)) m log.settled
+    after.settled (asked_of log.demands) (asked_of after.demands)) c.if-not-branch.true c.in_ok-keep_types.ensures.kept)
+
+pub keep_functions-keep_types-requires-2 : goal.keep_functions-keep_types-requires-2
+keep_functions-keep_types-requires-2 t c =
+    let g = context_of c.args.ctx.now in
+    let under = context_of c.in_ok-under.under in
     let others = type_of c.args.others.now in
     let other_gives = type_of c.args.other_gives.now in
     let base = context_of c.keep_types.new.log.known.base in
-    let is = c.in_ok-under-in-Matched.ensures in (
+    let is = c.in_ok-under.ensures in (
       omega arith,
       (
         under_takes g under others other_gives c.requires.context c.requires.right is,
@@ -31,6 +127,99 @@ keep_functions-keep_types-requires-in-Matched t c =
         ),
       ),
     )
+
+pub keep_functions-returns-clause-kept : goal.keep_functions-returns-clause-kept
+keep_functions-returns-clause-kept t c =
+    let g = context_of c.args.ctx.now in
+    let under = context_of c.in_ok-under.under in
+    let log = c.args.log.now in
+    let mid = c.keep_types.new.log in
+    let after = c.keep_types-2.new.log in
+    let takes = type_of c.args.takes.now in
+    let others = type_of c.args.others.now in
+    let first =
+    subst (λ m. Keeps c.args.at (type_comparison c.args.steps g (type_in g others) (type_in g takes)) m log.settled
+    mid.settled (asked_of log.demands) (asked_of mid.demands)) c.if-not-branch.false c.in_ok-keep_types.ensures.kept in
+    IfOk-weaker c.keep_types-2.result _ _
+    (λ m k.
+    functions_kept c.args.at c.args.steps g under takes (type_of c.args.gives.now) others (type_of c.args.other_gives.now) m
+    log.settled mid.settled after.settled (asked_of log.demands) (asked_of mid.demands) (asked_of after.demands)
+    c.in_ok-under.ensures first k)
+    c.keep_types-2.ensures.kept
+
+pub keep_new-keep_shapes-requires : goal.keep_new-keep_shapes-requires
+keep_new-keep_shapes-requires t c =
+    let g = context_of c.args.ctx.now in (
+      omega arith,
+      (
+        c.requires.context,
+        (
+          bound_part g c.args.variable (shape_of c.args.bound.now) c.requires.context c.requires.there,
+          (c.requires.right, c.requires.base),
+        ),
+      ),
+    )
+
+pub keep_new-remember-requires : goal.keep_new-remember-requires
+keep_new-remember-requires t c =
+    let g = context_of c.args.ctx.now in
+    let log = c.args.log.now in
+    let after = c.keep_shapes.new.log in
+    let bound = shape_of c.args.bound.now in
+    let right = shape_of c.args.right.now in
+    let kept =
+    subst (λ m. Keeps c.args.at (comparison c.args.steps g (shape_in g bound) (shape_in g right)) m true after.settled
+    (asked_of log.demands) (asked_of after.demands)) c.if-not-matched.false c.in_ok-matched.ensures.kept in
+    subst (λ b. is_remembered_as (context_of b) false c.args.steps c.args.variable right ≡ true)
+    (sym c.keep_shapes.ensures.base)
+    (remembers_settled c.args.at (context_of log.known.base) g c.args.variable bound right c.args.steps true after.settled
+    (asked_of log.demands) (asked_of after.demands) c.requires.context c.requires.base c.requires.there c.requires.named
+    c.requires.shape c.if-all.true kept)
+
+pub keep_new-remember-requires-then-len-count : goal.keep_new-remember-requires-then-len-count
+keep_new-remember-requires-then-len-count t c =
+    let g = context_of c.args.ctx.now in
+    let log = c.args.log.now in
+    let after = c.keep_shapes.new.log in
+    let bound = shape_of c.args.bound.now in
+    let right = shape_of c.args.right.now in
+    let kept =
+    subst (λ m. Keeps c.args.at (comparison c.args.steps g (shape_in g bound) (shape_in g right)) m true after.settled
+    (asked_of log.demands) (asked_of after.demands)) c.if-not-matched.false c.in_ok-matched.ensures.kept in
+    let same : length (asked_of after.demands) ≡ length (asked_of log.demands) =
+    length-map after.demands demand_of ∙ sym c.len.ensures ∙ c.if-len-count.true ∙ c.len-count.ensures
+    ∙ sym (length-map log.demands demand_of) in
+    subst (λ b. is_remembered_as (context_of b) true c.args.steps c.args.variable right ≡ true)
+    (sym c.keep_shapes.ensures.base)
+    (remembers_lost c.args.at (context_of log.known.base) g c.args.variable bound right c.args.steps true after.settled
+    (asked_of log.demands) (asked_of after.demands) c.requires.context c.requires.base c.requires.there c.requires.named
+    c.requires.shape same kept)
+
+pub keep_shapes-returns-then-is_any-clause-kept : goal.keep_shapes-returns-then-is_any-clause-kept
+keep_shapes-returns-then-is_any-clause-kept t c =
+    any_keeps c.args.at c.args.steps (context_of c.args.ctx.now) (shape_of c.args.left.now) (shape_of c.args.right.now)
+    c.args.log.now.settled (asked_of c.args.log.now.demands) c.if-steps-eq0.false (sym c.is_any.ensures ∙ c.if-is_any.true)
+
+pub keep_shapes-returns-clause-kept : goal.keep_shapes-returns-clause-kept
+keep_shapes-returns-clause-kept t c =
+    let log = c.args.log.now in
+    let after = c.keep_form.new.log in
+    IfOk-weaker c.keep_form.result _ _
+    (λ m k.
+    step_keeps c.args.at c.args.steps (context_of c.args.ctx.now) (shape_of c.args.left.now) (shape_of c.args.right.now) m
+    log.settled after.settled (asked_of log.demands) (asked_of after.demands) c.if-steps-eq0.false
+    (sym c.is_any.ensures ∙ c.if-is_any.false) k)
+    c.keep_form.ensures.kept
+
+pub keep_type_functions-returns-then-not-branch-clause-kept :
+    goal.keep_type_functions-returns-then-not-branch-clause-kept
+keep_type_functions-returns-then-not-branch-clause-kept t c =
+    type_functions_parted c.args.at c.args.steps (context_of c.args.ctx.now) (shape_of c.args.bound.now.value)
+    (shape_of c.args.other.now.value) (type_of c.args.gives.now) (type_of c.args.other_gives.now) c.args.log.now.settled
+    (asked_of c.args.log.now.demands)
+    (sym (λ i. same_shape (read_shape (c.entries.ensures i) (shape_of (c.deref.ensures i)))
+    (read_shape (c.entries.ensures i) (shape_of (c.deref-2.ensures i))))
+    ∙ sym c.in_ok-same_read.ensures ∙ c.if-not-branch.true)
 
 pub keep_type_functions-keep_types-requires : goal.keep_type_functions-keep_types-requires
 keep_type_functions-keep_types-requires t c =
@@ -54,25 +243,37 @@ keep_type_functions-keep_types-requires t c =
       ),
     )
 
-pub keep_variable-keep_shapes-requires : goal.keep_variable-keep_shapes-requires
-keep_variable-keep_shapes-requires t c =
+pub keep_type_functions-returns-clause-kept : goal.keep_type_functions-returns-clause-kept
+keep_type_functions-returns-clause-kept t c =
     let g = context_of c.args.ctx.now in
-    let there = sym c.in-Some.ensures ∙ ap (λ s. Some (shape_of s)) (sym c.deref.ensures) in (
-      omega arith,
-      (
-        c.requires.context,
-        (
-          bound_part g c.args.variable (shape_of c.deref.result.now) c.requires.context there,
-          (c.requires.right, c.requires.base),
-        ),
-      ),
-    )
+    let under = context_of c.in_ok-under.under in
+    let log = c.args.log.now in
+    let after = c.keep_types.new.log in
+    let same : same_shape (read_shape (length g) (shape_of c.args.bound.now.value)) (read_shape (length g) (shape_of c.args.other.now.value)) ≡ true =
+    sym (λ i. same_shape (read_shape (c.entries.ensures i) (shape_of (c.deref.ensures i)))
+    (read_shape (c.entries.ensures i) (shape_of (c.deref-2.ensures i))))
+    ∙ sym c.in_ok-same_read.ensures ∙ c.if-not-branch.false in
+    IfOk-weaker c.keep_types.result _ _
+    (λ m k.
+    type_functions_kept c.args.at c.args.steps g under (shape_of c.args.bound.now.value) (shape_of c.args.other.now.value)
+    (type_of c.args.gives.now) (type_of c.args.other_gives.now) m log.settled after.settled (asked_of log.demands)
+    (asked_of after.demands) c.in_ok-under.ensures same k)
+    c.keep_types.ensures.kept
 
-pub keep_shapes-returns-clause-walked : goal.keep_shapes-returns-clause-walked
-keep_shapes-returns-clause-walked t c =
-    IfOk-weaker c.keep_form.result _ _
-    (λ w h.
-    h ∙ step_kept c.args.at c.args.steps (context_of c.args.ctx.now) (shape_of c.args.left.now)
-    (shape_of c.args.right.now) (asked_of c.args.log.now.demands) c.if-steps-eq0.false
-    (sym c.is_any.ensures ∙ c.if-is_any.false))
-    c.keep_form.ensures.walked
+pub keep_variable-returns-in-Some-clause-kept : goal.keep_variable-returns-in-Some-clause-kept
+keep_variable-returns-in-Some-clause-kept t c =
+    let g = context_of c.args.ctx.now in
+    let log = c.args.log.now in
+    let after = c.keep_bound.new.log in
+    let bound = shape_of c.deref.result.now in
+    let right = shape_of c.args.right.now in
+    let there = sym c.in-Some.ensures ∙ ap (λ s. Some (shape_of s)) (sym c.deref.ensures) in
+    IfOk-weaker c.keep_bound.result _ _
+    (λ m k.
+    variable_keeps c.args.at c.args.steps g c.args.variable right (Some bound) m log.settled after.settled
+    (asked_of log.demands) (asked_of after.demands)
+    (subst (λ n. is_variable n c.args.variable right ≡ false) c.entries.ensures
+    (sym c.is_variable.ensures ∙ c.if-is_variable.false)) there
+    (subst (λ b. Keeps c.args.at (comparison c.args.steps g b (shape_in g right)) m log.settled after.settled
+    (asked_of log.demands) (asked_of after.demands)) (bound_read g c.args.variable bound c.requires.context there) k))
+    c.keep_bound.ensures.kept

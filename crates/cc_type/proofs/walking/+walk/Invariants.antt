@@ -7,8 +7,17 @@ decreases-keep_shapes l = 8 * l.steps
 abbrev pub decreases-keep_types : goal.decreases-keep_types
 decreases-keep_types l = 8 * l.steps + 1
 
+abbrev pub decreases-keep_new : goal.decreases-keep_new
+decreases-keep_new l = 8 * l.steps + 1
+
+abbrev pub decreases-keep_bound : goal.decreases-keep_bound
+decreases-keep_bound l = 8 * l.steps + 2
+
 abbrev pub decreases-keep_variable : goal.decreases-keep_variable
-decreases-keep_variable l = 8 * l.steps + 1
+decreases-keep_variable l = 8 * l.steps + 3
+
+abbrev pub decreases-keep_boxes : goal.decreases-keep_boxes
+decreases-keep_boxes l = 8 * l.steps + 2
 
 abbrev pub decreases-keep_type_functions : goal.decreases-keep_type_functions
 decreases-keep_type_functions l = 8 * l.steps + 2

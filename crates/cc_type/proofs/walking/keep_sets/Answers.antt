@@ -3,14 +3,8 @@ use Rattle.cc_capture.proofs.Equality.{same_set-decides}
 use Rattle.cc_core.specs.Views.{context_of}
 use Rattle.cc_subty.specs.Demands.{asked_of}
 use Rattle.cc_type.proofs.KeptWalks.{one_read, one_goes}
-use Rattle.cc_type.proofs.KnownSets.{known_other, known_goes}
+use Rattle.cc_type.proofs.KnownSets.{known_settled, known_goes}
 use Rattle.cc_type.proofs.walking.keep_sets.Goals as goal
-
-pub returns-then-eq-clause-same : goal.returns-then-eq-clause-same
-returns-then-eq-clause-same c =
-    sym
-    (one_read (length (context_of c.args.ctx.now)) c.args.left.now c.args.right.now
-    ((same_set-decides c.args.left.now c.args.right.now).0 (sym c.eq.ensures ∙ c.if-eq.true)))
 
 pub returns-then-eq-clause-kept : goal.returns-then-eq-clause-kept
 returns-then-eq-clause-kept c =
@@ -18,14 +12,20 @@ returns-then-eq-clause-kept c =
     one_goes c.args.at g (length g) c.args.left.now c.args.right.now (asked_of c.args.log.now.demands)
     ((same_set-decides c.args.left.now c.args.right.now).0 (sym c.eq.ensures ∙ c.if-eq.true))
 
-pub returns-then-has-clause-same : goal.returns-then-has-clause-same
-returns-then-has-clause-same c =
-    let base = context_of c.args.log.now.known.base in
-    known_other (length (context_of c.args.ctx.now)) base c.args.left.now c.args.right.now
-    (c.has.ensures c.if-has.true) (sym c.eq.ensures ∙ c.if-eq.false)
+pub returns-then-eq-clause-settled : goal.returns-then-eq-clause-settled
+returns-then-eq-clause-settled c =
+    let g = context_of c.args.ctx.now in
+    λ said. one_read g (length g) c.args.left.now c.args.right.now
+    ((same_set-decides c.args.left.now c.args.right.now).0 (sym c.eq.ensures ∙ c.if-eq.true))
 
 pub returns-then-has-clause-kept : goal.returns-then-has-clause-kept
 returns-then-has-clause-kept c =
     let g = context_of c.args.ctx.now in
     known_goes c.args.at (length g) (context_of c.args.log.now.known.base) g c.args.left.now c.args.right.now
     (asked_of c.args.log.now.demands) c.requires.base (c.has.ensures c.if-has.true)
+
+pub returns-then-has-clause-settled : goal.returns-then-has-clause-settled
+returns-then-has-clause-settled c =
+    let g = context_of c.args.ctx.now in
+    λ said. known_settled (length g) (context_of c.args.log.now.known.base) g c.args.left.now c.args.right.now
+    c.requires.base (c.has.ensures c.if-has.true)
