@@ -20,12 +20,13 @@ abbrev pub EndsBy : {X Z : Type 0} → (List X → Status → Type 0) → Type 0
 EndsBy Calls Untouched (Ok args) status = Calls (drop 1 (into_iter_items args)) status ⊎ ((status ≡ NoMemory) × Untouched)
 EndsBy Calls Untouched (Err error) status = (status ≡ status_without_words (error_kind error)) × Untouched
 
--- Behind bad words the usage text is said, unless memory lacks for it.
+-- Behind bad words one text more may be said, the usage text. No clause tells what it says, and none is said where memory
+-- lacks for it.
 abbrev pub IsUsageTold : {W : Type 0} → (W → List ℕ → Result (Unit {0}) Error → W → Type 0) → Status → W → W → Type 0
 IsUsageTold gives BadWords old new = (usage : Option (List ℕ)) × IsTold gives usage old new
 IsUsageTold gives status old new = new ≡ old
 
--- What is said: the message of the status, in one call, where it has one; and behind bad words the usage text.
+-- What is said: the message of the status, in one call, where it has one; and behind bad words at most one text more.
 abbrev pub IsSaid : {W : Type 0} → (W → List ℕ → Result (Unit {0}) Error → W → Type 0) → Status → W → W → Type 0
 IsSaid {W = W} gives status old new =
     (between : W) × IsTold gives (message_of status) old between × IsUsageTold gives status between new
