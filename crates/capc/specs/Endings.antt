@@ -20,8 +20,8 @@ abbrev pub EndsBy : {X Z : Type 0} → (List X → Status → Type 0) → Type 0
 EndsBy Calls Untouched (Ok args) status = Calls (drop 1 (into_iter_items args)) status ⊎ ((status ≡ NoMemory) × Untouched)
 EndsBy Calls Untouched (Err error) status = (status ≡ status_without_words (error_kind error)) × Untouched
 
--- Behind bad words one text more may be said, the usage text. No clause tells what it says, and none is said where memory
--- lacks for it.
+-- Behind bad words one text more may be said, the usage text. No clause tells what it says, and none is said where
+-- memory lacks for it.
 abbrev pub IsUsageTold : {W : Type 0} → (W → List ℕ → Result (Unit {0}) Error → W → Type 0) → Status → W → W → Type 0
 IsUsageTold gives BadWords old new = (usage : Option (List ℕ)) × IsTold gives usage old new
 IsUsageTold gives status old new = new ≡ old

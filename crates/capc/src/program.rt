@@ -126,8 +126,8 @@ pub fn program<S: Source, K: Sink, E: Messages, L: Ledger>(
         ((source.new ≡ source.old) × (sink.new ≡ sink.old))
         answer result.status }
 
-    // The message of the status was given to the writer of messages, and nothing where there is none; behind bad words at
-    // most one text more was, the usage text.
+    // The message of the status was given to the writer of messages, and nothing where there is none; behind bad words
+    // at most one text more was, the usage text.
     ensures told { IsSaid E.gives result.status errors.old errors.new }
 {
     let mut steps = Steps::<L>::new(blank);
