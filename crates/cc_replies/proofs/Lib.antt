@@ -1,6 +1,8 @@
 pub mod Mapped
 pub mod OutputLaws
 pub mod PresentAfter
+pub mod FoundLaws
+pub mod PolicyLaws
 pub mod ReplyLaws
 pub mod StaleLaws
 pub mod WorkedTexts

@@ -1,7 +1,9 @@
 pub mod DerivationTexts
 pub mod Examples
 pub mod Laws
+pub mod Answers
 pub mod Outputs
+pub mod PolicyReplies
 pub mod Replies
 pub mod Requests
 pub mod RunReplies

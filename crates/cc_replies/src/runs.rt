@@ -251,8 +251,8 @@ fn put_end_line(
     put(out, "\n")
 }
 
-// Adds the lines of a run.
-fn put_run(
+/// Adds the lines of a run.
+pub(crate) fn put_run(
     alloc: Global,
     out: &mut String,
     names: &Names,

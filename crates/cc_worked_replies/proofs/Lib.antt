@@ -2,3 +2,4 @@ pub mod ComputedReplies
 pub mod WorkedRuns
 pub mod WorkedShownTexts
 pub mod WorkedTasks
+pub mod WorkedPolicies

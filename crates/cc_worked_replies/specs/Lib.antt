@@ -1,3 +1,4 @@
+pub mod PolicyExamples
 pub mod RunExamples
 pub mod ShownTexts
 pub mod TaskExamples
