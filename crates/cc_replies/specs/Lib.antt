@@ -5,7 +5,7 @@ pub mod Outputs
 pub mod Replies
 pub mod Requests
 pub mod RunReplies
-pub mod RunTexts
+pub mod TaskTexts
 pub mod ReplyTexts
 pub mod StaleModules
 pub mod RefusalExamples

@@ -10,7 +10,8 @@ use Rattle.cc_print.specs.TypeTexts.{type_text}
 use Rattle.cc_meta_runs.specs.Interleavings.{Report}
 use Rattle.cc_meta_runs.specs.Runs.{Ending, Ends, IsStopped}
 use Rattle.cc_meta_modules.specs.ModuleVerdicts.{CheckedDefinition, ModuleVerdict, IsAccepted, IsRefused}
-use Rattle.cc_replies.specs.RunTexts.{run_lines, task_lines}
+use Rattle.cc_replies.specs.TaskTexts.{task_lines}
+use Rattle.cc_run_texts.specs.RunTexts.{run_lines}
 
 -- What is answered to a command: the module was put, or was removed, or that was refused; the verdicts of modules; the
 -- definitions of an accepted module; the lines of the certificate of a definition; the devices that a run may operate,
