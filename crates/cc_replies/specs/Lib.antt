@@ -7,7 +7,7 @@ pub mod PolicyReplies
 pub mod Replies
 pub mod Requests
 pub mod RunReplies
-pub mod RunTexts
+pub mod TaskTexts
 pub mod ReplyTexts
 pub mod StaleModules
 pub mod RefusalExamples

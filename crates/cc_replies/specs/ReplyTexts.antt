@@ -13,7 +13,8 @@ use Rattle.cc_meta_runs.specs.Runs.{Ending, Ends, IsStopped}
 use Rattle.cc_meta_modules.specs.ModuleVerdicts.{CheckedDefinition, ModuleVerdict, IsAccepted, IsRefused}
 use Rattle.cc_policy.specs.declared.policy.Decision.{Decision}
 use Rattle.cc_replies.specs.Answers.{Found, found_text, is_valid}
-use Rattle.cc_replies.specs.RunTexts.{device_text, run_lines, task_lines}
+use Rattle.cc_replies.specs.TaskTexts.{task_lines}
+use Rattle.cc_run_texts.specs.RunTexts.{device_text, run_lines}
 
 -- What is answered to a command: the module was put, or was removed, or that was refused; so many rules are in force;
 -- what was found of a certificate; the verdicts of modules; the definitions of an accepted module; the lines of the

@@ -1,5 +1,5 @@
 -- How runs are written: what they may operate, their events and their ends.
-use Rattle.std.specs.Prelude.{ℕ, suc, List, [], ◌∷◌, ◌++◌, map, codes, encode_utf8_all}
+use Rattle.std.specs.Prelude.{ℕ, List, [], ◌∷◌, ◌++◌, map, codes, encode_utf8_all}
 use Rattle.std.specs.Fmt.{decimal}
 use Rattle.std.specs.List.{flat_map}
 use Rattle.cc_base.specs.Literals.{Literal, UnitLiteral, TruthLiteral, NumberLiteral, TextLiteral}
@@ -9,7 +9,6 @@ use Rattle.cc_print.specs.TermTexts.{literal_text}
 use Rattle.cc_device.specs.Endings.{Shown, ShownLiteral, ShownFunction, ShownTypeFunction, ShownBox, ShownDevice}
 use Rattle.cc_device.specs.Endings.{ShownLabel, Done, OutOfFuel}
 use Rattle.cc_device.specs.Events.{Event, Operated, Entered, Ended, Exited}
-use Rattle.cc_meta_runs.specs.Interleavings.{Report}
 use Rattle.cc_meta_runs.specs.Runs.{Ending, Ends, IsStopped}
 use Rattle.cc_print.specs.TypeTexts.{position_text}
 
@@ -37,6 +36,10 @@ operation_text operations.Read = codes " read "
 operation_text operations.Write = codes " write "
 operation_text operations.Tick = codes " tick "
 
+-- a device and its operation
+abbrev pub operated_text : List (List ℕ) → ℕ → Op → List ℕ
+operated_text names device operation = device_text names device ++ operation_text operation
+
 -- what a device took or answered: a text stands without its quotes
 abbrev pub operand_text : Literal → List ℕ
 operand_text UnitLiteral = literal_text UnitLiteral
@@ -47,7 +50,7 @@ operand_text (TextLiteral text) = encode_utf8_all text
 -- an event: an operation of a device, or that a boundary was entered, ended, or was left by an exit, by its label
 abbrev pub event_text : List (List ℕ) → Event → List ℕ
 event_text names (Operated device operation literal) =
-    device_text names device ++ operation_text operation ++ operand_text literal
+    operated_text names device operation ++ operand_text literal
 event_text names (Entered label) = codes "enter " ++ decimal label
 event_text names (Ended label) = codes "leave " ++ decimal label
 event_text names (Exited label) = codes "exit " ++ decimal label
@@ -75,26 +78,3 @@ end_text names ending steps = ending_text names ending ++ codes " after " ++ dec
 abbrev pub run_lines : List (List ℕ) → List ℕ → List Event → Ending → ℕ → List (List ℕ)
 run_lines names authority events ending steps =
     authority_text names authority ∷ (map (event_text names) events ++ end_text names ending steps ∷ [])
-
--- the number of a task, and what is told of it
-abbrev pub of_task : ℕ → List ℕ → List ℕ
-of_task task text = decimal task ++ codes " " ++ text
-
--- what is told of each task, from the task of a number on
-abbrev pub by_task : ℕ → List (List ℕ) → List (List ℕ)
-by_task first [] = []
-by_task first (text ∷ others) = of_task first text ∷ by_task (suc first) others
-
--- an event of a task
-abbrev pub task_event_text : List (List ℕ) → ℕ × Event → List ℕ
-task_event_text names one = of_task one.0 (event_text names one.1)
-
--- the end of a task, with the number of its steps
-abbrev pub task_end_text : List (List ℕ) → Ending × ℕ → List ℕ
-task_end_text names one = end_text names one.0 one.1
-
--- The lines of tasks that ran interleaved: the authority of each, the events of all in order, and the end of each.
-abbrev pub task_lines : List (List ℕ) → List (List ℕ) → Report → List (List ℕ)
-task_lines names authorities report =
-    by_task 0 (map (authority_text names) authorities) ++ map (task_event_text names) report.trace
-    ++ by_task 0 (map (task_end_text names) report.ends)

@@ -1,7 +1,7 @@
 use Rattle.std.proofs.Common.{◌≡◌, ◌++◌, take}
 use Rattle.std.specs.String.{string_bytes}
-use Rattle.cc_replies.specs.RunTexts.{other_devices}
-use Rattle.cc_replies.proofs.runs.put_other_devices.Given as goal
+use Rattle.cc_run_texts.specs.RunTexts.{other_devices}
+use Rattle.cc_run_texts.proofs.texts.put_other_devices.Given as goal
 
 abbrev pub invariant-loop-device : goal.invariant-loop-device
 invariant-loop-device l =

@@ -1,8 +1,8 @@
 use Rattle.std.proofs.Common.{codes}
 use Rattle.std.proofs.lemmas.Result.{on_ok_weaker}
-use Rattle.cc_replies.specs.RunTexts.{devices_text}
-use Rattle.cc_replies.proofs.RunLines.{three_pieces}
-use Rattle.cc_replies.proofs.runs.put_authority.Goals as goal
+use Rattle.cc_run_texts.specs.RunTexts.{devices_text}
+use Rattle.cc_run_texts.proofs.TextPieces.{three_pieces}
+use Rattle.cc_run_texts.proofs.texts.put_authority.Goals as goal
 
 pub returns : goal.returns
 returns c =
