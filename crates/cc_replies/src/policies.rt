@@ -2,17 +2,12 @@
 
 ghost use Rattle.std.specs.Prelude.{◌≡◌, ◌++◌, [], length, IfOk, OnOk};
 ghost use Rattle.std.specs.String.{string_bytes};
-ghost use Rattle.cc_device.specs.Views.{end_of};
-ghost use Rattle.cc_machine.specs.Reports.{events_of};
-ghost use Rattle.cc_meta_runs.specs.Runs.{Ends};
 ghost use Rattle.cc_replies.specs.PolicyReplies as plain;
-ghost use Rattle.cc_replies.specs.ReplyTexts.{PolicySet, Audited, AuditRefused, Guarded, GuardRefused, decision_text, decision_line, reply_text};
+ghost use Rattle.cc_replies.specs.ReplyTexts.{PolicySet, Audited, AuditRefused, GuardRefused, decision_text, decision_line, reply_text};
 
-use crate::runs::put_run;
 use cc_base::code::Code;
 use cc_base::name::Name;
 use cc_certificate::writing::{put, put_position};
-use cc_machine::RunReport;
 use cc_policy::policy::{Decision, Policy, decide};
 use cc_print::Names;
 use std::alloc::{AllocError, Global};
@@ -113,26 +108,8 @@ pub fn audit_refusal(
     format!(in alloc; "audit {module}.{def} refused {code}\n")
 }
 
-/// The reply to a command that runs the definition of a module, since that is permitted: the lines of its run, which may
-/// operate the devices of this authority. Devices have their names.
-///
-/// Fails only for want of memory.
-pub fn guard_reply(
-    alloc: Global,
-    module: &Name,
-    def: &Name,
-    authority: &[u32],
-    report: &RunReport,
-    names: &Names,
-) -> Result<String, AllocError>
-    ensures { IfOk result (λ text. string_bytes text ≡ reply_text names.now.names.items (Guarded «module».now def.now authority.now (events_of report.now) (Ends (end_of report.now.end)) report.now.steps)) }
-{
-    let mut out = format!(in alloc; "guard {module}.{def}\n")?;
-    put_run(alloc, &mut out, names, authority, report)?;
-    Ok(out)
-}
-
-/// The reply to such a command that is refused with the code. Fails only for want of memory.
+/// The reply to a command that would run the definition of a module if that were permitted, where it is refused with the
+/// code. Fails only for want of memory.
 pub fn guard_refusal(
     alloc: Global,
     module: &Name,

@@ -6,7 +6,7 @@ ghost use Rattle.std.specs.String.{string_bytes};
 ghost use Rattle.cc_device.specs.Views.{event_of, end_of};
 ghost use Rattle.cc_machine.specs.Reports.{events_of};
 ghost use Rattle.cc_meta_runs.specs.Runs.{Ends};
-ghost use Rattle.cc_replies.specs.ReplyTexts.{Ran, RunRefused, inner_line, reply_text, is_unfinished};
+ghost use Rattle.cc_replies.specs.ReplyTexts.{RunRefused, inner_line, reply_text, run_text, is_unfinished};
 ghost use Rattle.cc_run_texts.specs.RunTexts as plain;
 
 use cc_base::code::Code;
@@ -76,8 +76,8 @@ fn put_end_line(
     put(out, "\n")
 }
 
-/// Adds the lines of a run.
-pub(crate) fn put_run(
+// Adds the lines of a run.
+fn put_run(
     alloc: Global,
     out: &mut String,
     names: &Names,
@@ -91,26 +91,27 @@ pub(crate) fn put_run(
     put_end_line(alloc, out, names, report.end, report.steps)
 }
 
-/// The reply to a command that runs the definition of a module, whose run may operate these devices: a line for these,
-/// one for each event, and one for its end. Devices have their names.
+/// The reply to a command of this word that runs the definition of a module, whose run may operate these devices: a line
+/// for these, one for each event, and one for its end. Devices have their names.
 ///
 /// Fails only for want of memory.
 pub fn run_reply(
     alloc: Global,
+    word: &str,
     module: &Name,
     def: &Name,
     authority: &[u32],
     report: &RunReport,
     names: &Names,
 ) -> Result<String, AllocError>
-    ensures { IfOk result (λ text. string_bytes text ≡ reply_text names.now.names.items (Ran «module».now def.now authority.now (events_of report.now) (Ends (end_of report.now.end)) report.now.steps)) }
+    ensures { IfOk result (λ text. string_bytes text ≡ run_text word.now names.now.names.items «module».now def.now authority.now (events_of report.now) (Ends (end_of report.now.end)) report.now.steps) }
 {
-    let mut out = format!(in alloc; "run {module}.{def}\n")?;
+    let mut out = format!(in alloc; "{word} {module}.{def}\n")?;
     put_run(alloc, &mut out, names, authority, report)?;
     Ok(out)
 }
 
-/// The reply to such a command that is refused with the code. Fails only for want of memory.
+/// The reply to a command `run` that is refused with the code. Fails only for want of memory.
 pub fn run_refusal(
     alloc: Global,
     module: &Name,
