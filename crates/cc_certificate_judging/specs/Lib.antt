@@ -1,6 +1,4 @@
-pub mod JudgedResults
-pub mod Judging
-pub mod JudgingExamples
-pub mod JudgingLaws
-pub mod PassViews
-pub mod Passes
+pub mod AnswerExamples
+pub mod AnswerLaws
+pub mod Answers
+pub mod CertificateParts

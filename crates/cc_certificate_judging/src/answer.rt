@@ -1,15 +1,16 @@
-//! What is answered for bytes.
+//! What is found of bytes as a certificate.
 
-ghost use Rattle.std.specs.Prelude.{◌≡◌, ◌↔◌, map, Some, IfOk, IsTrue};
+ghost use Rattle.std.specs.Prelude.{◌≡◌, ℕ, List, map, Some, IfOk};
 ghost use Rattle.std.specs.String.{string_bytes};
 ghost use Rattle.cc_core.specs.Views.{type_of};
 ghost use Rattle.cc_print.specs.TypeTexts as plain;
-ghost use Rattle.cc_certificate_text.specs.Certificates.{Start, AllFit, IsWhole, behind_lines};
+ghost use Rattle.cc_certificate_text.specs.Certificates.{Start, AllFit, IsWhole, behind_lines, IsCertificate};
 ghost use Rattle.cc_certificate_reading.specs.Views.{lines_of};
-ghost use Rattle.certify.specs.Answers.{IsAnsweredFor, IsAnswered, IsPositive};
+ghost use Rattle.cc_certificate_judging.specs.Answers.{IsAnswered, is_positive};
 
+use crate::error::JudgeError;
+use crate::judging::judge;
 use cc_base::name::Name;
-use cc_certificate_judging::{JudgeError, judge};
 use cc_certificate_reading::{Cert, ReadCertError, read_cert};
 use cc_core::Ty;
 use cc_print::{Names, type_text};
@@ -30,7 +31,7 @@ pub enum Answer {
 impl Answer {
     /// Whether the certificate is valid.
     pub fn is_valid(&self) -> bool
-        ensures { IsTrue result ↔ IsPositive self.now }
+        ensures { result ≡ is_positive self.now }
     {
         match self {
             Answer::Valid(_) => true,
@@ -41,7 +42,7 @@ impl Answer {
 }
 
 impl fmt::Display for Answer {
-    ghost use Rattle.certify.specs.Answers.{answer_text};
+    ghost use Rattle.cc_certificate_judging.specs.Answers.{answer_text};
 
     ghost output = { λ answer. Some (answer_text answer) };
 
@@ -80,7 +81,7 @@ fn text_of(alloc: Global, binds: &[(Name, Ty)], ty: &Ty) -> Result<String, Alloc
 fn judged(alloc: Global, cert: &Cert) -> Result<Answer, AllocError>
     requires fit { AllFit Start (lines_of cert.now) }
     requires whole { IsWhole (behind_lines Start (lines_of cert.now)) }
-    ensures { IfOk result (IsAnsweredFor cert.now) }
+    ensures { IfOk result (λ answer. (bytes : List ℕ) → IsCertificate bytes (lines_of cert.now) → IsAnswered bytes answer) }
 {
     match judge(alloc, cert) {
         Ok(ty) => Ok(Answer::Valid(text_of(alloc, cert.binds.as_slice(), &ty)?)),
@@ -89,7 +90,8 @@ fn judged(alloc: Global, cert: &Cert) -> Result<Answer, AllocError>
     }
 }
 
-/// What is found of the bytes. Fails only for want of memory.
+/// What is found of the bytes: a valid certificate, the first bad line, or the least bad node. Fails only for want of
+/// memory, as which more than 2^32 - 1 lines count.
 pub fn answer_to(alloc: Global, bytes: &[u8]) -> Result<Answer, AllocError>
     ensures { IfOk result (IsAnswered bytes.now) }
 {
