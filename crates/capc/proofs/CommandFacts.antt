@@ -19,9 +19,12 @@ use Rattle.cc_replies.proofs.ReplyLaws.{replies_exist}
 use Rattle.cc_replies.specs.Replies.{Replies, put_reply, texts_after}
 use Rattle.cc_policy.specs.declared.policy.Rule.{Rule}
 use Rattle.cc_replies.specs.Requests.{Question, Request, PutText, DropModule, SetPolicy, VerifyText, Ask, JobState, holding, holding_under}
-use Rattle.cc_replies.specs.ReplyTexts.{Reply, PolicySet, reply_text, is_refusal}
+use Rattle.cc_replies.specs.ReplyTexts.{Reply, PolicySet, Verified, reply_text, is_refusal}
+use Rattle.cc_certificate_judging.proofs.BytesFound.{something_is_found}
+use Rattle.std.proofs.lemmas.Result.{IfOk-weaker}
 use Rattle.cc_replies.specs.StaleModules.{Checks}
 use Rattle.cc_session.specs.Sessions.{SessionState, IsUpToDate}
+use Rattle.cc_replies.specs.CertificateTexts.{TellsFound}
 use Rattle.capc.specs.Carried.{IsReplied, Changes, Judges}
 use Rattle.capc.proofs.OutputFronts.{WritesWhole-none}
 use Rattle.capc.proofs.SessionReplies.{put_after}
@@ -64,6 +67,20 @@ pub policy_replied : (devices : List DeviceDecl) (state : JobState) (rules : Lis
     → IsReplied devices state (SetPolicy rules) old new result
 policy_replied devices state rules old new result written refused =
     replied devices state (SetPolicy rules) (PolicySet (length rules)) refl old new result written refused
+
+-- what is found of a text as a certificate was written, or memory lacked for it
+pub certificate_replied : (devices : List DeviceDecl) (state : JobState) (bytes text : List ℕ) (refused : Bool) → TellsFound bytes text refused
+    → (old new : Option (List ℕ)) (result : Result Bool WriteAll) → ((t : List ℕ) → text ≡ t → WritesWhole old new result t)
+    → IfOk result (λ answer. answer ≡ refused) → IsReplied devices state (VerifyText bytes) old new result
+certificate_replied devices state bytes text refused it old new result written told =
+    replied devices state (VerifyText bytes) (Verified it.found) (it.found, it.is_found, refl) old new result
+    (written (reply_text [] (Verified it.found)) it.says) (IfOk-weaker result _ _ (λ answer e. e ∙ it.tells) told)
+
+pub certificate_not_replied : (devices : List DeviceDecl) (state : JobState) (bytes : List ℕ) (sink : Option (List ℕ))
+    → IsReplied devices state (VerifyText bytes) sink sink (Err errors.NoMemory)
+certificate_not_replied devices state bytes sink =
+    let (found, is) = something_is_found bytes in
+    record { reply = Verified found; replies = (found, is, refl); written = WritesWhole-none Bool sink (reply_text [] (Verified found)); refused = tt }
 
 -- memory lacked before anything was written
 pub replied_nothing : (devices : List DeviceDecl) (state : JobState) (request : Request) → NamesOfDevicesDiffer devices → ArePresent state.texts

@@ -1,13 +1,13 @@
 //! Carrying out the commands of a job: each reply is written before the next command.
 
-ghost use Rattle.std.specs.Prelude.{◌≡◌, ◌-◌, ◌^◌, ◌<◌, ◌||◌, false, [], length, map, IfSome, IfOk};
-ghost use Rattle.cc_io.specs.Wholes.{WritesWhole, WriteAllCause};
+ghost use Rattle.std.specs.Prelude.{◌≡◌, ◌-◌, ◌^◌, ◌<◌, ◌||◌, List, [], map, IfSome, IfOk};
+ghost use Rattle.cc_base.specs.declared.device.DeviceDecl.{DeviceDecl};
+ghost use Rattle.cc_io.specs.Wholes.{WriteAllCause};
 ghost use Rattle.cc_meta_modules.specs.ModuleLaws.{NamesOfDevicesDiffer};
 ghost use Rattle.cc_meta_modules.specs.PresentTexts.{ArePresent};
 ghost use Rattle.cc_mnf.specs.CoreModules.{device_names};
 ghost use Rattle.cc_replies.specs.Replies.{rules_after};
-ghost use Rattle.cc_replies.specs.Requests.{PutText, DropModule, Ask, holding, holding_under, no_module};
-ghost use Rattle.cc_replies.specs.ReplyTexts.{PolicySet, reply_text};
+ghost use Rattle.cc_replies.specs.Requests.{JobState, PutText, DropModule, SetPolicy, VerifyText, Ask, holding, holding_under, no_module};
 ghost use Rattle.capc.specs.Carried.{IsReplied, Changes, Judges, AreAnswered};
 ghost use Rattle.capc.specs.Requests.{request_of, requests_of, question_in};
 
@@ -21,6 +21,7 @@ use cc_io::{Sink, WriteAll};
 use cc_job::job::{Command, Job};
 use cc_policy::policy::Policy;
 use cc_print::Names;
+use cc_replies::certificates::verify_reply;
 use cc_replies::modules::{drop_refusal, drop_reply, put_refusal, put_reply};
 use cc_replies::policies::policy_reply;
 use cc_replies::signatures::names_of;
@@ -101,11 +102,24 @@ fn drop_module<K: Sink>(
 // Writes how many rules the policy has.
 fn tell_policy<K: Sink>(alloc: Global, policy: &Policy, sink: &mut K) -> Result<bool, WriteAll>
     requires { K.faults sink.old < 2 ^ 64 - 1 }
-    ensures written { WritesWhole (K.written sink.old) (K.written sink.new) result (reply_text [] (PolicySet (length policy.now))) }
-    ensures refused { IfOk result (λ refused. refused ≡ false) }
+    ensures replied { (devices : List DeviceDecl) (state : JobState)
+        → IsReplied devices state (SetPolicy policy.now) (K.written sink.old) (K.written sink.new) result }
     ensures cause { WriteAllCause (K.faults sink.old) (K.faults sink.new) result }
 {
     write_reply(sink, policy_reply(alloc, policy), false)
+}
+
+// Writes what is found of the text as a certificate.
+fn tell_certificate<K: Sink>(alloc: Global, text: &Text, sink: &mut K) -> Result<bool, WriteAll>
+    requires { K.faults sink.old < 2 ^ 64 - 1 }
+    ensures replied { (devices : List DeviceDecl) (state : JobState)
+        → IsReplied devices state (VerifyText text.now) (K.written sink.old) (K.written sink.new) result }
+    ensures cause { WriteAllCause (K.faults sink.old) (K.faults sink.new) result }
+{
+    match verify_reply(alloc, text.as_bytes()) {
+        Ok((reply, refused)) => write_reply(sink, Ok(reply), refused),
+        Err(AllocError) => Err(WriteAll::NoMemory),
+    }
 }
 
 // Checks the modules and answers the question of the command, if it is one.

@@ -12,5 +12,5 @@ mod PassesOnce
 mod ReadElements
 pub mod SameParts
 mod TreePasses
-mod WorkedAnswers
+pub mod WorkedAnswers
 mod WorkedCertificates

@@ -1,7 +1,6 @@
 pub mod Mapped
 pub mod OutputLaws
 pub mod PresentAfter
-pub mod FoundLaws
 pub mod PolicyLaws
 pub mod ReplyLaws
 pub mod StaleLaws

@@ -17,7 +17,7 @@ use Rattle.cc_meta_modules.specs.StandingDefinitions.{standing_in}
 use Rattle.cc_meta_modules.proofs.PresentLaws.{present_verdicts_exist, present_verdicts_are_unique}
 use Rattle.cc_meta_modules.proofs.FoundStanding.{found_by_texts}
 use Rattle.cc_policy.specs.declared.policy.Rule.{Rule}
-use Rattle.cc_replies.proofs.FoundLaws.{found_exists, found_is_one}
+use Rattle.cc_certificate_judging.proofs.BytesFound.{something_is_found, one_thing_is_found}
 use Rattle.cc_replies.specs.PolicyReplies.{audit_told, guard_told}
 use Rattle.cc_replies.specs.ReplyTexts.{Reply, PolicySet, Verified, SignaturesRefused, Verdicts, RunRefused, TasksRefused, AuditRefused, GuardRefused}
 use Rattle.cc_replies.specs.Requests.{Question, CheckModules, ShowSignature, ShowDerivation, RunDefinition, RunTasks, AuditDefinition, GuardDefinition, PutText, DropModule, SetPolicy, VerifyText, Ask}
@@ -104,7 +104,7 @@ replies_exist devices state (PutText name text) differ sorted = (put_reply state
 replies_exist devices state (DropModule name) differ sorted = (drop_reply state.texts name, refl)
 replies_exist devices state (SetPolicy rules) differ sorted = (PolicySet (length rules), refl)
 replies_exist devices state (VerifyText text) differ sorted =
-    let (found, is) = found_exists text in (Verified found, (found, is, refl))
+    let (found, is) = something_is_found text in (Verified found, (found, is, refl))
 replies_exist devices state (Ask question) differ sorted =
     let (verdicts, are) = present_verdicts_exist devices state.texts differ sorted in
     let (reply, is) = answers_exist devices state.rules state.texts verdicts differ sorted are question in
@@ -194,6 +194,6 @@ replies_are_unique devices state (PutText name text) first second sorted a b = a
 replies_are_unique devices state (DropModule name) first second sorted a b = a ∙ sym b
 replies_are_unique devices state (SetPolicy rules) first second sorted a b = a ∙ sym b
 replies_are_unique devices state (VerifyText text) first second sorted a b =
-    a.2 ∙ ap Verified (found_is_one text a.0 b.0 a.1 b.1) ∙ sym b.2
+    a.2 ∙ ap Verified (one_thing_is_found text a.0 b.0 a.1 b.1) ∙ sym b.2
 replies_are_unique devices state (Ask question) first second sorted a b =
     answers_alike devices state.rules state.texts a.0 b.0 sorted a.1 b.1 question first second a.2 b.2

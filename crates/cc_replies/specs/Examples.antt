@@ -16,7 +16,7 @@ use Rattle.cc_policy.specs.declared.policy.Decision.{Decision}
 use Rattle.cc_policy.specs.declared.policy.Rule.{Rule}
 use Rattle.cc_replies.specs.ReplyTexts.{Reply, PutDone, PutRefused, DropDone, DropRefused, PolicySet, Verified, Verdicts, Signatures}
 use Rattle.cc_replies.specs.ReplyTexts.{SignaturesRefused, Audited, line, reply_text, is_refusal}
-use Rattle.cc_replies.specs.Answers.{ProvesType, HasBadLine, HasBadNode}
+use Rattle.cc_certificate_judging.specs.Answers.{ProvesType, HasBadLine, HasBadNode}
 use Rattle.cc_replies.specs.Replies.{put_reply, texts_after}
 use Rattle.cc_replies.specs.Requests.{CheckModules, PutText, DropModule, SetPolicy, VerifyText, Ask, no_module}
 use Rattle.cc_replies.specs.Outputs.{IsOutput, after_all}

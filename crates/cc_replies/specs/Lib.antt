@@ -1,7 +1,7 @@
+pub mod CertificateTexts
 pub mod DerivationTexts
 pub mod Examples
 pub mod Laws
-pub mod Answers
 pub mod Outputs
 pub mod PolicyReplies
 pub mod Replies

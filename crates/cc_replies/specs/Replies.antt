@@ -17,7 +17,7 @@ use Rattle.cc_meta_modules.specs.StandingDefinitions.{Standing, standing_context
 use Rattle.cc_policy.specs.declared.policy.Rule.{Rule}
 use Rattle.cc_replies.specs.ReplyTexts.{Reply, PutDone, PutRefused, DropDone, DropRefused, Verdicts, Signatures}
 use Rattle.cc_replies.specs.ReplyTexts.{PolicySet, Verified, SignaturesRefused, Derived, DerivationRefused, is_refusal}
-use Rattle.cc_replies.specs.Answers.{Found, IsFound}
+use Rattle.cc_certificate_judging.specs.Answers.{Found, IsFound}
 use Rattle.cc_replies.specs.PolicyReplies.{IsAuditAnswer, IsGuardAnswer}
 use Rattle.cc_replies.specs.Requests.{Question, CheckModules, ShowSignature, ShowDerivation, RunDefinition, RunTasks}
 use Rattle.cc_replies.specs.Requests.{AuditDefinition, GuardDefinition}

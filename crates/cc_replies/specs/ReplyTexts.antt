@@ -12,7 +12,7 @@ use Rattle.cc_meta_runs.specs.Interleavings.{Report}
 use Rattle.cc_meta_runs.specs.Runs.{Ending, Ends, IsStopped}
 use Rattle.cc_meta_modules.specs.ModuleVerdicts.{CheckedDefinition, ModuleVerdict, IsAccepted, IsRefused}
 use Rattle.cc_policy.specs.declared.policy.Decision.{Decision}
-use Rattle.cc_replies.specs.Answers.{Found, found_text, is_valid}
+use Rattle.cc_certificate_judging.specs.Answers.{Found, found_text, is_valid}
 use Rattle.cc_replies.specs.TaskTexts.{task_lines}
 use Rattle.cc_run_texts.specs.RunTexts.{device_text, run_lines}
 

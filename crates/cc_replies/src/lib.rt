@@ -2,6 +2,7 @@
 //! and audit and guard them by a policy.
 #![tactic(auto)]
 
+pub mod certificates;
 pub mod derivations;
 pub mod examples;
 pub mod laws;

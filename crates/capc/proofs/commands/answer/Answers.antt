@@ -2,7 +2,7 @@ use Rattle.std.proofs.Common.{sym, subst}
 use Rattle.cc_replies.specs.Requests.{holding_under}
 use Rattle.capc.specs.Carried.{IsReplied, Changes, Judges}
 use Rattle.capc.specs.Requests.{request_of}
-use Rattle.capc.proofs.CommandFacts.{put_replied, put_judges, drop_replied, drop_judges, policy_replied, policy_changes, policy_judges}
+use Rattle.capc.proofs.CommandFacts.{put_replied, put_judges, drop_replied, drop_judges, policy_changes, policy_judges, certificate_changes, certificate_judges}
 use Rattle.capc.proofs.commands.answer.Goals as goal
 
 pub returns-in-Put-clause-judges : goal.returns-in-Put-clause-judges
@@ -34,10 +34,9 @@ returns-in-Drop-clause-replied g c =
 pub returns-in-Policy-clause-replied : goal.returns-in-Policy-clause-replied
 returns-in-Policy-clause-replied g c =
     let old = c.args.session.now in
-    subst (λ command. IsReplied old.devices (holding_under c.args.policy.now old.present) (request_of command) (g.K.Sink.written c.args.sink.now)
-    (g.K.Sink.written c.tell_policy.new.sink) c.tell_policy.result) (sym c.in-Policy.is)
-    (policy_replied old.devices (holding_under c.args.policy.now old.present) _ (g.K.Sink.written c.args.sink.now) (g.K.Sink.written c.tell_policy.new.sink)
-    c.tell_policy.result c.tell_policy.ensures.written c.tell_policy.ensures.refused)
+    let state = holding_under c.args.policy.now old.present in
+    subst (λ command. IsReplied old.devices state (request_of command) (g.K.Sink.written c.args.sink.now)
+    (g.K.Sink.written c.tell_policy.new.sink) c.tell_policy.result) (sym c.in-Policy.is) (c.tell_policy.ensures.replied old.devices state)
 
 pub returns-in-Policy-clause-changes : goal.returns-in-Policy-clause-changes
 returns-in-Policy-clause-changes g c =
@@ -50,3 +49,23 @@ returns-in-Policy-clause-judges g c =
     let old = c.args.session.now in
     subst (λ command. Judges old old (request_of command) c.args.steps.now c.args.steps.now c.tell_policy.result) (sym c.in-Policy.is)
     (policy_judges old _ c.args.steps.now c.tell_policy.result)
+
+pub returns-in-Verify-clause-replied : goal.returns-in-Verify-clause-replied
+returns-in-Verify-clause-replied g c =
+    let old = c.args.session.now in
+    let state = holding_under c.args.policy.now old.present in
+    subst (λ command. IsReplied old.devices state (request_of command) (g.K.Sink.written c.args.sink.now)
+    (g.K.Sink.written c.tell_certificate.new.sink) c.tell_certificate.result) (sym c.in-Verify.is)
+    (c.tell_certificate.ensures.replied old.devices state)
+
+pub returns-in-Verify-clause-changes : goal.returns-in-Verify-clause-changes
+returns-in-Verify-clause-changes g c =
+    let old = c.args.session.now in
+    subst (λ command. Changes old old (request_of command) c.tell_certificate.result) (sym c.in-Verify.is)
+    (certificate_changes old _ c.tell_certificate.result)
+
+pub returns-in-Verify-clause-judges : goal.returns-in-Verify-clause-judges
+returns-in-Verify-clause-judges g c =
+    let old = c.args.session.now in
+    subst (λ command. Judges old old (request_of command) c.args.steps.now c.args.steps.now c.tell_certificate.result) (sym c.in-Verify.is)
+    (certificate_judges old _ c.args.steps.now c.tell_certificate.result)
