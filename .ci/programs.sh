@@ -331,6 +331,10 @@ for program in "${judges[@]}"; do
     expect 'a line that does not fit' 1 'bad line 4\n' ''
     run < /dev/null
     expect 'no line' 1 'bad line 1\n' ''
+    head -c 4194304 /dev/zero | run
+    expect 'as many bytes as are read' 1 'bad line 1\n' ''
+    head -c 4194305 /dev/zero | run
+    expect 'one byte more' 2 '' 'certify: certificate too long\n'
     run < /
     expect 'a read of a certificate that fails' 2 '' 'certify: read fault\n'
 

@@ -12,7 +12,8 @@ use Rattle.cc_certificate_judging.specs.CertificateParts.{bound_names}
 use Rattle.cc_certificate_judging.specs.Judging.{binds_of, IsValidAt, IsBadNode, IsJudged}
 use Rattle.cc_certificate_judging.specs.declared.answer.Answer.{Answer}
 use Rattle.cc_certificate_judging.specs.declared.answer.Answer.TheVariants.{BadLine, BadNode}
-use Rattle.cc_certificate_judging.specs.Answers.{ProvesType, HasBadLine, HasBadNode, answer_text, is_positive, IsAnswered}
+use Rattle.cc_certificate_judging.specs.Answers.{ProvesType, HasBadLine, HasBadNode}
+use Rattle.cc_certificate_judging.specs.ToldAnswers.{answer_text, is_positive, IsAnswered}
 use Rattle.cc_certificate_judging.proofs.PartsTrees.{plain_bind, cert_lines, cert_context, cert_names}
 
 pub proof_answered : (bytes : List ℕ) (cert : Cert) → IsCertificate bytes (lines_of cert) → (type : CapturingType) (answer : Answer)

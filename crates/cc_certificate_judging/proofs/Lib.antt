@@ -12,5 +12,5 @@ mod PassesOnce
 mod ReadElements
 pub mod SameParts
 mod TreePasses
-pub mod WorkedAnswers
+mod WorkedAnswers
 mod WorkedCertificates

@@ -1,7 +1,6 @@
--- What is found of bytes as a certificate, what is written of it, and what the program answers.
+-- What is found of bytes as a certificate, and what is written of it.
 use Rattle.std.specs.Prelude.{◌≡◌, ℕ, Bool, true, false, List, ◌++◌, codes}
 use Rattle.std.specs.Fmt.{decimal}
-use Rattle.std.specs.String.{string_bytes}
 use Rattle.cc_core.specs.Shapes.{CapturingType}
 use Rattle.cc_core.specs.Terms.{Term}
 use Rattle.cc_core.specs.Typing.{HasType}
@@ -9,8 +8,6 @@ use Rattle.cc_print.specs.TypeTexts.{type_text}
 use Rattle.cc_certificate_text.specs.Certificates.{CertificateNode, IsCertificate, IsBadLine}
 use Rattle.cc_certificate_judging.specs.CertificateParts.{CertificateBind, parts_lines, bound_context, bound_names}
 use Rattle.cc_certificate_judging.specs.Judging.{IsValidAt, IsBadNode, IsJudged}
-use Rattle.cc_certificate_judging.specs.declared.answer.Answer.{Answer}
-use Rattle.cc_certificate_judging.specs.declared.answer.Answer.TheVariants.{Valid, BadLine, BadNode}
 
 -- What is found of bytes: they are a valid certificate, with binds of these names, and prove this type of its term; they
 -- are none, and this is their first bad line; or they are one that is not valid, and this is its least bad node.
@@ -56,21 +53,3 @@ abbrev pub is_valid : Found → Bool
 is_valid (ProvesType names type) = true
 is_valid (HasBadLine line) = false
 is_valid (HasBadNode number) = false
-
--- the text of an answer of the program, and whether it says that the certificate is valid
-abbrev pub answer_text : Answer → List ℕ
-answer_text (Valid text) = codes "valid " ++ string_bytes text
-answer_text (BadLine line) = codes "bad line " ++ decimal line
-answer_text (BadNode number) = codes "bad node " ++ decimal number
-
-abbrev pub is_positive : Answer → Bool
-is_positive (Valid text) = true
-is_positive (BadLine line) = false
-is_positive (BadNode number) = false
-
--- The answer tells what is found of the bytes.
-pub record IsAnswered (bytes : List ℕ) (answer : Answer) : Type 0 where
-  pub found : Found
-  pub is_found : IsFound bytes found
-  pub text : answer_text answer ≡ found_text found
-  pub valid : is_positive answer ≡ is_valid found

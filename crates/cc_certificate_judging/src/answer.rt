@@ -6,7 +6,7 @@ ghost use Rattle.cc_core.specs.Views.{type_of};
 ghost use Rattle.cc_print.specs.TypeTexts as plain;
 ghost use Rattle.cc_certificate_text.specs.Certificates.{Start, AllFit, IsWhole, behind_lines, IsCertificate};
 ghost use Rattle.cc_certificate_reading.specs.Views.{lines_of};
-ghost use Rattle.cc_certificate_judging.specs.Answers.{IsAnswered, is_positive};
+ghost use Rattle.cc_certificate_judging.specs.ToldAnswers.{IsAnswered, is_positive};
 
 use crate::error::JudgeError;
 use crate::judging::judge;
@@ -42,7 +42,7 @@ impl Answer {
 }
 
 impl fmt::Display for Answer {
-    ghost use Rattle.cc_certificate_judging.specs.Answers.{answer_text};
+    ghost use Rattle.cc_certificate_judging.specs.ToldAnswers.{answer_text};
 
     ghost output = { λ answer. Some (answer_text answer) };
 
