@@ -3,3 +3,4 @@ pub mod WorkedRuns
 pub mod WorkedShownTexts
 pub mod WorkedTasks
 pub mod WorkedPolicies
+pub mod WorkedCertificates

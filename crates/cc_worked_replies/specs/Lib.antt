@@ -1,3 +1,4 @@
+pub mod CertificateExamples
 pub mod PolicyExamples
 pub mod RunExamples
 pub mod ShownTexts
