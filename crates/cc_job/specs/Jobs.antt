@@ -103,7 +103,7 @@ item_rules (Commands command) = command_rules command
 -- rules, of which no item has both.
 abbrev pub item_lines : Item → List Line
 item_lines item =
-    joined 32 (item_words item) ∷ (lines_of (item_text item) ++ map (λ rule. rule_line rule) (item_rules item))
+    joined 32 (item_words item) ∷ (lines_of (item_text item) ++ map rule_line (item_rules item))
 
 abbrev pub IsKind : Kind → Type 0
 IsKind Console = Unit {0}

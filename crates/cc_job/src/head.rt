@@ -2,6 +2,7 @@
 
 ghost use Rattle.std.specs.Prelude.{◌≡◌, ◌<◌, map, IfOk};
 ghost use Rattle.std.specs.Option.{option_map};
+ghost use Rattle.cc_words.specs.Words.{number_of};
 ghost use Rattle.cc_job.specs.Reading.{covers, is_schedule, schedule_of, file_of, kind_of, kind_with, device_of, put_of, verify_of, policy_of, drop_of, check_of, sig_of, derive_of, run_of, turns_of, tasks_of, audit_of, guard_of, command_with, head_with, head_of};
 
 use crate::job::{Command, EntryList, Schedule};
@@ -143,6 +144,26 @@ fn device_of(alloc: Global, words: &[&[u8]]) -> Result<Option<Head>, AllocError>
     Ok(Some(Head::Device(DeviceDecl { name, kind })))
 }
 
+// The number of lines that a text may have which a word writes, if it writes one.
+fn text_lines_of(word: &[u8]) -> Option<u32>
+    ensures { result ≡ number_of 4194304 word.now }
+{
+    let Some(count) = number_of(word, 4_194_304) else {
+        return None;
+    };
+    Some(count as u32)
+}
+
+// The fuel that a word writes, if it writes one.
+fn fuel_of(word: &[u8]) -> Option<u32>
+    ensures { result ≡ number_of 1000000 word.now }
+{
+    let Some(fuel) = number_of(word, 1_000_000) else {
+        return None;
+    };
+    Some(fuel as u32)
+}
+
 #[tactic(auto, unfolding(crate::specs::Reading::put_of))]
 fn put_of(alloc: Global, words: &[&[u8]]) -> Result<Option<Head>, AllocError>
     ensures { IfOk result (λ head. head ≡ put_of (map (λ it. it.now) words.now)) }
@@ -153,10 +174,10 @@ fn put_of(alloc: Global, words: &[&[u8]]) -> Result<Option<Head>, AllocError>
     let Some(name) = name_of(alloc, word)? else {
         return Ok(None);
     };
-    let Some(count) = number_of(digits, 4_194_304) else {
+    let Some(count) = text_lines_of(digits) else {
         return Ok(None);
     };
-    Ok(Some(Head::Put(name, count as u32)))
+    Ok(Some(Head::Put(name, count)))
 }
 
 #[tactic(auto, unfolding(crate::specs::Reading::verify_of))]
@@ -166,10 +187,10 @@ fn verify_of(words: &[&[u8]]) -> Option<Head>
     let Some(digits) = one_of(words) else {
         return None;
     };
-    let Some(count) = number_of(digits, 4_194_304) else {
+    let Some(count) = text_lines_of(digits) else {
         return None;
     };
-    Some(Head::Verify(count as u32))
+    Some(Head::Verify(count))
 }
 
 #[tactic(auto, unfolding(crate::specs::Reading::policy_of))]
@@ -244,10 +265,10 @@ fn run_of(alloc: Global, words: &[&[u8]]) -> Result<Option<Command>, AllocError>
     let Some((module, definition)) = pair_of(alloc, word)? else {
         return Ok(None);
     };
-    let Some(fuel) = number_of(digits, 1_000_000) else {
+    let Some(fuel) = fuel_of(digits) else {
         return Ok(None);
     };
-    Ok(Some(Command::Run(module, definition, fuel as u32)))
+    Ok(Some(Command::Run(module, definition, fuel)))
 }
 
 #[tactic(auto, unfolding(crate::specs::Reading::tasks_of))]
@@ -257,13 +278,13 @@ fn tasks_of(alloc: Global, words: &[&[u8]]) -> Result<Option<Command>, AllocErro
     let Some((digits, words)) = first_and_rest(words) else {
         return Ok(None);
     };
-    let Some(fuel) = number_of(digits, 1_000_000) else {
+    let Some(fuel) = fuel_of(digits) else {
         return Ok(None);
     };
     let Some((numbers, words)) = first_and_rest(words) else {
         return Ok(None);
     };
-    turns_of(alloc, fuel as u32, numbers, words)
+    turns_of(alloc, fuel, numbers, words)
 }
 
 #[tactic(auto, unfolding(crate::specs::Reading::audit_of))]
@@ -289,10 +310,10 @@ fn guard_of(alloc: Global, words: &[&[u8]]) -> Result<Option<Command>, AllocErro
     let Some((module, definition)) = pair_of(alloc, word)? else {
         return Ok(None);
     };
-    let Some(fuel) = number_of(digits, 1_000_000) else {
+    let Some(fuel) = fuel_of(digits) else {
         return Ok(None);
     };
-    Ok(Some(Command::Guard(module, definition, fuel as u32)))
+    Ok(Some(Command::Guard(module, definition, fuel)))
 }
 
 // The command that a word and those behind it say, where no line stands behind it.
