@@ -1,5 +1,5 @@
 -- Something is found of any bytes, and one thing alone.
-use Rattle.std.proofs.Common.{◌≡◌, ◌⊎◌, ℕ, List, [], ◌∷◌, ◌++◌, map, refl, sym, ap, subst, ◌∙◌, ⊎_elim}
+use Rattle.std.proofs.Common.{◌≡◌, ℕ, suc, List, [], ◌∷◌, ◌++◌, map, refl, sym, ap, subst, ◌∙◌, ⊎_elim}
 use Rattle.cc_core.specs.Shapes.{CapturingType}
 use Rattle.cc_core.specs.Terms.{Term}
 use Rattle.cc_core.specs.Contexts.{Context, entry_of}
@@ -22,7 +22,7 @@ nodes_in names count unused (Opens ∷ lines) fit = absurd fit.0
 nodes_in names count unused (Binds name type ∷ lines) fit = absurd fit.0
 nodes_in names count unused (States term ∷ lines) fit = absurd fit.0
 nodes_in names count unused (Concludes node ∷ lines) fit =
-    let rest = nodes_in names _ _ lines fit.1 in
+    let rest = nodes_in names (suc count) (used_up unused node (suc count)) lines fit.1 in
     (node ∷ rest.0, ap (λ l. Concludes node ∷ l) rest.1)
 
 -- the parts of whole lines behind the first

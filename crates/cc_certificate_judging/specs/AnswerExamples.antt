@@ -1,5 +1,5 @@
 -- What is found of worked certificates, and the texts of it.
-use Rattle.std.specs.Prelude.{◌≡◌, List, [], ◌∷◌, codes}
+use Rattle.std.specs.Prelude.{◌≡◌, ℕ, List, [], ◌∷◌, codes}
 use Rattle.cc_core.specs.Shapes.{capturing}
 use Rattle.cc_capture.specs.Sets.{empty}
 use Rattle.cc_certificate_reading.specs.Examples.{text, opening, statement, body_node}
