@@ -3,7 +3,6 @@ use Rattle.std.proofs.Common.{◌≡◌, ℕ, ◌+◌, List, [], ◌∷◌, ◌+
 use Rattle.std.specs.Prelude.{unwrap_or}
 use Rattle.std.specs.List.{AllByRecursion}
 use Rattle.std.proofs.lemmas.List.{append_assoc, length-append, length-map}
-use Rattle.cc_policy.specs.declared.policy.Rule.{Rule}
 use Rattle.cc_words.specs.Words.{joined}
 use Rattle.cc_words.specs.Lines.{Line, lines_of, AreWholeLines}
 use Rattle.cc_job.specs.Jobs.{Item, Declares, Commands, item_words, item_text, item_rules, item_lines, rule_line, IsRule, IsCommand, IsItem, skipped, AreItems}

@@ -16,7 +16,7 @@ use Rattle.cc_job.specs.declared.head.Head.TheVariants.{Device, Put as PutHead, 
 use Rattle.cc_words.specs.Words.{joined}
 use Rattle.cc_words.specs.Lines.{Line, lines_of, is_whole_behind, text_cut, next_line}
 use Rattle.cc_job.specs.Jobs.{Item, Declares, Commands, item_words, item_text, item_rules, item_lines, rule_line, IsRule, IsItem, AreItems, items_of, last_text, first_line, IsJob, BeginsJob, IsBadAt, BytesHaveOneJob, BytesHaveOneBadLine}
-use Rattle.cc_job.specs.Reading.{head_of, text_size, rule_count, lines_behind, rule_of, has_device, admits, is_admitted, devices_with, commands_with, Rules, Are, BadRule, TooFew, rules_cut, Next, Read, BadLine, CutShort, next_rules, next_text, next_head, next_in, next_item}
+use Rattle.cc_job.specs.Reading.{head_of, text_size, rule_count, lines_behind, has_device, admits, is_admitted, devices_with, commands_with, Rules, Are, BadRule, TooFew, rules_cut, Next, Read, BadLine, CutShort, next_rules, next_text, next_head, next_in, next_item}
 use Rattle.cc_words.proofs.Splits.{AllLack}
 use Rattle.cc_words.proofs.LineLists.{terminated, is_whole-append, back_empty, FirstLine, next_line-first, lines_of-terminated, is_whole-terminated, lines_of-whole, lines-lack, AllLack-append, AllLack-front, AllLack-back, lines-length, cons_parts, Cut, text_cut_gives, text_cut-short}
 use Rattle.cc_job.proofs.HeadLaws.{item_from, head_for, item_from-head, text_size-head, rule_count-head, no_length, IsLineOf, head_of-item}

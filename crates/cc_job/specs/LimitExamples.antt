@@ -1,5 +1,5 @@
 -- The limits of jobs, each on both of its sides.
-use Rattle.std.specs.Prelude.{ℕ, List, [], ◌∷◌, ◌++◌, map, replicate, ℤ, pos, negsuc, false, None, Some, codes}
+use Rattle.std.specs.Prelude.{ℕ, List, [], ◌∷◌, ◌++◌, map, replicate, ℤ, pos, negsuc, false, None, codes}
 use Rattle.std.specs.Fmt.{decimal}
 use Rattle.cc_base.specs.declared.device.Kind.TheVariants.{Console, File}
 use Rattle.cc_base.specs.declared.device.DeviceDecl.{DeviceDecl}
