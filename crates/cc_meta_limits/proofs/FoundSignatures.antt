@@ -14,7 +14,7 @@ use Rattle.cc_certificate.specs.Certificates.{lines_text}
 use Rattle.cc_certificate.specs.DefinitionCertificates.{definition_certificate, definition_certificate_lines}
 use Rattle.cc_certificate.specs.Laws.{IsOneLine}
 use Rattle.cc_certificate_text.specs.Certificates.{IsCertificate}
-use Rattle.cc_certificate_judging.specs.Answers.{ProvesType}
+use Rattle.cc_certificate_judging.specs.Answers.{ProvesType, IsProof}
 use Rattle.cc_certificate_judging.specs.CertificateParts.{parts_lines, bound_context}
 use Rattle.cc_certificate_judging.specs.Judging.{listed, IsValidAt, IsJudged}
 use Rattle.cc_certificate_judging.proofs.BytesFound.{one_thing_is_found}
@@ -32,7 +32,7 @@ right_prove names context accepted certified =
     let judged : IsJudged (bound_context certified.binds) accepted.filled (listed 0 certified.tree) (IsValidAt accepted.signature) =
     subst (λ g. IsJudged g accepted.filled (listed 0 certified.tree) (IsValidAt accepted.signature)) (sym certified.bound)
     certified.valid in
-    let found = record {
+    let found : IsProof bytes names accepted.signature = record {
       binds = certified.binds;
       term = accepted.filled;
       nodes = listed 0 certified.tree;
