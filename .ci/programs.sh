@@ -172,7 +172,7 @@ for program; do
     # The examples, each of which says what is written for it.
     for example in "$jobs"/*.job; do
         wanted=0
-        grep -qE '^  [^ ]+ E[0-9]+ |refused|out of fuel' "${example%.job}.out" && wanted=1
+        grep -qE '^  [^ ]+ E[0-9]+ |refused|out of fuel|^  bad (line|node) ' "${example%.job}.out" && wanted=1
         run < "$example"
         expect "the example $(basename "$example")" "$wanted" "$(sed 's/\\/\\\\/g' "${example%.job}.out")\n" ''
     done
@@ -234,6 +234,36 @@ for program; do
             'check\n  a ok\n  b ok\ncheck\n  a E14 2:27\n  b ok\ndrop b\ncheck\n  a E05 1:8\n'
     printf 'capc 1\nput m 1\nimport x.f\nput n 1\nimport e.g\nput e 1\ndef f = fun (x: Unit) => x\ncheck\n' |
         job 1 'imports that are not there' 'check\n  e ok\n  m E05 1:8\n  n E06 1:8\n'
+
+    # Certificates, policies, audits and guards.
+    identity=$(cat "$jobs/identity.cert")
+    printf 'capc 1\nverify 4\n%s\n' "$identity" | run
+    expect 'a certificate in a job' 0 'verify\n  valid (_0: Unit) -> Unit^{_0}\n' ''
+    printf 'capc 1\nverify 4\n%s\n' "${identity/Unit^{_0\}/Unit}" | run
+    expect 'a node in a job that breaks its rule' 1 'verify\n  bad node 1\n' ''
+    printf 'capc 1\nverify 4\n%s\n' "${identity/\[1\]/[2]}" | run
+    expect 'a line in a job that does not fit' 1 'verify\n  bad line 4\n' ''
+    printf 'capc 1\nverify 0\n' | run
+    expect 'a certificate without a line' 1 'verify\n  bad line 1\n' ''
+    { echo 'capc 1'; echo 'policy 256'; repeated 'allow * *\n' 256; echo 'policy 0'; } | run
+    expect 'as many rules as there may be, and none' 0 'policy 256\npolicy 0\n' ''
+    module 'def main = fun (u: Unit) => val n = hits.tick(); out.print(n)' > "$work/host"
+    {
+        cat "$work/host"
+        printf '%s\n' 'audit m.main' 'guard m.main 9' 'policy 3' 'allow m out' 'deny * hits' 'allow * *' 'audit m.main' \
+            'guard m.main 9'
+    } | job 1 'a device that the second rule of three denies' \
+        'audit m.main\n  out deny none\n  hits deny none\nguard m.main refused E37\npolicy 3\naudit m.main\n  out allow 1\n  hits deny 2\nguard m.main refused E37\n'
+    {
+        cat "$work/host"
+        printf '%s\n' 'policy 1' 'allow m *' 'audit m.main' 'guard m.main 9' 'guard m.main 2'
+    } | job 1 'a guard that runs out of fuel' \
+        'policy 1\naudit m.main\n  out allow 1\n  hits allow 1\nguard m.main\n  authority {out, hits}\n  hits tick 1\n  out print 1\n  done unit after 5 steps\nguard m.main\n  authority {out, hits}\n  hits tick 1\n  out of fuel after 2 steps\n'
+    {
+        cat "$work/host"
+        printf '%s\n' 'policy 1' 'allow * *' 'audit m.none' 'guard n.main 9' 'policy 1' 'deny * *' 'guard m.none 9'
+    } | job 1 'what is not run is not audited' \
+        'policy 1\naudit m.none refused E33\nguard n.main refused E32\npolicy 1\nguard m.none refused E33\n'
 
     # Limits.
     {
@@ -331,6 +361,10 @@ for program in "${judges[@]}"; do
     expect 'a line that does not fit' 1 'bad line 4\n' ''
     run < /dev/null
     expect 'no line' 1 'bad line 1\n' ''
+    head -c 4194304 /dev/zero | run
+    expect 'as many bytes as are read' 1 'bad line 1\n' ''
+    head -c 4194305 /dev/zero | run
+    expect 'one byte more' 2 '' 'certify: certificate too long\n'
     run < /
     expect 'a read of a certificate that fails' 2 '' 'certify: read fault\n'
 

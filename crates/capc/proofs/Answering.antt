@@ -16,8 +16,9 @@ use Rattle.cc_replies.proofs.OutputLaws.{outputs_exist}
 use Rattle.cc_replies.proofs.PresentAfter.{texts_stay_present}
 use Rattle.cc_replies.proofs.StaleLaws.{stale_exist}
 use Rattle.cc_replies.specs.Outputs.{IsOutput}
-use Rattle.cc_replies.specs.Replies.{Replies, after}
-use Rattle.cc_replies.specs.Requests.{Request, JobState, holding, no_module}
+use Rattle.cc_policy.specs.declared.policy.Rule.{Rule}
+use Rattle.cc_replies.specs.Replies.{Replies, rules_after, after}
+use Rattle.cc_replies.specs.Requests.{Request, JobState, holding_under, no_module}
 use Rattle.cc_replies.specs.ReplyTexts.{reply_text, is_refusal}
 use Rattle.cc_replies.specs.StaleModules.{FindsStale, AreStale}
 use Rattle.cc_session.specs.Sessions.{SessionState}
@@ -29,26 +30,27 @@ use Rattle.capc.proofs.OutputFronts.{Appends-both, WritesWhole-first, WritesWhol
 abbrev pub asked : List Command → List Request
 asked commands = map request_of commands
 
--- What was carried out of the requests from this state and these judgements on, where these are left: what is written for
+-- What was carried out of the requests from this state and these judgements on, where these rules are in force and these
+-- requests are left: what is written for
 -- those that are left stands behind what was written, and so do the steps.
 pub record Stands (devices : List DeviceDecl) (state : JobState) (last : List Judgement) (all : List Request) (written : Option (List ℕ))
-    (steps : ℕ) (session : SessionState) (left : List Request) (now : Option (List ℕ)) (counted : ℕ) (refused : Bool) : Type 0 where
+    (steps : ℕ) (session : SessionState) (rules : List Rule) (left : List Request) (now : Option (List ℕ)) (counted : ℕ) (refused : Bool) : Type 0 where
   pub devices_same : session.devices ≡ devices
   pub present : ArePresent session.present
   pub done : List ℕ
   pub appended : Appends written now done
-  pub output : (text : List ℕ) (later : Bool) → IsOutput devices (holding session.present) left text later → IsOutput devices state all (done ++ text) (refused || later)
+  pub output : (text : List ℕ) (later : Bool) → IsOutput devices (holding_under rules session.present) left text later → IsOutput devices state all (done ++ text) (refused || later)
   pub judged : ℕ
   pub few : counted ≤ steps + judged
-  pub stale : (sum : ℕ) → AreStale devices (holding session.present) session.last left sum → AreStale devices state last all (judged + sum)
+  pub stale : (sum : ℕ) → AreStale devices (holding_under rules session.present) session.last left sum → AreStale devices state last all (judged + sum)
 
 pub Appends-nothing : (old : Option (List ℕ)) → Appends old old []
 Appends-nothing None = tt
 Appends-nothing (Some xs) = sym (append-nil xs)
 
-pub stands_first : (session : SessionState) (all : List Request) (written : Option (List ℕ)) (steps : ℕ) → ArePresent session.present
-    → Stands session.devices (holding session.present) session.last all written steps session all written steps false
-stands_first session all written steps sorted = record {
+pub stands_first : (session : SessionState) (rules : List Rule) (all : List Request) (written : Option (List ℕ)) (steps : ℕ) → ArePresent session.present
+    → Stands session.devices (holding_under rules session.present) session.last all written steps session rules all written steps false
+stands_first session rules all written steps sorted = record {
   devices_same = refl;
   present = sorted;
   done = [];
@@ -56,7 +58,7 @@ stands_first session all written steps sorted = record {
   output = λ text later is. is;
   judged = 0;
   few = omega arith;
-  stale = λ sum are. subst (AreStale session.devices (holding session.present) session.last all) (omega arith) are;
+  stale = λ sum are. subst (AreStale session.devices (holding_under rules session.present) session.last all) (omega arith) are;
 }
 
 grouped : (a b c : Bool) → ((a || b) || c) ≡ (a || (b || c))
@@ -64,17 +66,18 @@ grouped true b c = refl
 grouped false b c = refl
 
 module _ (devices : List DeviceDecl) (state : JobState) (last : List Judgement) (all : List Request) (written : Option (List ℕ)) (steps : ℕ)
-    (session : SessionState) (request : Request) (left : List Request) (now : Option (List ℕ)) (counted : ℕ) (refused : Bool)
-    (stands : Stands devices state last all written steps session (request ∷ left) now counted refused) where
+    (session : SessionState) (rules : List Rule) (request : Request) (left : List Request) (now : Option (List ℕ)) (counted : ℕ) (refused : Bool)
+    (stands : Stands devices state last all written steps session rules (request ∷ left) now counted refused) where
   -- one request more
-  pub stands_more : (next : SessionState) (behind : Option (List ℕ)) (more : ℕ) (later : Bool)
-      → IsReplied session.devices (holding session.present) request now behind (Ok later)
+  pub stands_more : (next : SessionState) (in_force : List Rule) (behind : Option (List ℕ)) (more : ℕ) (later : Bool)
+      → in_force ≡ rules_after rules request
+      → IsReplied session.devices (holding_under rules session.present) request now behind (Ok later)
       → Changes session next request (Ok later) → Judges session next request counted more (Ok later)
       → (either : Bool) → either ≡ (refused || later)
-      → Stands devices state last all written steps next left behind more either
-  stands_more next behind more later replied changes judges either is = record {
+      → Stands devices state last all written steps next in_force left behind more either
+  stands_more next in_force behind more later rules_are replied changes judges either is = record {
     devices_same = changes.devices ∙ stands.devices_same;
-    present = subst ArePresent (sym changes.present) (texts_stay_present (holding session.present) request stands.present);
+    present = subst ArePresent (sym changes.present) (texts_stay_present (holding_under rules session.present) request stands.present);
     done = stands.done ++ reply;
     appended = Appends-both written now behind stands.done reply stands.appended
         (subst (λ ds. Appends now behind (reply_text (device_names ds) replied.reply)) stands.devices_same replied.written);
@@ -83,8 +86,9 @@ module _ (devices : List DeviceDecl) (state : JobState) (last : List Judgement) 
           replied.reply,
           text,
           after_that,
-          subst (λ ds. Replies ds (holding session.present) request replied.reply) stands.devices_same replied.replies,
-          subst (λ ts. IsOutput devices (holding ts) left text after_that) changes.present is_text,
+          subst (λ ds. Replies ds (holding_under rules session.present) request replied.reply) stands.devices_same replied.replies,
+          subst (λ rs. IsOutput devices (holding_under rs (after (holding_under rules session.present) request).texts) left text after_that) rules_are
+          (subst (λ ts. IsOutput devices (holding_under in_force ts) left text after_that) changes.present is_text),
           refl,
           refl,
         ) in
@@ -94,8 +98,10 @@ module _ (devices : List DeviceDecl) (state : JobState) (last : List Judgement) 
     judged = stands.judged + judges.count;
     few = omega (arith, stands.few, judges.few);
     stale = λ sum are.
-        (let finds = subst (λ ds. FindsStale ds (holding session.present) session.last request judges.count judges.next) stands.devices_same judges.stale in
-        let at = subst (λ ts. AreStale devices (holding ts) judges.next left sum) changes.present (subst (λ js. AreStale devices (holding next.present) js left sum) judges.last are) in
+        (let finds = subst (λ ds. FindsStale ds (holding_under rules session.present) session.last request judges.count judges.next) stands.devices_same (judges.stale rules) in
+        let at = subst (λ rs. AreStale devices (holding_under rs (after (holding_under rules session.present) request).texts) judges.next left sum) rules_are
+        (subst (λ ts. AreStale devices (holding_under in_force ts) judges.next left sum) changes.present
+        (subst (λ js. AreStale devices (holding_under in_force next.present) js left sum) judges.last are)) in
         subst (AreStale devices state last all) (omega arith)
         (stands.stale (judges.count + sum) (judges.count, judges.next, sum, finds, at, refl)));
   }
@@ -105,15 +111,15 @@ module _ (devices : List DeviceDecl) (state : JobState) (last : List Judgement) 
 
   -- the request failed
   pub stands_stopped : NamesOfDevicesDiffer devices → (next : SessionState) (behind : Option (List ℕ)) (more : ℕ) (error : WriteAll)
-      → IsReplied session.devices (holding session.present) request now behind (Err error)
+      → IsReplied session.devices (holding_under rules session.present) request now behind (Err error)
       → Judges session next request counted more (Err error)
       → AreAnswered devices state last all written behind steps more (Err error)
   stands_stopped differ next behind more error replied judges =
-      let sorted = texts_stay_present (holding session.present) request stands.present in
-      let (text, later, is) = outputs_exist devices (after (holding session.present) request) left differ sorted in
-      let (sum, are) = stale_exist devices (after (holding session.present) request) judges.next left differ sorted in
-      let replies = subst (λ ds. Replies ds (holding session.present) request replied.reply) stands.devices_same replied.replies in
-      let finds = subst (λ ds. FindsStale ds (holding session.present) session.last request judges.count judges.next) stands.devices_same judges.stale in
+      let sorted = texts_stay_present (holding_under rules session.present) request stands.present in
+      let (text, later, is) = outputs_exist devices (after (holding_under rules session.present) request) left differ sorted in
+      let (sum, are) = stale_exist devices (after (holding_under rules session.present) request) judges.next left differ sorted in
+      let replies = subst (λ ds. Replies ds (holding_under rules session.present) request replied.reply) stands.devices_same replied.replies in
+      let finds = subst (λ ds. FindsStale ds (holding_under rules session.present) session.last request judges.count judges.next) stands.devices_same (judges.stale rules) in
       record {
         text = stands.done ++ (reply ++ text);
         refused = refused || (is_refusal replied.reply || later);
@@ -136,10 +142,10 @@ or_false false = refl
 
 -- no request is left
 pub stands_last : (devices : List DeviceDecl) (state : JobState) (last : List Judgement) (all : List Request) (written : Option (List ℕ)) (steps : ℕ)
-    (session : SessionState) (now : Option (List ℕ)) (counted : ℕ) (refused : Bool)
-    → Stands devices state last all written steps session [] now counted refused
+    (session : SessionState) (rules : List Rule) (now : Option (List ℕ)) (counted : ℕ) (refused : Bool)
+    → Stands devices state last all written steps session rules [] now counted refused
     → AreAnswered devices state last all written now steps counted (Ok refused)
-stands_last devices state last all written steps session now counted refused stands = record {
+stands_last devices state last all written steps session rules now counted refused stands = record {
   text = stands.done;
   refused = refused;
   output = subst (λ t. IsOutput devices state all t refused) (append-nil stands.done)
@@ -165,27 +171,28 @@ asked_next : (commands : List Command) (index : ℕ) (command : Command) → ind
 asked_next commands index command below at = ap asked (drop_next commands index command below at)
 
 module _ (devices : List DeviceDecl) (state : JobState) (last : List Judgement) (commands : List Command) (written : Option (List ℕ)) (steps : ℕ)
-    (session : SessionState) (index : ℕ) (command : Command) (now : Option (List ℕ)) (counted : ℕ) (refused : Bool)
-    (stands : Stands devices state last (asked commands) written steps session (asked (drop index commands)) now counted refused)
+    (session : SessionState) (rules : List Rule) (index : ℕ) (command : Command) (now : Option (List ℕ)) (counted : ℕ) (refused : Bool)
+    (stands : Stands devices state last (asked commands) written steps session rules (asked (drop index commands)) now counted refused)
     (below : index < length commands) (at : command ≡ get_or commands index command)
     (new : SessionState) (behind : Option (List ℕ)) (more : ℕ) where
-  stands_at : Stands devices state last (asked commands) written steps session (request_of command ∷ asked (drop (index + 1) commands)) now counted refused
-  stands_at = subst (λ rs. Stands devices state last (asked commands) written steps session rs now counted refused) (asked_next commands index command below at) stands
+  stands_at : Stands devices state last (asked commands) written steps session rules (request_of command ∷ asked (drop (index + 1) commands)) now counted refused
+  stands_at = subst (λ rs. Stands devices state last (asked commands) written steps session rules rs now counted refused) (asked_next commands index command below at) stands
 
-  pub turn_more : (later : Bool) → IsReplied session.devices (holding session.present) (request_of command) now behind (Ok later)
+  pub turn_more : (in_force : List Rule) (later : Bool) → in_force ≡ rules_after rules (request_of command)
+      → IsReplied session.devices (holding_under rules session.present) (request_of command) now behind (Ok later)
       → Changes session new (request_of command) (Ok later) → Judges session new (request_of command) counted more (Ok later)
       → (either : Bool) → either ≡ (refused || later)
-      → Stands devices state last (asked commands) written steps new (asked (drop (index + 1) commands)) behind more either
-  turn_more later replied changes judges either is =
-      stands_more devices state last (asked commands) written steps session (request_of command) (asked (drop (index + 1) commands)) now counted refused stands_at
-      new behind more later replied changes judges either is
+      → Stands devices state last (asked commands) written steps new in_force (asked (drop (index + 1) commands)) behind more either
+  turn_more in_force later rules_are replied changes judges either is =
+      stands_more devices state last (asked commands) written steps session rules (request_of command) (asked (drop (index + 1) commands)) now counted refused stands_at
+      new in_force behind more later rules_are replied changes judges either is
 
   pub turn_stopped : NamesOfDevicesDiffer devices → (error : WriteAll)
-      → IsReplied session.devices (holding session.present) (request_of command) now behind (Err error)
+      → IsReplied session.devices (holding_under rules session.present) (request_of command) now behind (Err error)
       → Judges session new (request_of command) counted more (Err error)
       → AreAnswered devices state last (asked commands) written behind steps more (Err error)
   turn_stopped differ error replied judges =
-      stands_stopped devices state last (asked commands) written steps session (request_of command) (asked (drop (index + 1) commands)) now counted refused stands_at
+      stands_stopped devices state last (asked commands) written steps session rules (request_of command) (asked (drop (index + 1) commands)) now counted refused stands_at
       differ new behind more error replied judges
 
 -- no module is present at first

@@ -9,6 +9,8 @@ mod Exact
 mod WorkedStatuses
 mod RunFacts
 mod SoundJobs
+mod GuardedRuns
+mod VerifiedTexts
 mod StartedTasks
 mod AllOf
 mod QuestionReplies

@@ -50,7 +50,7 @@ module _ (devices : List DeviceDecl) (texts : Texts) (differ : NamesOfDevicesDif
   files : AreSoundFiles devices texts
   files = present_files_are_sound devices texts differ sorted
 
-  run_shown : (module_name name owner definition : List ℕ) (fuel : ℕ) (authority : List ℕ) (events : List Event) (ending : Ending) (steps : ℕ)
+  pub run_shown : (module_name name owner definition : List ℕ) (fuel : ℕ) (authority : List ℕ) (events : List Event) (ending : Ending) (steps : ℕ)
       (r : Result CheckedDefinition Code) → started_in texts verdicts module_name name ≡ r
       → IsRunAnswer devices texts verdicts module_name name fuel r (Ran owner definition authority events ending steps)
       → IsShownRun devices texts fuel authority events ending steps

@@ -7,7 +7,8 @@ use Rattle.cc_judge.specs.Judgements.{Judgement}
 use Rattle.cc_mnf.specs.CoreModules.{device_names}
 use Rattle.cc_replies.specs.Outputs.{IsOutput}
 use Rattle.cc_replies.specs.Replies.{Replies, texts_after}
-use Rattle.cc_replies.specs.Requests.{Request, JobState, holding}
+use Rattle.cc_policy.specs.declared.policy.Rule.{Rule}
+use Rattle.cc_replies.specs.Requests.{Request, JobState, holding_under}
 use Rattle.cc_replies.specs.ReplyTexts.{Reply, reply_text, is_refusal}
 use Rattle.cc_replies.specs.StaleModules.{FindsStale, AreStale}
 use Rattle.cc_session.specs.Sessions.{SessionState}
@@ -25,12 +26,12 @@ pub record Changes (old new : SessionState) (request : Request) (result : Result
   pub devices : new.devices ≡ old.devices
   pub present : IfOk result (λ _. new.present ≡ texts_after old.present request)
 
--- how many steps were counted for a request, and the last judgements behind it
+-- how many steps were counted for a request, whatever rules are in force, and the last judgements behind it
 pub record Judges (old new : SessionState) (request : Request) (before behind : ℕ) (result : Result Bool WriteAll) :
     Type 0 where
   pub count : ℕ
   pub next : List Judgement
-  pub stale : FindsStale old.devices (holding old.present) old.last request count next
+  pub stale : (rules : List Rule) → FindsStale old.devices (holding_under rules old.present) old.last request count next
   pub few : behind ≤ before + count
   pub last : IfOk result (λ _. new.last ≡ next)
 

@@ -3,6 +3,8 @@ pub mod Words
 pub mod Requests
 pub mod Running
 pub mod SoundJobs
+pub mod GuardedRuns
+pub mod VerifiedTexts
 pub mod Carried
 pub mod Outcome
 pub mod WorkloadOutcome

@@ -2,9 +2,11 @@
 use Rattle.std.specs.Prelude.{List, map, Option, Some, None}
 use Rattle.cc_job.specs.declared.job.Command.{Command}
 use Rattle.cc_job.specs.declared.job.Command.TheVariants.{Put, Drop, Check, Sig, Derive, Run, Tasks}
+use Rattle.cc_job.specs.declared.job.Command.TheVariants.{Verify, Policy, Audit, Guard}
 use Rattle.cc_job.specs.declared.job.Job.{Job}
 use Rattle.cc_replies.specs.Requests.{Question, CheckModules, ShowSignature, ShowDerivation, RunDefinition, RunTasks}
-use Rattle.cc_replies.specs.Requests.{Request, PutText, DropModule, Ask}
+use Rattle.cc_replies.specs.Requests.{AuditDefinition, GuardDefinition}
+use Rattle.cc_replies.specs.Requests.{Request, PutText, DropModule, SetPolicy, VerifyText, Ask}
 
 -- what a command asks for
 abbrev pub request_of : Command → Request
@@ -15,6 +17,10 @@ request_of (Sig name) = Ask (ShowSignature name)
 request_of (Derive module_name name) = Ask (ShowDerivation module_name name)
 request_of (Run module_name name fuel) = Ask (RunDefinition module_name name fuel)
 request_of (Tasks fuel schedule tasks) = Ask (RunTasks fuel schedule tasks)
+request_of (Verify text) = VerifyText text
+request_of (Policy rules) = SetPolicy rules
+request_of (Audit module_name name) = Ask (AuditDefinition module_name name)
+request_of (Guard module_name name fuel) = Ask (GuardDefinition module_name name fuel)
 
 -- what the commands of a job ask for, in order
 abbrev pub requests_of : Job → List Request
@@ -24,4 +30,6 @@ requests_of job = map request_of job.commands
 abbrev pub question_in : Request → Option Question
 question_in (PutText name text) = None
 question_in (DropModule name) = None
+question_in (SetPolicy rules) = None
+question_in (VerifyText text) = None
 question_in (Ask question) = Some question

@@ -1,12 +1,20 @@
--- What starting several definitions comes to. It serves the code alone.
+-- What runs of entries are told as, and what starting several definitions comes to. It serves the code alone.
 use Rattle.std.specs.Prelude.{◌≡◌, ℕ, List, map, Some, None, slice_get}
 use Rattle.cc_base.specs.declared.device.DeviceDecl.{DeviceDecl}
 use Rattle.cc_entry.specs.Entries.{entry_of}
+use Rattle.cc_meta_entries.specs.PresentEntries.{CheckedEntry}
 use Rattle.cc_meta_modules.specs.ModuleVerdicts.{ModuleVerdict}
 use Rattle.cc_meta_modules.specs.PresentTexts.{Texts}
-use Rattle.cc_replies.specs.RunReplies.{first_unstarted, HaveEntries}
+use Rattle.cc_replies.specs.ReplyTexts.{run_text}
+use Rattle.cc_replies.specs.RunReplies.{declared_run, first_unstarted, HaveEntries}
 use Rattle.capc.specs.declared.running.Started.{Started}
 use Rattle.capc.specs.declared.running.Started.TheVariants.{All, Refused}
+
+-- the text of a reply of the word that tells of the run of an entry on the declared devices
+abbrev pub entry_text : List ℕ → List (List ℕ) → List ℕ → List ℕ → List DeviceDecl → ℕ → CheckedEntry → List ℕ
+entry_text word names module_name name devices fuel entry =
+    run_text word names module_name name entry.authority (declared_run devices fuel entry).events
+    (declared_run devices fuel entry).ending (declared_run devices fuel entry).steps
 
 -- each definition has its entry, or this is the first that has none
 abbrev pub AreStarted : List DeviceDecl → Texts → (List ℕ → ModuleVerdict) → List (List ℕ × List ℕ) → Started → Type 0

@@ -1,11 +1,13 @@
 //! Carrying out the commands of a job: each reply is written before the next command.
 
-ghost use Rattle.std.specs.Prelude.{◌≡◌, ◌-◌, ◌^◌, ◌<◌, ◌||◌, [], map, IfSome, IfOk};
+ghost use Rattle.std.specs.Prelude.{◌≡◌, ◌-◌, ◌^◌, ◌<◌, ◌||◌, List, [], map, IfSome, IfOk};
+ghost use Rattle.cc_base.specs.declared.device.DeviceDecl.{DeviceDecl};
 ghost use Rattle.cc_io.specs.Wholes.{WriteAllCause};
 ghost use Rattle.cc_meta_modules.specs.ModuleLaws.{NamesOfDevicesDiffer};
 ghost use Rattle.cc_meta_modules.specs.PresentTexts.{ArePresent};
 ghost use Rattle.cc_mnf.specs.CoreModules.{device_names};
-ghost use Rattle.cc_replies.specs.Requests.{PutText, DropModule, Ask, holding, no_module};
+ghost use Rattle.cc_replies.specs.Replies.{rules_after};
+ghost use Rattle.cc_replies.specs.Requests.{JobState, PutText, DropModule, SetPolicy, VerifyText, Ask, holding, holding_under, no_module};
 ghost use Rattle.capc.specs.Carried.{IsReplied, Changes, Judges, AreAnswered};
 ghost use Rattle.capc.specs.Requests.{request_of, requests_of, question_in};
 
@@ -17,8 +19,11 @@ use cc_base::steps::Steps;
 use cc_base::text::Text;
 use cc_io::{Sink, WriteAll};
 use cc_job::job::{Command, Job};
+use cc_policy::policy::Policy;
 use cc_print::Names;
+use cc_replies::certificates::verify_reply;
 use cc_replies::modules::{drop_refusal, drop_reply, put_refusal, put_reply};
+use cc_replies::policies::policy_reply;
 use cc_replies::signatures::names_of;
 use cc_session::refusals::{NoSuchModule, PutRefused};
 use cc_session::session::Session;
@@ -94,11 +99,35 @@ fn drop_module<K: Sink>(
     }
 }
 
+// Writes how many rules the policy has.
+fn tell_policy<K: Sink>(alloc: Global, policy: &Policy, sink: &mut K) -> Result<bool, WriteAll>
+    requires { K.faults sink.old < 2 ^ 64 - 1 }
+    ensures replied { (devices : List DeviceDecl) (state : JobState)
+        → IsReplied devices state (SetPolicy policy.now) (K.written sink.old) (K.written sink.new) result }
+    ensures cause { WriteAllCause (K.faults sink.old) (K.faults sink.new) result }
+{
+    write_reply(sink, policy_reply(alloc, policy), false)
+}
+
+// Writes what is found of the text as a certificate.
+fn tell_certificate<K: Sink>(alloc: Global, text: &Text, sink: &mut K) -> Result<bool, WriteAll>
+    requires { K.faults sink.old < 2 ^ 64 - 1 }
+    ensures replied { (devices : List DeviceDecl) (state : JobState)
+        → IsReplied devices state (VerifyText text.now) (K.written sink.old) (K.written sink.new) result }
+    ensures cause { WriteAllCause (K.faults sink.old) (K.faults sink.new) result }
+{
+    match verify_reply(alloc, text.as_bytes()) {
+        Ok((reply, refused)) => write_reply(sink, Ok(reply), refused),
+        Err(AllocError) => Err(WriteAll::NoMemory),
+    }
+}
+
 // Checks the modules and answers the question of the command, if it is one.
 fn ask<K: Sink, L: Ledger>(
     alloc: Global,
     names: &Names,
     session: &mut Session,
+    policy: &Policy,
     command: &Command,
     sink: &mut K,
     steps: &mut Steps<L>,
@@ -108,7 +137,7 @@ fn ask<K: Sink, L: Ledger>(
     requires present { ArePresent session.old.present }
     requires names { (names.now.names.items ≡ device_names session.old.devices) × (names.now.locals ≡ 0) }
     ensures replied { IfSome (question_in (request_of command.now))
-        (λ question. IsReplied session.old.devices (holding session.old.present) (Ask question)
+        (λ question. IsReplied session.old.devices (holding_under policy.now session.old.present) (Ask question)
         (K.written sink.old) (K.written sink.new) result) }
     ensures changes { IfSome (question_in (request_of command.now)) (λ question. Changes session.old session.new (Ask question) result) }
     ensures judges { IfSome (question_in (request_of command.now))
@@ -116,16 +145,17 @@ fn ask<K: Sink, L: Ledger>(
     ensures cause { WriteAllCause (K.faults sink.old) (K.faults sink.new) result }
 {
     match session.check(steps) {
-        Ok(()) => answer_checked(alloc, names, &*session, command, sink),
+        Ok(()) => answer_checked(alloc, names, &*session, policy, command, sink),
         Err(AllocError) => Err(WriteAll::NoMemory),
     }
 }
 
-// Carries out a command.
+// Carries out a command where the policy is in force.
 fn answer<K: Sink, L: Ledger>(
     alloc: Global,
     names: &Names,
     session: &mut Session,
+    policy: &Policy,
     command: &Command,
     sink: &mut K,
     steps: &mut Steps<L>,
@@ -134,7 +164,7 @@ fn answer<K: Sink, L: Ledger>(
     requires differ { NamesOfDevicesDiffer session.old.devices }
     requires present { ArePresent session.old.present }
     requires names { (names.now.names.items ≡ device_names session.old.devices) × (names.now.locals ≡ 0) }
-    ensures replied { IsReplied session.old.devices (holding session.old.present) (request_of command.now)
+    ensures replied { IsReplied session.old.devices (holding_under policy.now session.old.present) (request_of command.now)
         (K.written sink.old) (K.written sink.new) result }
     ensures changes { Changes session.old session.new (request_of command.now) result }
     ensures judges { Judges session.old session.new (request_of command.now) steps.old steps.new result }
@@ -143,11 +173,25 @@ fn answer<K: Sink, L: Ledger>(
     match command {
         Command::Put(name, text) => put_module(alloc, session, name, text, sink),
         Command::Drop(name) => drop_module(alloc, session, name, sink),
+        Command::Policy(next) => tell_policy(alloc, next, sink),
+        Command::Verify(text) => tell_certificate(alloc, text, sink),
         Command::Check
         | Command::Sig(_)
         | Command::Derive(_, _)
         | Command::Run(_, _, _)
-        | Command::Tasks(_, _, _) => ask(alloc, names, session, command, sink, steps),
+        | Command::Tasks(_, _, _)
+        | Command::Audit(_, _)
+        | Command::Guard(_, _, _) => ask(alloc, names, session, policy, command, sink, steps),
+    }
+}
+
+// The policy in force behind the command: the one that it sets, or else the one before.
+fn policy_after<'a>(policy: &'a Policy, command: &'a Command) -> &'a Policy
+    ensures { result.now ≡ rules_after policy.now (request_of command.now) }
+{
+    match command {
+        Command::Policy(next) => next,
+        _ => policy,
     }
 }
 
@@ -158,12 +202,13 @@ fn either(first: bool, second: bool) -> bool
     first || second
 }
 
-// Carries out the commands in order. It answers whether a reply is a refusal.
-fn answer_all<K: Sink, L: Ledger>(
+// Carries out the commands in order, where the policy is in force at first. It answers whether a reply is a refusal.
+fn answer_all<'a, K: Sink, L: Ledger>(
     alloc: Global,
     names: &Names,
     session: &mut Session,
-    commands: &[Command],
+    first: &'a Policy,
+    commands: &'a [Command],
     sink: &mut K,
     steps: &mut Steps<L>,
 ) -> Result<bool, WriteAll>
@@ -171,21 +216,24 @@ fn answer_all<K: Sink, L: Ledger>(
     requires differ { NamesOfDevicesDiffer session.old.devices }
     requires present { ArePresent session.old.present }
     requires names { (names.now.names.items ≡ device_names session.old.devices) × (names.now.locals ≡ 0) }
-    ensures answered { AreAnswered session.old.devices (holding session.old.present)
+    ensures answered { AreAnswered session.old.devices (holding_under first.now session.old.present)
         session.old.last (map request_of commands.now)
         (K.written sink.old) (K.written sink.new) steps.old steps.new result }
     ensures cause { WriteAllCause (K.faults sink.old) (K.faults sink.new) result }
 {
+    let mut policy = first;
     let mut refused = false;
     for command in commands {
         let later = answer(
             alloc,
             names,
             &mut *session,
+            policy,
             command,
             &mut *sink,
             &mut *steps,
         )?;
+        policy = policy_after(policy, command);
         refused = either(refused, later);
     }
     Ok(refused)
@@ -210,10 +258,12 @@ pub fn carry_out<K: Sink, L: Ledger>(
         Err(AllocError) => return Err(WriteAll::NoMemory),
     };
     let mut session = Session::new(alloc, devices.into_vec());
+    let none = Policy::new(Vec::new(alloc));
     answer_all(
         alloc,
         &names,
         &mut session,
+        &none,
         commands.as_slice(),
         sink,
         steps,

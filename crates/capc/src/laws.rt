@@ -2,6 +2,8 @@
 //! faults, what is written and how many modules are judged, for all streams.
 ghost use Rattle.capc.specs.StatusTable.{StatusesShow, JobsHaveSoManyBytes};
 ghost use Rattle.capc.specs.SoundJobs.{EveryJobIsSound, ShownRunsAreSafe, ShownTasksAreSafe};
+ghost use Rattle.capc.specs.GuardedRuns.{ShownGuardedRunsArePermitted, RefusedEntriesAreNotPermitted};
+ghost use Rattle.capc.specs.VerifiedTexts.{VerifiedTypesAreProved, ShownCertificatesAreValid};
 ghost use Rattle.capc.specs.Exactness.{AJobIsAnswered, WhatIsNoJobIsRefused, WhatIsTooLongIsRefused, AFaultIsTold, OnlyTheOutputIsWritten, OnlyStaleModulesAreJudged, AWorkloadIsSummarized, AFaultOfAWorkloadIsTold};
 
 /// A job is carried out and its output written whole, unless memory lacks: then a front of it is written.
@@ -63,4 +65,18 @@ pub fn every_job_is_sound()
 pub fn shown_runs_are_safe()
     ensures runs { ShownRunsAreSafe }
     ensures tasks { ShownTasksAreSafe }
+{}
+
+/// What is shown of guarded runs is shown of runs of present entries, which are safe and which the rules in force permit:
+/// each device that is operated is allowed to the module. Where one is refused for that, its entry is not permitted.
+pub fn shown_guarded_runs_are_permitted()
+    ensures shown { ShownGuardedRunsArePermitted }
+    ensures refused { RefusedEntriesAreNotPermitted }
+{}
+
+/// What is said to be a valid certificate is one. The lines of a certificate that was shown, each with a line feed, are
+/// said to be a valid one, of the signature's type, wherever they are judged.
+pub fn shown_certificates_are_valid()
+    ensures proved { VerifiedTypesAreProved }
+    ensures shown { ShownCertificatesAreValid }
 {}

@@ -1,22 +1,25 @@
 //! Answering questions about the present modules, which are checked.
 
-ghost use Rattle.std.specs.Prelude.{◌≡◌, ◌-◌, ◌^◌, ◌<◌, map, IsTrue, IfSome};
+ghost use Rattle.std.specs.Prelude.{◌≡◌, ◌-◌, ◌^◌, ◌<◌, List, map, IsTrue, IfSome};
 ghost use Rattle.cc_io.specs.Wholes.{WriteAllCause};
 ghost use Rattle.cc_meta_modules.specs.ModuleLaws.{NamesOfDevicesDiffer};
 ghost use Rattle.cc_meta_modules.specs.PresentTexts.{ArePresent};
 ghost use Rattle.cc_mnf.specs.CoreModules.{device_names};
-ghost use Rattle.cc_replies.specs.Requests.{CheckModules, ShowSignature, ShowDerivation, RunDefinition, RunTasks, Ask, holding};
+ghost use Rattle.cc_replies.specs.Requests.{CheckModules, ShowSignature, ShowDerivation, RunDefinition, RunTasks, AuditDefinition, GuardDefinition, Ask, holding_under};
+ghost use Rattle.cc_policy.specs.declared.policy.Rule.{Rule};
 ghost use Rattle.capc.specs.Carried.{IsReplied};
 ghost use Rattle.capc.specs.Requests.{request_of, question_in};
 
 use crate::replies::write_reply;
-use crate::running::{Started, entry_reply, start_all, tasks_text};
+use crate::running::{Started, entry_reply, guarded_reply, start_all, tasks_text};
 use cc_base::code::Code;
 use cc_base::name::Name;
 use cc_io::{Sink, WriteAll};
 use cc_job::job::Command;
+use cc_policy::policy::Policy;
 use cc_print::Names;
 use cc_replies::derivations::{derive_refusal, derive_reply};
+use cc_replies::policies::{audit_refusal, audit_reply, guard_refusal};
 use cc_replies::runs::run_refusal;
 use cc_replies::signatures::{sig_refusal, sig_reply};
 use cc_replies::tasks::tasks_refusal;
@@ -30,7 +33,7 @@ use std::alloc::{AllocError, Global};
 fn show_verdicts<K: Sink>(alloc: Global, session: &Session, sink: &mut K) -> Result<bool, WriteAll>
     requires count { K.faults sink.old < 2 ^ 64 - 1 }
     requires checked { IsTrue session.now.checked }
-    ensures replied { IsReplied session.now.devices (holding session.now.present) (Ask CheckModules)
+    ensures replied { (rules : List Rule) → IsReplied session.now.devices (holding_under rules session.now.present) (Ask CheckModules)
         (K.written sink.old) (K.written sink.new) result }
     ensures cause { WriteAllCause (K.faults sink.old) (K.faults sink.new) result }
 {
@@ -50,7 +53,7 @@ fn show_signatures<K: Sink>(
     requires count { K.faults sink.old < 2 ^ 64 - 1 }
     requires checked { IsTrue session.now.checked }
     requires names { (names.now.names.items ≡ device_names session.now.devices) × (names.now.locals ≡ 0) }
-    ensures replied { IsReplied session.now.devices (holding session.now.present) (Ask (ShowSignature name.now))
+    ensures replied { (rules : List Rule) → IsReplied session.now.devices (holding_under rules session.now.present) (Ask (ShowSignature name.now))
         (K.written sink.old) (K.written sink.new) result }
     ensures cause { WriteAllCause (K.faults sink.old) (K.faults sink.new) result }
 {
@@ -72,7 +75,7 @@ fn show_derivation<K: Sink>(
     requires checked { IsTrue session.now.checked }
     requires differ { NamesOfDevicesDiffer session.now.devices }
     requires present { ArePresent session.now.present }
-    ensures replied { IsReplied session.now.devices (holding session.now.present) (Ask (ShowDerivation «module».now def.now))
+    ensures replied { (rules : List Rule) → IsReplied session.now.devices (holding_under rules session.now.present) (Ask (ShowDerivation «module».now def.now))
         (K.written sink.old) (K.written sink.new) result }
     ensures cause { WriteAllCause (K.faults sink.old) (K.faults sink.new) result }
 {
@@ -115,13 +118,13 @@ fn show_run<K: Sink>(
     requires differ { NamesOfDevicesDiffer session.now.devices }
     requires present { ArePresent session.now.present }
     requires names { (names.now.names.items ≡ device_names session.now.devices) × (names.now.locals ≡ 0) }
-    ensures replied { IsReplied session.now.devices (holding session.now.present) (Ask (RunDefinition «module».now def.now fuel))
+    ensures replied { (rules : List Rule) → IsReplied session.now.devices (holding_under rules session.now.present) (Ask (RunDefinition «module».now def.now fuel))
         (K.written sink.old) (K.written sink.new) result }
     ensures cause { WriteAllCause (K.faults sink.old) (K.faults sink.new) result }
 {
     match session.entry(module, def) {
         Ok(entry) => {
-            match entry_reply(alloc, names, session.devices(), module, def, fuel, &entry) {
+            match entry_reply(alloc, "run", names, session.devices(), module, def, fuel, &entry) {
                 Ok((text, refused)) => write_reply(sink, Ok(text), refused),
                 Err(AllocError) => Err(WriteAll::NoMemory),
             }
@@ -150,7 +153,7 @@ fn show_tasks<K: Sink>(
     requires differ { NamesOfDevicesDiffer session.now.devices }
     requires present { ArePresent session.now.present }
     requires names { (names.now.names.items ≡ device_names session.now.devices) × (names.now.locals ≡ 0) }
-    ensures replied { IsReplied session.now.devices (holding session.now.present) (Ask (RunTasks fuel schedule.now tasks.now))
+    ensures replied { (rules : List Rule) → IsReplied session.now.devices (holding_under rules session.now.present) (Ask (RunTasks fuel schedule.now tasks.now))
         (K.written sink.old) (K.written sink.new) result }
     ensures cause { WriteAllCause (K.faults sink.old) (K.faults sink.new) result }
 {
@@ -171,11 +174,92 @@ fn show_tasks<K: Sink>(
     }
 }
 
-/// Answers the question of the command, if it is one, and tells whether the reply is a refusal.
+// Writes what the policy decides for the definition of the module.
+fn show_audit<K: Sink>(
+    alloc: Global,
+    names: &Names,
+    session: &Session,
+    policy: &Policy,
+    module: &Name,
+    def: &Name,
+    sink: &mut K,
+) -> Result<bool, WriteAll>
+    requires count { K.faults sink.old < 2 ^ 64 - 1 }
+    requires checked { IsTrue session.now.checked }
+    requires differ { NamesOfDevicesDiffer session.now.devices }
+    requires present { ArePresent session.now.present }
+    requires names { (names.now.names.items ≡ device_names session.now.devices) × (names.now.locals ≡ 0) }
+    ensures replied { IsReplied session.now.devices (holding_under policy.now session.now.present) (Ask (AuditDefinition «module».now def.now))
+        (K.written sink.old) (K.written sink.new) result }
+    ensures cause { WriteAllCause (K.faults sink.old) (K.faults sink.new) result }
+{
+    match session.entry(module, def) {
+        Ok(entry) => write_reply(
+            sink,
+            audit_reply(alloc, module, def, &entry.module, &entry.authority, policy, names),
+            false,
+        ),
+        Err(EntryError::Refused(refused)) => write_reply(
+            sink,
+            audit_refusal(alloc, module, def, refused.code),
+            true,
+        ),
+        Err(EntryError::NoMemory) => Err(WriteAll::NoMemory),
+    }
+}
+
+// Runs the definition of the module, if the policy permits that, and writes what is told of the run.
+fn show_guarded<K: Sink>(
+    alloc: Global,
+    names: &Names,
+    session: &Session,
+    policy: &Policy,
+    module: &Name,
+    def: &Name,
+    fuel: u32,
+    sink: &mut K,
+) -> Result<bool, WriteAll>
+    requires count { K.faults sink.old < 2 ^ 64 - 1 }
+    requires checked { IsTrue session.now.checked }
+    requires differ { NamesOfDevicesDiffer session.now.devices }
+    requires present { ArePresent session.now.present }
+    requires names { (names.now.names.items ≡ device_names session.now.devices) × (names.now.locals ≡ 0) }
+    ensures replied { IsReplied session.now.devices (holding_under policy.now session.now.present) (Ask (GuardDefinition «module».now def.now fuel))
+        (K.written sink.old) (K.written sink.new) result }
+    ensures cause { WriteAllCause (K.faults sink.old) (K.faults sink.new) result }
+{
+    match session.entry(module, def) {
+        Ok(entry) => {
+            match guarded_reply(
+                alloc,
+                names,
+                session.devices(),
+                policy,
+                module,
+                def,
+                fuel,
+                &entry,
+            ) {
+                Ok((text, refused)) => write_reply(sink, Ok(text), refused),
+                Err(AllocError) => Err(WriteAll::NoMemory),
+            }
+        }
+        Err(EntryError::Refused(refused)) => write_reply(
+            sink,
+            guard_refusal(alloc, module, def, refused.code),
+            true,
+        ),
+        Err(EntryError::NoMemory) => Err(WriteAll::NoMemory),
+    }
+}
+
+/// Answers the question of the command, if it is one, where the policy is in force, and tells whether the reply is a
+/// refusal.
 pub fn answer_checked<K: Sink>(
     alloc: Global,
     names: &Names,
     session: &Session,
+    policy: &Policy,
     command: &Command,
     sink: &mut K,
 ) -> Result<bool, WriteAll>
@@ -185,12 +269,12 @@ pub fn answer_checked<K: Sink>(
     requires present { ArePresent session.now.present }
     requires names { (names.now.names.items ≡ device_names session.now.devices) × (names.now.locals ≡ 0) }
     ensures replied { IfSome (question_in (request_of command.now))
-        (λ question. IsReplied session.now.devices (holding session.now.present) (Ask question)
+        (λ question. IsReplied session.now.devices (holding_under policy.now session.now.present) (Ask question)
         (K.written sink.old) (K.written sink.new) result) }
     ensures cause { WriteAllCause (K.faults sink.old) (K.faults sink.new) result }
 {
     match command {
-        Command::Put(_, _) | Command::Drop(_) => Ok(false),
+        Command::Put(_, _) | Command::Drop(_) | Command::Verify(_) | Command::Policy(_) => Ok(false),
         Command::Check => show_verdicts(alloc, session, sink),
         Command::Sig(name) => show_signatures(alloc, names, session, name, sink),
         Command::Derive(module, def) => show_derivation(alloc, session, module, def, sink),
@@ -204,6 +288,19 @@ pub fn answer_checked<K: Sink>(
             *fuel,
             schedule.as_slice(),
             tasks.as_slice(),
+            sink,
+        ),
+        Command::Audit(module, def) => {
+            show_audit(alloc, names, session, policy, module, def, sink)
+        }
+        Command::Guard(module, def, fuel) => show_guarded(
+            alloc,
+            names,
+            session,
+            policy,
+            module,
+            def,
+            *fuel,
             sink,
         ),
     }

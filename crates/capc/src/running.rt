@@ -12,9 +12,11 @@ ghost use Rattle.cc_meta_runs.specs.Links.{program_start};
 ghost use Rattle.cc_meta_runs.specs.LinkLaws.{HaveShapes};
 ghost use Rattle.cc_meta_runs.specs.SoundRuns.{HasShapesOfCells};
 ghost use Rattle.cc_program.specs.Programs.{shapes_of, start_of};
-ghost use Rattle.cc_replies.specs.ReplyTexts.{reply_text, is_refusal};
-ghost use Rattle.cc_replies.specs.RunReplies.{declared_run, run_told, tasks_told};
-ghost use Rattle.capc.specs.Running.{AreStarted};
+ghost use Rattle.cc_mnf.specs.CoreModules.{device_names};
+ghost use Rattle.cc_replies.specs.PolicyReplies.{guard_told};
+ghost use Rattle.cc_replies.specs.ReplyTexts.{reply_text, is_refusal, is_unfinished};
+ghost use Rattle.cc_replies.specs.RunReplies.{declared_run, tasks_told};
+ghost use Rattle.capc.specs.Running.{AreStarted, entry_text};
 
 use cc_base::code::Code;
 use cc_base::device::DeviceDecl;
@@ -24,7 +26,9 @@ use cc_entry::Entry;
 use cc_link::link;
 use cc_machine::Machine;
 use cc_print::Names;
+use cc_policy::policy::Policy;
 use cc_program::Program;
+use cc_replies::policies::{are_allowed, guard_refusal};
 use cc_replies::runs::{is_cut_short, run_reply};
 use cc_replies::tasks::{tasks_cut_short, tasks_reply};
 use cc_session::entry::EntryError;
@@ -32,11 +36,13 @@ use cc_session::session::Session;
 use cc_tasks::run_tasks;
 use std::alloc::{AllocError, Global};
 
-/// The reply to a run of the definition, which has this entry, on the declared devices, and whether that is a refusal.
+/// The reply of this word to a run of the definition, which has this entry, on the declared devices, and whether that is
+/// a refusal.
 ///
 /// Fails only for want of memory, as which 2^32 cells count.
 pub fn entry_reply(
     alloc: Global,
+    word: &str,
     names: &Names,
     declared: &[DeviceDecl],
     module: &Name,
@@ -45,10 +51,9 @@ pub fn entry_reply(
     entry: &Entry,
 ) -> Result<(String, bool), AllocError>
     requires { entry.now.devices.items ≡ declared_bases declared.now }
-    ensures text { IfOk result (λ it. string_bytes it.0 ≡ reply_text names.now.names.items
-        (run_told «module».now def.now entry.now.authority.items (declared_run declared.now fuel (entry_of entry.now)))) }
-    ensures refused { IfOk result (λ it. it.1 ≡ is_refusal
-        (run_told «module».now def.now entry.now.authority.items (declared_run declared.now fuel (entry_of entry.now)))) }
+    ensures text { IfOk result (λ it. string_bytes it.0
+        ≡ entry_text word.now names.now.names.items «module».now def.now declared.now fuel (entry_of entry.now)) }
+    ensures refused { IfOk result (λ it. it.1 ≡ is_unfinished (declared_run declared.now fuel (entry_of entry.now)).ending) }
 {
     let program = link(alloc, entry)?;
     if !program.has_positions(fuel) {
@@ -58,8 +63,36 @@ pub fn entry_reply(
     let mut devices = Devices::new(alloc, declared)?;
     let mut machine = Machine::load(alloc, &program)?;
     let report = machine.run(alloc, &mut devices, fuel)?;
-    let text = run_reply(alloc, module, def, &entry.authority, &report, names)?;
+    let text = run_reply(alloc, word, module, def, &entry.authority, &report, names)?;
     Ok((text, is_cut_short(report.end)))
+}
+
+/// The reply to a guarded run of the definition, which has this entry, on the declared devices, which have the names, and
+/// whether that is a refusal: it runs if the policy permits it.
+///
+/// Fails only for want of memory, as which 2^32 cells count.
+pub fn guarded_reply(
+    alloc: Global,
+    names: &Names,
+    declared: &[DeviceDecl],
+    policy: &Policy,
+    module: &Name,
+    def: &Name,
+    fuel: u32,
+    entry: &Entry,
+) -> Result<(String, bool), AllocError>
+    requires devices { entry.now.devices.items ≡ declared_bases declared.now }
+    requires names { names.now.names.items ≡ device_names declared.now }
+    ensures text { IfOk result (λ it. string_bytes it.0 ≡ reply_text names.now.names.items
+        (guard_told declared.now policy.now «module».now def.now fuel (entry_of entry.now))) }
+    ensures refused { IfOk result (λ it. it.1 ≡ is_refusal (guard_told declared.now policy.now «module».now def.now fuel (entry_of entry.now))) }
+{
+    if are_allowed(policy, &entry.module, names, &entry.authority) {
+        entry_reply(alloc, "guard", names, declared, module, def, fuel, entry)
+    } else {
+        let text = guard_refusal(alloc, module, def, Code::E37)?;
+        Ok((text, true))
+    }
 }
 
 /// What comes of several definitions that are to be run together.

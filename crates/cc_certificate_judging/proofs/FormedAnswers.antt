@@ -14,10 +14,12 @@ use Rattle.cc_meta_validity.specs.Broken.{broken, broken_at, broken_among, claim
 use Rattle.cc_meta_validity.proofs.BrokenNodes.{valid_typings}
 use Rattle.cc_certificate_text.specs.Certificates.{CertificateNode, Line, States, Binding, Start, AllFit, rule_kind}
 use Rattle.cc_certificate_reading.specs.declared.certificate.Cert.{Cert}
-use Rattle.cc_certificate_reading.specs.Views.{bind_line_of, lines_of}
-use Rattle.cc_certificate_judging.specs.Judging.{NodeTree, Grown, is_in_scope, fits_place, claim_of_another_kind, claim_at, read_tree, read_trees, with_binds, bind_type, binds_of, IsJudged}
+use Rattle.cc_certificate_reading.specs.Views.{node_of, lines_of}
+use Rattle.cc_certificate_judging.specs.CertificateParts.{CertificateBind, bind_line, parts_lines, bound_context}
+use Rattle.cc_certificate_judging.specs.Judging.{NodeTree, Grown, is_in_scope, fits_place, claim_of_another_kind, claim_at, read_tree, read_trees, with_binds, binds_of, IsValidAt, IsJudged}
 use Rattle.cc_certificate_judging.specs.JudgedResults.{OnJudgement}
 use Rattle.cc_certificate_judging.specs.declared.error.JudgeError.{JudgeError}
+use Rattle.cc_certificate_judging.proofs.PartsTrees.{plain_bind, cert_lines, cert_context}
 use Rattle.cc_certificate_judging.proofs.JudgedTypes.{claims_of_another_kind_fit_no_place, judged_types_are_given}
 
 both_hold : (a b : Bool) → a ≡ true → b ≡ true → (a && b) ≡ true
@@ -67,28 +69,37 @@ root_formed context term (Grown rule first claim premises) type valid is =
     (λ no. misfit_breaks context term rule above own (else_other test _ (claim_of_another_kind (rule_kind rule)) no) whole) is
 
 -- so are the binds and the term of a certificate
-formed_binds : (binds : List (List ℕ × Ty)) (names : List (List ℕ)) (context : Context) (rest : List Line)
-    → IsWellFormedContext context → AllFit (Binding names context) (map bind_line_of binds ++ rest)
-    → IsWellFormedContext (with_binds context (map bind_type binds))
+formed_binds : (binds : List CertificateBind) (names : List (List ℕ)) (context : Context) (rest : List Line)
+    → IsWellFormedContext context → AllFit (Binding names context) (map bind_line binds ++ rest)
+    → IsWellFormedContext (with_binds context (map (λ bind. bind.1) binds))
 formed_binds [] names context rest formed fit = formed
 formed_binds (bind ∷ binds) names context rest formed fit =
-    formed_binds binds (names ++ bind.0 ∷ []) (entry_of (type_of bind.1) ∷ context) rest (both_hold _ _ fit.0.2 formed) fit.1
+    formed_binds binds (names ++ bind.0 ∷ []) (entry_of bind.1 ∷ context) rest (both_hold _ _ fit.0.2 formed) fit.1
 
-formed_term : (binds : List (List ℕ × Ty)) (names : List (List ℕ)) (context : Context) (term : Term) (rest : List Line)
-    → AllFit (Binding names context) (map bind_line_of binds ++ States term ∷ rest)
-    → IsWellFormedTerm (with_binds context (map bind_type binds)) term
+formed_term : (binds : List CertificateBind) (names : List (List ℕ)) (context : Context) (term : Term) (rest : List Line)
+    → AllFit (Binding names context) (map bind_line binds ++ States term ∷ rest)
+    → IsWellFormedTerm (with_binds context (map (λ bind. bind.1) binds)) term
 formed_term [] names context term rest fit = fit.0.0
 formed_term (bind ∷ binds) names context term rest fit =
-    formed_term binds (names ++ bind.0 ∷ []) (entry_of (type_of bind.1) ∷ context) term rest fit.1
+    formed_term binds (names ++ bind.0 ∷ []) (entry_of bind.1 ∷ context) term rest fit.1
 
--- the term has the type that is answered
-pub has_type : (cert : Cert) (nodes : List CertificateNode) (result : Result Ty JudgeError)
-    → AllFit Start (lines_of cert) → OnJudgement (IsJudged (binds_of cert) (term_of cert.term.value) nodes) result
-    → IfOk result (λ ty. HasType (binds_of cert) (term_of cert.term.value) (type_of ty))
-has_type cert nodes (Ok type) fit j = record {
-  context_formed = formed_binds cert.binds.items [] [] _ refl fit.1;
-  term_formed = formed_term cert.binds.items [] [] (term_of cert.term.value) _ fit.1;
-  type_formed = root_formed (binds_of cert) (term_of cert.term.value) j.tree (type_of type) j.told.0 j.told.1;
-  typing = judged_types_are_given (binds_of cert) (term_of cert.term.value) nodes (type_of type) j;
+-- the term has the type at which it is judged to be valid
+pub parts_have_type : (binds : List CertificateBind) (term : Term) (nodes : List CertificateNode) (type : CapturingType)
+    → AllFit Start (parts_lines binds term nodes) → IsJudged (bound_context binds) term nodes (IsValidAt type)
+    → HasType (bound_context binds) term type
+parts_have_type binds term nodes type fit j = record {
+  context_formed = formed_binds binds [] [] _ refl fit.1;
+  term_formed = formed_term binds [] [] term _ fit.1;
+  type_formed = root_formed (bound_context binds) term j.tree type j.told.0 j.told.1;
+  typing = judged_types_are_given (bound_context binds) term nodes type j;
 }
-has_type cert nodes (Err error) fit j = tt
+
+pub has_type : (cert : Cert) (result : Result Ty JudgeError) → AllFit Start (lines_of cert)
+    → OnJudgement (IsJudged (binds_of cert) (term_of cert.term.value) (map node_of cert.nodes.items)) result
+    → IfOk result (λ ty. HasType (binds_of cert) (term_of cert.term.value) (type_of ty))
+has_type cert (Ok type) fit j =
+    subst (λ g. HasType g (term_of cert.term.value) (type_of type)) (sym (cert_context cert))
+    (parts_have_type (map plain_bind cert.binds.items) (term_of cert.term.value) (map node_of cert.nodes.items) (type_of type)
+    (subst (AllFit Start) (cert_lines cert) fit)
+    (subst (λ g. IsJudged g (term_of cert.term.value) (map node_of cert.nodes.items) (IsValidAt (type_of type))) (cert_context cert) j))
+has_type cert (Err error) fit j = tt

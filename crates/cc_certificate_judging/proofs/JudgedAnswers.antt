@@ -3,7 +3,7 @@ use Rattle.std.proofs.Common.{◌≡◌, ℕ, ◌+◌, ◌<◌, ◌≤◌, ◌^�
 use mathlib.Core.List.{reverse}
 use Rattle.std.proofs.lemmas.List.{append-nil, reverse-reverse, at_drop_more}
 use Rattle.cc_core.specs.declared.types.Ty.{Ty}
-use Rattle.cc_core.specs.Views.{type_of}
+use Rattle.cc_core.specs.Views.{type_of, term_of}
 use Rattle.cc_core.specs.Shapes.{CapturingType}
 use Rattle.cc_core.specs.Terms.{Term}
 use Rattle.cc_core.specs.Contexts.{Context, entry_of}
@@ -15,16 +15,15 @@ use Rattle.cc_derivation.specs.declared.derivation.Claim.TheVariants as claims
 use Rattle.cc_meta_validity.specs.Rows.{TypeOf}
 use Rattle.cc_meta_validity.specs.Broken.{broken}
 use Rattle.cc_sets.specs.DerivationSizes.{nodes}
-use Rattle.cc_certificate_text.specs.Certificates.{CertificateNode, Line, Concludes as LineConcludes, Start, Binding, Proving, AllFit, IsWhole, behind_lines}
-use Rattle.cc_certificate_reading.specs.declared.certificate.CertNode.{CertNode}
+use Rattle.cc_certificate_text.specs.Certificates.{CertificateNode, Line, Start, AllFit, IsWhole, behind_lines}
 use Rattle.cc_certificate_reading.specs.declared.certificate.Cert.{Cert}
-use Rattle.cc_certificate_reading.specs.Views.{node_of, node_line_of, bind_line_of, lines_of}
+use Rattle.cc_certificate_reading.specs.Views.{node_of, lines_of}
 use Rattle.cc_certificate_judging.specs.Judging.{NodeTree, listed, read_tree, with_binds, bind_type, Judgement, IsValidAt, IsBadNode, IsAnswer, IsJudged}
 use Rattle.cc_certificate_judging.specs.JudgedResults.{OnJudgement}
 use Rattle.cc_certificate_judging.specs.declared.error.JudgeError.{JudgeError}
 use Rattle.cc_certificate_judging.specs.declared.error.JudgeError.TheVariants.{NoMemory, BadNode}
 use Rattle.cc_certificate_judging.specs.Passes.{PlainReadNode, AreRead, Builds}
-use Rattle.cc_certificate_judging.proofs.GrownTrees.{certificate_tree, few_nodes}
+use Rattle.cc_certificate_judging.proofs.PartsTrees.{parts_tree, parts_nodes, plain_bind, cert_lines}
 use Rattle.cc_certificate_judging.proofs.PassesOnce.{are_read_once, builds_once}
 use Rattle.cc_certificate_judging.proofs.TreePasses.{reads_of, tree_is_read, tree_builds, nodes-read_tree, length-listed}
 
@@ -50,41 +49,18 @@ pub whole_concludes : (context : Context) (term : Term) (derivation : Derivation
     → (type : CapturingType) × Concludes derivation (OfType type)
 whole_concludes context term (Node rule premises claim) whole = concludes_type 0 context term rule premises claim whole
 
--- what the lines of binds leave for those behind them
-pub record Behind (names : List (List ℕ)) (context : Context) (lines rest : List Line) : Type 0 where
-  pub later : List (List ℕ)
-  pub inner : Context
-  pub fit : AllFit (Binding later inner) rest
-  pub stage : behind_lines (Binding names context) lines ≡ behind_lines (Binding later inner) rest
-
-behind_binds : (binds : List (List ℕ × Ty)) (names : List (List ℕ)) (context : Context) (rest : List Line)
-    → AllFit (Binding names context) (map bind_line_of binds ++ rest) → Behind names context (map bind_line_of binds ++ rest) rest
-behind_binds [] names context rest fit = record { later = names; inner = context; fit = fit; stage = refl }
-behind_binds (bind ∷ binds) names context rest fit =
-    let b = behind_binds binds (names ++ bind.0 ∷ []) (entry_of (type_of bind.1) ∷ context) rest fit.1 in
-    record { later = b.later; inner = b.inner; fit = b.fit; stage = b.stage }
-
-node_lines : (ns : List CertNode) → map node_line_of ns ≡ map LineConcludes (map node_of ns)
-node_lines [] = refl
-node_lines (n ∷ ns) = ap (λ l. LineConcludes (node_of n) ∷ l) (node_lines ns)
-
 -- the nodes of a certificate in the program are those of a tree, and not too many
 pub cert_tree : (cert : Cert) → AllFit Start (lines_of cert) → IsWhole (behind_lines Start (lines_of cert))
     → (tree : NodeTree) × (listed 0 tree ≡ map node_of cert.nodes.items)
 cert_tree cert fit whole =
-    let b = behind_binds cert.binds.items [] [] _ fit.1 in
-    let e = node_lines cert.nodes.items in
-    certificate_tree b.later (map node_of cert.nodes.items)
-    (subst (λ (l : List Line). AllFit (Proving b.later 0 []) l) e b.fit.1)
-    (subst (λ (l : List Line). IsWhole (behind_lines (Proving b.later 0 []) l)) e (subst IsWhole b.stage whole))
+    parts_tree (map plain_bind cert.binds.items) (term_of cert.term.value) (map node_of cert.nodes.items)
+    (subst (AllFit Start) (cert_lines cert) fit)
+    (subst (λ (l : List Line). IsWhole (behind_lines Start l)) (cert_lines cert) whole)
 
 pub cert_nodes : (cert : Cert) → AllFit Start (lines_of cert) → length (map node_of cert.nodes.items) ≤ 100000
 cert_nodes cert fit =
-    let b = behind_binds cert.binds.items [] [] _ fit.1 in
-    let few : 0 + length (map node_of cert.nodes.items) ≤ 100000 =
-    few_nodes b.later (map node_of cert.nodes.items) 0 [] (omega arith)
-    (subst (λ (l : List Line). AllFit (Proving b.later 0 []) l) (node_lines cert.nodes.items) b.fit.1) in
-    omega arith
+    parts_nodes (map plain_bind cert.binds.items) (term_of cert.term.value) (map node_of cert.nodes.items)
+    (subst (AllFit Start) (cert_lines cert) fit)
 
 -- the derivation of a tree with so many nodes
 pub few_in_tree : (names : ℕ) (kinds : List Kind) (tree : NodeTree) (ns : List CertificateNode) (d : Derivation)

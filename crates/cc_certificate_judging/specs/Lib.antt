@@ -1,6 +1,11 @@
+pub mod AnswerExamples
+pub mod AnswerLaws
+pub mod Answers
+pub mod CertificateParts
 pub mod JudgedResults
 pub mod Judging
 pub mod JudgingExamples
 pub mod JudgingLaws
 pub mod PassViews
 pub mod Passes
+pub mod ToldAnswers

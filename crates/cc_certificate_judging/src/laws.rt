@@ -1,4 +1,6 @@
 //! The functions do nothing. Their contracts are theorems.
+ghost use Rattle.cc_certificate_judging.specs.AnswerExamples as answer;
+ghost use Rattle.cc_certificate_judging.specs.AnswerLaws as answer_law;
 ghost use Rattle.cc_certificate_judging.specs.JudgingExamples as example;
 ghost use Rattle.cc_certificate_judging.specs.JudgingLaws as law;
 
@@ -48,4 +50,20 @@ pub fn judgements()
     ensures some { law.CertificatesAreJudged }
     ensures trees { law.TreesAreJudged }
     ensures one { law.JudgementsAreOne }
+{}
+
+/// What is found of a certificate of the identity, whole, with a type that is changed, with a wrong premise, and without a
+/// node; and of no bytes.
+pub fn worked_answers()
+    ensures valid { answer.IdentityIsValid }
+    ensures node { answer.WrongTypeIsABadNode }
+    ensures premise { answer.WrongPremiseIsABadLine }
+    ensures no_node { answer.NoNodeIsABadLine }
+    ensures nothing { answer.NothingIsABadLine }
+{}
+
+/// Something is found of any bytes, and one thing alone.
+pub fn findings()
+    ensures some { answer_law.SomethingIsFound }
+    ensures one { answer_law.OneThingIsFound }
 {}

@@ -13,13 +13,14 @@ use Rattle.cc_base.specs.declared.device.DeviceDecl.{DeviceDecl}
 use Rattle.cc_base.specs.declared.device.Kind.{Kind}
 use Rattle.cc_base.specs.declared.device.Kind.TheVariants.{Console, File, Counter}
 use Rattle.cc_job.specs.declared.job.Command.{Command}
-use Rattle.cc_job.specs.declared.job.Command.TheVariants.{Put, Drop, Check, Sig, Derive, Run, Tasks}
+use Rattle.cc_policy.specs.declared.policy.Rule.{Rule}
+use Rattle.cc_job.specs.declared.job.Command.TheVariants.{Put, Drop, Check, Sig, Derive, Run, Tasks, Verify, Policy, Audit, Guard}
 use Rattle.cc_job.specs.declared.head.Head.{Head}
-use Rattle.cc_job.specs.declared.head.Head.TheVariants.{Device, Put as PutHead, Command as CommandHead}
+use Rattle.cc_job.specs.declared.head.Head.TheVariants.{Device, Put as PutHead, Verify as VerifyHead, Policy as PolicyHead, Command as CommandHead}
 use Rattle.cc_words.specs.Words.{joined, pair_text, has_64_bits, IsPair, ◌>>=◌, split_at, first_and_rest, one_of, two_of, name_of, number_of, signed_of, all_of, pair_of}
 use Rattle.cc_words.specs.Lines.{Line, lines_of, AreWholeLines}
-use Rattle.cc_job.specs.Jobs.{Item, Declares, Commands, kind_words, command_words, item_words, command_text, item_text, IsKind, covers, IsSchedule, IsCommand, IsItem}
-use Rattle.cc_job.specs.Reading.{is_schedule, schedule_of, turns_of, file_of, kind_with, kind_of, device_of, put_of, drop_of, check_of, sig_of, derive_of, run_of, tasks_of, command_with, head_with, head_of, text_size}
+use Rattle.cc_job.specs.Jobs.{Item, Declares, Commands, kind_words, command_words, item_words, command_text, item_text, command_rules, item_rules, IsKind, covers, IsSchedule, IsRule, IsCommand, IsItem}
+use Rattle.cc_job.specs.Reading.{is_schedule, schedule_of, turns_of, file_of, kind_with, kind_of, device_of, put_of, verify_of, policy_of, drop_of, check_of, sig_of, derive_of, run_of, tasks_of, audit_of, guard_of, command_with, head_with, head_of, text_size, rule_count}
 use Rattle.cc_words.proofs.Steps.{some_from_bind, passed, both, name_of_gives}
 use Rattle.cc_words.proofs.NameBytes.{name_of-encoded, Lacks-name}
 use Rattle.cc_words.proofs.Splits.{AllLack, Lacks-test, Lacks-joined, split_at-joined, joined-split_at}
@@ -29,16 +30,16 @@ use Rattle.cc_words.proofs.Numbers.{Lacks-decimal, Lacks-signed, number_of_gives
 leb_holds : (m n : ℕ) → m ≤ n → nat_le m n ≡ true
 leb_holds m n h = grind (arith, nat_tests)
 
-some_same : {A : Type 0} (x y : A) → Some x ≡ Some y → x ≡ y
+pub some_same : {A : Type 0} (x y : A) → Some x ≡ Some y → x ≡ y
 some_same x y e = ap (λ o. unwrap_or o x) e
 
 -- a choice that gave something
-choice : {A : Type 0} (b : Bool) (o p : Option A) (x : A) → cond b o p ≡ Some x → ((b ≡ true) × (o ≡ Some x)) ⊎ ((b ≡ false) × (p ≡ Some x))
+pub choice : {A : Type 0} (b : Bool) (o p : Option A) (x : A) → cond b o p ≡ Some x → ((b ≡ true) × (o ≡ Some x)) ⊎ ((b ≡ false) × (p ≡ Some x))
 choice true o p x h = inl (refl, h)
 choice false o p x h = inr (refl, h)
 
 -- a word that is the one that is asked for
-is_word : (word asked : List ℕ) → bytes_eq word asked ≡ true → word ≡ asked
+pub is_word : (word asked : List ℕ) → bytes_eq word asked ≡ true → word ≡ asked
 is_word word asked h = (bytes_eq-Decides word asked).0 h
 
 one_of_gives : (words : List (List ℕ)) (word : List ℕ) → one_of words ≡ Some word → words ≡ word ∷ []
@@ -46,7 +47,7 @@ one_of_gives [] word h = cc
 one_of_gives (x ∷ []) word h = ap (λ w. w ∷ []) (some_same x word h)
 one_of_gives (x ∷ y ∷ words) word h = cc
 
-first_gives : (words : List (List ℕ)) (split : List ℕ × List (List ℕ)) → first_and_rest words ≡ Some split → words ≡ split.0 ∷ split.1
+pub first_gives : (words : List (List ℕ)) (split : List ℕ × List (List ℕ)) → first_and_rest words ≡ Some split → words ≡ split.0 ∷ split.1
 first_gives [] split h = cc
 first_gives (x ∷ words) split h = ap (λ it. it.0 ∷ it.1) (some_same (x, words) split h)
 
@@ -55,6 +56,7 @@ record Says (words : List (List ℕ)) (command : Command) : Type 0 where
   is : IsCommand command
   spelled : words ≡ command_words command
   bare : command_text command ≡ []
+  unruled : command_rules command ≡ []
 
 drop_gives : (words : List (List ℕ)) (command : Command) → drop_of words ≡ Some command → Says (codes "drop" ∷ words) command
 unfolding drop_of
@@ -63,7 +65,7 @@ drop_gives words command h =
     let named = some_from_bind (name_of one.0) (λ name. Some (Drop name)) command one.2 in
     let name = name_of_gives one.0 named.0 named.1 in
     subst (Says (codes "drop" ∷ words)) (some_same (Drop named.0) command named.2)
-    (record { is = name.0; spelled = ap (λ ws. codes "drop" ∷ ws) (one_of_gives words one.0 one.1 ∙ ap (λ w. w ∷ []) name.1); bare = refl })
+    (record { is = name.0; spelled = ap (λ ws. codes "drop" ∷ ws) (one_of_gives words one.0 one.1 ∙ ap (λ w. w ∷ []) name.1); bare = refl; unruled = refl })
 
 sig_gives : (words : List (List ℕ)) (command : Command) → sig_of words ≡ Some command → Says (codes "sig" ∷ words) command
 unfolding sig_of
@@ -72,12 +74,12 @@ sig_gives words command h =
     let named = some_from_bind (name_of one.0) (λ name. Some (Sig name)) command one.2 in
     let name = name_of_gives one.0 named.0 named.1 in
     subst (Says (codes "sig" ∷ words)) (some_same (Sig named.0) command named.2)
-    (record { is = name.0; spelled = ap (λ ws. codes "sig" ∷ ws) (one_of_gives words one.0 one.1 ∙ ap (λ w. w ∷ []) name.1); bare = refl })
+    (record { is = name.0; spelled = ap (λ ws. codes "sig" ∷ ws) (one_of_gives words one.0 one.1 ∙ ap (λ w. w ∷ []) name.1); bare = refl; unruled = refl })
 
 check_gives : (words : List (List ℕ)) (command : Command) → check_of words ≡ Some command → Says (codes "check" ∷ words) command
 unfolding check_of
 check_gives [] command h =
-    subst (Says (codes "check" ∷ [])) (some_same Check command h) (record { is = tt; spelled = refl; bare = refl })
+    subst (Says (codes "check" ∷ [])) (some_same Check command h) (record { is = tt; spelled = refl; bare = refl; unruled = refl })
 check_gives (word ∷ words) command h = cc
 
 derive_gives : (words : List (List ℕ)) (command : Command) → derive_of words ≡ Some command → Says (codes "derive" ∷ words) command
@@ -87,7 +89,7 @@ derive_gives words command h =
     let found = some_from_bind (pair_of one.0) (λ pair. Some (Derive pair.0 pair.1)) command one.2 in
     let pair = pair_of_gives one.0 found.0 found.1 in
     subst (Says (codes "derive" ∷ words)) (some_same (Derive found.0.0 found.0.1) command found.2)
-    (record { is = pair.0; spelled = ap (λ ws. codes "derive" ∷ ws) (one_of_gives words one.0 one.1 ∙ ap (λ w. w ∷ []) pair.1); bare = refl })
+    (record { is = pair.0; spelled = ap (λ ws. codes "derive" ∷ ws) (one_of_gives words one.0 one.1 ∙ ap (λ w. w ∷ []) pair.1); bare = refl; unruled = refl })
 
 run_gives : (words : List (List ℕ)) (command : Command) → run_of words ≡ Some command → Says (codes "run" ∷ words) command
 unfolding run_of
@@ -103,6 +105,7 @@ run_gives words command h =
       is = (pair.0, number.0);
       spelled = ap (λ ws. codes "run" ∷ ws) (words_are ∙ (ap (λ w. w ∷ two.0.1 ∷ []) pair.1 ∙ ap (λ w. pair_text found.0 ∷ w ∷ []) number.1));
       bare = refl;
+      unruled = refl;
     })
 
 -- a schedule
@@ -148,6 +151,7 @@ turns_give fuel numbers words command low h =
           is = (low, subst (λ n. IsSchedule n schedule.0) same turns.0, each.0, subst (λ n. 1 ≤ n) same some, subst (λ n. n ≤ 8) same few);
           spelled = ap (λ it. codes "tasks" ∷ decimal fuel ∷ it ∷ words) turns.1 ∙ ap (λ it. codes "tasks" ∷ decimal fuel ∷ joined 44 (map decimal schedule.0) ∷ it) each.1;
           bare = refl;
+          unruled = refl;
         })
 
 tasks_gives : (words : List (List ℕ)) (command : Command) → tasks_of words ≡ Some command → Says (codes "tasks" ∷ words) command
@@ -160,6 +164,32 @@ tasks_gives words command h =
     let words_are = first_gives words split.0 split.1 ∙ (ap (λ ws. split.0.0 ∷ ws) (first_gives split.0.1 behind.0 behind.1) ∙ ap (λ w. w ∷ behind.0.0 ∷ behind.0.1) number.1) in
     subst (λ ws. Says (codes "tasks" ∷ ws) command) (sym words_are) (turns_give fuel.0 behind.0.0 behind.0.1 command number.0 behind.2)
 
+audit_gives : (words : List (List ℕ)) (command : Command) → audit_of words ≡ Some command → Says (codes "audit" ∷ words) command
+unfolding audit_of
+audit_gives words command h =
+    let one = some_from_bind (one_of words) (λ word. pair_of word >>= λ pair. Some (Audit pair.0 pair.1)) command h in
+    let found = some_from_bind (pair_of one.0) (λ pair. Some (Audit pair.0 pair.1)) command one.2 in
+    let pair = pair_of_gives one.0 found.0 found.1 in
+    subst (Says (codes "audit" ∷ words)) (some_same (Audit found.0.0 found.0.1) command found.2)
+    (record { is = pair.0; spelled = ap (λ ws. codes "audit" ∷ ws) (one_of_gives words one.0 one.1 ∙ ap (λ w. w ∷ []) pair.1); bare = refl; unruled = refl })
+
+guard_gives : (words : List (List ℕ)) (command : Command) → guard_of words ≡ Some command → Says (codes "guard" ∷ words) command
+unfolding guard_of
+guard_gives words command h =
+    let two = some_from_bind (two_of words) (λ two. pair_of two.0 >>= λ pair. number_of 1000000 two.1 >>= λ fuel. Some (Guard pair.0 pair.1 fuel)) command h in
+    let found = some_from_bind (pair_of two.0.0) (λ pair. number_of 1000000 two.0.1 >>= λ fuel. Some (Guard pair.0 pair.1 fuel)) command two.2 in
+    let fuel = some_from_bind (number_of 1000000 two.0.1) (λ fuel. Some (Guard found.0.0 found.0.1 fuel)) command found.2 in
+    let pair = pair_of_gives two.0.0 found.0 found.1 in
+    let number = number_of_gives 1000000 two.0.1 fuel.0 (omega arith) fuel.1 in
+    let words_are = two_of_gives words two.0.0 two.0.1 two.1 in
+    subst (Says (codes "guard" ∷ words)) (some_same (Guard found.0.0 found.0.1 fuel.0) command fuel.2)
+    (record {
+      is = (pair.0, number.0);
+      spelled = ap (λ ws. codes "guard" ∷ ws) (words_are ∙ (ap (λ w. w ∷ two.0.1 ∷ []) pair.1 ∙ ap (λ w. pair_text found.0 ∷ w ∷ []) number.1));
+      bare = refl;
+      unruled = refl;
+    })
+
 command_gives : (word : List ℕ) (words : List (List ℕ)) (command : Command) → command_with word words ≡ Some command → Says (word ∷ words) command
 unfolding command_with
 command_gives word words command h =
@@ -168,8 +198,12 @@ command_gives word words command h =
     ⊎_elim (λ it. by (codes "sig") it.0 (sig_gives words command it.1)) (λ it.
     ⊎_elim (λ it. by (codes "derive") it.0 (derive_gives words command it.1)) (λ it.
     ⊎_elim (λ it. by (codes "run") it.0 (run_gives words command it.1)) (λ it.
-    ⊎_elim (λ it. by (codes "tasks") it.0 (tasks_gives words command it.1)) (λ it. clash it.1)
-    (choice (bytes_eq word (codes "tasks")) (tasks_of words) None command it.1))
+    ⊎_elim (λ it. by (codes "tasks") it.0 (tasks_gives words command it.1)) (λ it.
+    ⊎_elim (λ it. by (codes "audit") it.0 (audit_gives words command it.1)) (λ it.
+    ⊎_elim (λ it. by (codes "guard") it.0 (guard_gives words command it.1)) (λ it. clash it.1)
+    (choice (bytes_eq word (codes "guard")) (guard_of words) None command it.1))
+    (choice (bytes_eq word (codes "audit")) (audit_of words) _ command it.1))
+    (choice (bytes_eq word (codes "tasks")) (tasks_of words) _ command it.1))
     (choice (bytes_eq word (codes "run")) (run_of words) _ command it.1))
     (choice (bytes_eq word (codes "derive")) (derive_of words) _ command it.1))
     (choice (bytes_eq word (codes "sig")) (sig_of words) _ command it.1))
@@ -223,11 +257,13 @@ kind_gives words kind h =
         (choice (not (nat_le (length rest) 0)) None _ kind it.1))
         (choice (bytes_eq word (codes "file")) (option_map File (all_of signed_of rest)) _ kind e)
 
--- what a line and the text behind it say
-abbrev pub item_from : Head → List ℕ → Item
-item_from (Device device) text = Declares device
-item_from (PutHead name count) text = Commands (Put name text)
-item_from (CommandHead command) text = Commands command
+-- what a line and the text and the rules behind it say
+abbrev pub item_from : Head → List ℕ → List Rule → Item
+item_from (Device device) text rules = Declares device
+item_from (PutHead name count) text rules = Commands (Put name text)
+item_from (VerifyHead count) text rules = Commands (Verify text)
+item_from (PolicyHead count) text rules = Commands (Policy rules)
+item_from (CommandHead command) text rules = Commands command
 
 -- what the line of an item says
 abbrev pub command_head : Command → Head
@@ -238,12 +274,16 @@ command_head (Sig name) = CommandHead (Sig name)
 command_head (Derive owner definition) = CommandHead (Derive owner definition)
 command_head (Run owner definition fuel) = CommandHead (Run owner definition fuel)
 command_head (Tasks fuel schedule entries) = CommandHead (Tasks fuel schedule entries)
+command_head (Verify text) = VerifyHead (length (lines_of text))
+command_head (Policy rules) = PolicyHead (length rules)
+command_head (Audit owner definition) = CommandHead (Audit owner definition)
+command_head (Guard owner definition fuel) = CommandHead (Guard owner definition fuel)
 
 abbrev pub head_for : Item → Head
 head_for (Declares device) = Device device
 head_for (Commands command) = command_head command
 
-command_from : (command : Command) → item_from (command_head command) (command_text command) ≡ Commands command
+command_from : (command : Command) → item_from (command_head command) (command_text command) (command_rules command) ≡ Commands command
 command_from (Put name text) = refl
 command_from (Drop name) = refl
 command_from Check = refl
@@ -251,9 +291,13 @@ command_from (Sig name) = refl
 command_from (Derive owner definition) = refl
 command_from (Run owner definition fuel) = refl
 command_from (Tasks fuel schedule entries) = refl
+command_from (Verify text) = refl
+command_from (Policy rules) = refl
+command_from (Audit owner definition) = refl
+command_from (Guard owner definition fuel) = refl
 
--- an item is what its line and the text behind say
-pub item_from-head : (item : Item) → item_from (head_for item) (item_text item) ≡ item
+-- an item is what its line and the text and the rules behind say
+pub item_from-head : (item : Item) → item_from (head_for item) (item_text item) (item_rules item) ≡ item
 item_from-head (Declares device) = refl
 item_from-head (Commands command) = command_from command
 
@@ -265,29 +309,55 @@ command_size (Sig name) = refl
 command_size (Derive owner definition) = refl
 command_size (Run owner definition fuel) = refl
 command_size (Tasks fuel schedule entries) = refl
+command_size (Verify text) = refl
+command_size (Policy rules) = refl
+command_size (Audit owner definition) = refl
+command_size (Guard owner definition fuel) = refl
 
--- the line says how many lines stand behind it
+-- the line says how many lines of text stand behind it
 pub text_size-head : (item : Item) → length (lines_of (item_text item)) ≡ text_size (head_for item)
 text_size-head (Declares device) = refl
 text_size-head (Commands command) = command_size command
 
--- the line is that of the item which it says with the text
-pub record IsLineOf (line : Line) (head : Head) (text : List ℕ) : Type 0 where
-  pub item : IsItem (item_from head text)
-  pub spelled : line ≡ joined 32 (item_words (item_from head text))
-  pub texts : item_text (item_from head text) ≡ text
+command_count : (command : Command) → length (command_rules command) ≡ rule_count (command_head command)
+command_count (Put name text) = refl
+command_count (Drop name) = refl
+command_count Check = refl
+command_count (Sig name) = refl
+command_count (Derive owner definition) = refl
+command_count (Run owner definition fuel) = refl
+command_count (Tasks fuel schedule entries) = refl
+command_count (Verify text) = refl
+command_count (Policy rules) = refl
+command_count (Audit owner definition) = refl
+command_count (Guard owner definition fuel) = refl
+
+-- and how many rules
+pub rule_count-head : (item : Item) → length (item_rules item) ≡ rule_count (head_for item)
+rule_count-head (Declares device) = refl
+rule_count-head (Commands command) = command_count command
+
+-- the line is that of the item which it says with the text and the rules
+pub record IsLineOf (line : Line) (head : Head) (text : List ℕ) (rules : List Rule) : Type 0 where
+  pub item : IsItem (item_from head text rules)
+  pub spelled : line ≡ joined 32 (item_words (item_from head text rules))
+  pub texts : item_text (item_from head text rules) ≡ text
+  pub ruled : item_rules (item_from head text rules) ≡ rules
+
+pub no_length : {A : Type 0} (xs : List A) → length xs ≡ 0 → xs ≡ []
+no_length [] e = refl
+no_length (x ∷ xs) e = absurd (omega arith)
 
 no_lines : (text : List ℕ) → AreWholeLines text → length (lines_of text) ≡ 0 → text ≡ []
-no_lines text whole none = sym (terminated-lines_of text whole) ∙ ap terminated (empty (lines_of text) none)
-  where
-    empty : (lines : List Line) → length lines ≡ 0 → lines ≡ []
-    empty [] e = refl
-    empty (line ∷ lines) e = absurd (omega arith)
+no_lines text whole none = sym (terminated-lines_of text whole) ∙ ap terminated (no_length (lines_of text) none)
 
-module _ (text : List ℕ) (whole : AreWholeLines text) where
+module _ (text : List ℕ) (whole : AreWholeLines text) (rules : List Rule) (are : AllByRecursion IsRule rules) where
   -- the words are those of the item
   HeadWords : List (List ℕ) → Head → Type 0
-  HeadWords words head = (length (lines_of text) ≡ text_size head → IsItem (item_from head text) × (words ≡ item_words (item_from head text)) × (item_text (item_from head text) ≡ text))
+  HeadWords words head =
+      (length (lines_of text) ≡ text_size head → length rules ≡ rule_count head
+      → IsItem (item_from head text rules) × (words ≡ item_words (item_from head text rules))
+      × (item_text (item_from head text rules) ≡ text) × (item_rules (item_from head text rules) ≡ rules))
 
   device_gives : (words : List (List ℕ)) (head : Head) → device_of words ≡ Some head → HeadWords (codes "device" ∷ words) head
   unfolding device_of HeadWords
@@ -298,7 +368,7 @@ module _ (text : List ℕ) (whole : AreWholeLines text) where
       let named = name_of_gives split.0.0 name.0 name.1 in
       let kinds = kind_gives split.0.1 kind.0 kind.1 in
       subst (HeadWords (codes "device" ∷ words)) (some_same (Device (record { name = name.0; kind = kind.0 })) head kind.2)
-      (λ size. ((named.0, kinds.0), ap (λ ws. codes "device" ∷ ws) (first_gives words split.0 split.1 ∙ (ap (λ w. w ∷ split.0.1) named.1 ∙ ap (λ ws. encode_utf8_all name.0 ∷ ws) kinds.1)), sym (no_lines text whole size)))
+      (λ size many. ((named.0, kinds.0), ap (λ ws. codes "device" ∷ ws) (first_gives words split.0 split.1 ∙ (ap (λ w. w ∷ split.0.1) named.1 ∙ ap (λ ws. encode_utf8_all name.0 ∷ ws) kinds.1)), sym (no_lines text whole size), sym (no_length rules many)))
 
   put_gives : (words : List (List ℕ)) (head : Head) → put_of words ≡ Some head → HeadWords (codes "put" ∷ words) head
   unfolding put_of HeadWords
@@ -309,9 +379,38 @@ module _ (text : List ℕ) (whole : AreWholeLines text) where
       let named = name_of_gives two.0.0 name.0 name.1 in
       let number = number_of_gives 4194304 two.0.1 count.0 (omega arith) count.1 in
       subst (HeadWords (codes "put" ∷ words)) (some_same (PutHead name.0 count.0) head count.2)
-      (λ size. (
+      (λ size many. (
         (named.0, whole, omega (arith, number.0)),
         ap (λ ws. codes "put" ∷ ws) (two_of_gives words two.0.0 two.0.1 two.1 ∙ (ap (λ w. w ∷ two.0.1 ∷ []) named.1 ∙ (ap (λ w. encode_utf8_all name.0 ∷ w ∷ []) number.1 ∙ ap (λ n. encode_utf8_all name.0 ∷ decimal n ∷ []) (sym size)))),
+        refl,
+        sym (no_length rules many),
+      ))
+
+  verify_gives : (words : List (List ℕ)) (head : Head) → verify_of words ≡ Some head → HeadWords (codes "verify" ∷ words) head
+  unfolding verify_of HeadWords
+  verify_gives words head h =
+      let one = some_from_bind (one_of words) (λ digits. number_of 4194304 digits >>= λ count. Some (VerifyHead count)) head h in
+      let count = some_from_bind (number_of 4194304 one.0) (λ count. Some (VerifyHead count)) head one.2 in
+      let number = number_of_gives 4194304 one.0 count.0 (omega arith) count.1 in
+      subst (HeadWords (codes "verify" ∷ words)) (some_same (VerifyHead count.0) head count.2)
+      (λ size many. (
+        (whole, omega (arith, number.0)),
+        ap (λ ws. codes "verify" ∷ ws) (one_of_gives words one.0 one.1 ∙ (ap (λ w. w ∷ []) number.1 ∙ ap (λ n. decimal n ∷ []) (sym size))),
+        refl,
+        sym (no_length rules many),
+      ))
+
+  policy_gives : (words : List (List ℕ)) (head : Head) → policy_of words ≡ Some head → HeadWords (codes "policy" ∷ words) head
+  unfolding policy_of HeadWords
+  policy_gives words head h =
+      let one = some_from_bind (one_of words) (λ digits. number_of 256 digits >>= λ count. Some (PolicyHead count)) head h in
+      let count = some_from_bind (number_of 256 one.0) (λ count. Some (PolicyHead count)) head one.2 in
+      let number = number_of_gives 256 one.0 count.0 (omega arith) count.1 in
+      subst (HeadWords (codes "policy" ∷ words)) (some_same (PolicyHead count.0) head count.2)
+      (λ size many. (
+        (are, omega (arith, number.0)),
+        ap (λ ws. codes "policy" ∷ ws) (one_of_gives words one.0 one.1 ∙ (ap (λ w. w ∷ []) number.1 ∙ ap (λ n. decimal n ∷ []) (sym many))),
+        sym (no_lines text whole size),
         refl,
       ))
 
@@ -323,7 +422,11 @@ module _ (text : List ℕ) (whole : AreWholeLines text) where
   unfolding head_with HeadWords
   head_gives word words head h =
       ⊎_elim (λ it. by (codes "device") it.0 (device_gives words head it.1)) (λ it.
-      ⊎_elim (λ it. by (codes "put") it.0 (put_gives words head it.1)) (λ it. of_command (command_map (command_with word words) head it.1))
+      ⊎_elim (λ it. by (codes "put") it.0 (put_gives words head it.1)) (λ it.
+      ⊎_elim (λ it. by (codes "verify") it.0 (verify_gives words head it.1)) (λ it.
+      ⊎_elim (λ it. by (codes "policy") it.0 (policy_gives words head it.1)) (λ it. of_command (command_map (command_with word words) head it.1))
+      (choice (bytes_eq word (codes "policy")) (policy_of words) _ head it.1))
+      (choice (bytes_eq word (codes "verify")) (verify_of words) _ head it.1))
       (choice (bytes_eq word (codes "put")) (put_of words) _ head it.1))
       (choice (bytes_eq word (codes "device")) (device_of words) _ head h)
     where
@@ -333,17 +436,19 @@ module _ (text : List ℕ) (whole : AreWholeLines text) where
       of_command : ((command : Command) × (command_with word words ≡ Some command) × (CommandHead command ≡ head)) → HeadWords (word ∷ words) head
       of_command found =
           let says = command_gives word words found.0 found.1 in
-          subst (HeadWords (word ∷ words)) found.2 (λ size. (says.is, says.spelled, says.bare ∙ sym (no_lines text whole size)))
+          subst (HeadWords (word ∷ words)) found.2
+          (λ size many. (says.is, says.spelled, says.bare ∙ sym (no_lines text whole size), says.unruled ∙ sym (no_length rules many)))
 
-  pub head_of_gives : (line : Line) (head : Head) → head_of line ≡ Some head → length (lines_of text) ≡ text_size head → IsLineOf line head text
+  pub head_of_gives : (line : Line) (head : Head) → head_of line ≡ Some head → length (lines_of text) ≡ text_size head → length rules ≡ rule_count head → IsLineOf line head text rules
   unfolding head_of HeadWords
-  head_of_gives line head h size =
+  head_of_gives line head h size many =
       let split = some_from_bind (first_and_rest (split_at 32 line)) (λ split. head_with split.0 split.1) head h in
-      let words = head_gives split.0.0 split.0.1 head split.2 size in
+      let words = head_gives split.0.0 split.0.1 head split.2 size many in
       record {
         item = words.0;
         spelled = sym (joined-split_at 32 line) ∙ ap (joined 32) (first_gives (split_at 32 line) split.0 split.1 ∙ words.1);
         texts = words.2;
+        ruled = words.3;
       }
 
 -- the words of an item have no space
@@ -377,6 +482,13 @@ command-lacks (Tasks fuel schedule entries) is =
         ),
       ),
     )
+command-lacks (Verify text) is =
+    (Lacks-test 32 (codes "verify") refl, (Lacks-decimal 32 (length (lines_of text)) (omega arith) (omega (arith, is.1)), tt))
+command-lacks (Policy rules) is =
+    (Lacks-test 32 (codes "policy") refl, (Lacks-decimal 32 (length rules) (omega arith) (omega (arith, is.1)), tt))
+command-lacks (Audit owner definition) is = (Lacks-test 32 (codes "audit") refl, (Lacks-pair (owner, definition) is, tt))
+command-lacks (Guard owner definition fuel) is =
+    (Lacks-test 32 (codes "guard") refl, (Lacks-pair (owner, definition) is.0, (Lacks-decimal 32 fuel (omega arith) (omega (arith, is.1)), tt)))
 
 -- what the words of a command say
 kind_of-words : (kind : Kind) → IsKind kind → kind_of (kind_words kind) ≡ Some kind
@@ -451,6 +563,22 @@ unfolding head_with command_with tasks_of
 tasks-says fuel schedule entries is =
     rw (number_of-decimal 1000000 fuel (omega arith) is.0, turns_of-words fuel schedule entries is) refl
 
+verify-says : (text : List ℕ) → IsCommand (Verify text) → head_with (codes "verify") (decimal (length (lines_of text)) ∷ []) ≡ Some (command_head (Verify text))
+unfolding head_with verify_of
+verify-says text is = rw (number_of-decimal 4194304 (length (lines_of text)) (omega arith) is.1) refl
+
+policy-says : (rules : List Rule) → IsCommand (Policy rules) → head_with (codes "policy") (decimal (length rules) ∷ []) ≡ Some (command_head (Policy rules))
+unfolding head_with policy_of
+policy-says rules is = rw (number_of-decimal 256 (length rules) (omega arith) is.1) refl
+
+audit-says : (pair : List ℕ × List ℕ) → IsPair pair → head_with (codes "audit") (pair_text pair ∷ []) ≡ Some (CommandHead (Audit pair.0 pair.1))
+unfolding head_with command_with audit_of
+audit-says pair is = rw (pair_of-text pair is) refl
+
+guard-says : (pair : List ℕ × List ℕ) (fuel : ℕ) → IsPair pair → fuel ≤ 1000000 → head_with (codes "guard") (pair_text pair ∷ decimal fuel ∷ []) ≡ Some (CommandHead (Guard pair.0 pair.1 fuel))
+unfolding head_with command_with guard_of
+guard-says pair fuel is low = rw (pair_of-text pair is, number_of-decimal 1000000 fuel (omega arith) low) refl
+
 command-says : (command : Command) → IsCommand command → head_of (joined 32 (command_words command)) ≡ Some (command_head command)
 command-says (Put name text) is = head_of-joined _ _ (command-lacks (Put name text) is) ∙ put-says name text is
 command-says (Drop name) is = head_of-joined _ _ (command-lacks (Drop name) is) ∙ drop-says name is
@@ -459,6 +587,10 @@ command-says (Sig name) is = head_of-joined _ _ (command-lacks (Sig name) is) �
 command-says (Derive owner definition) is = head_of-joined _ _ (command-lacks (Derive owner definition) is) ∙ derive-says (owner, definition) is
 command-says (Run owner definition fuel) is = head_of-joined _ _ (command-lacks (Run owner definition fuel) is) ∙ run-says (owner, definition) fuel is.0 is.1
 command-says (Tasks fuel schedule entries) is = head_of-joined _ _ (command-lacks (Tasks fuel schedule entries) is) ∙ tasks-says fuel schedule entries is
+command-says (Verify text) is = head_of-joined _ _ (command-lacks (Verify text) is) ∙ verify-says text is
+command-says (Policy rules) is = head_of-joined _ _ (command-lacks (Policy rules) is) ∙ policy-says rules is
+command-says (Audit owner definition) is = head_of-joined _ _ (command-lacks (Audit owner definition) is) ∙ audit-says (owner, definition) is
+command-says (Guard owner definition fuel) is = head_of-joined _ _ (command-lacks (Guard owner definition fuel) is) ∙ guard-says (owner, definition) fuel is.0 is.1
 
 -- the line of an item says what the item is
 pub head_of-item : (item : Item) → IsItem item → head_of (joined 32 (item_words item)) ≡ Some (head_for item)

@@ -1,14 +1,16 @@
 -- Lines are those of at most one list of items, and items are read one after another.
-use Rattle.std.proofs.Common.{◌≡◌, ℕ, List, [], ◌∷◌, ◌++◌, length, Some, refl, sym, ap, ◌∙◌, subst, arith}
+use Rattle.std.proofs.Common.{◌≡◌, ℕ, ◌+◌, List, [], ◌∷◌, ◌++◌, length, map, Some, refl, sym, ap, ◌∙◌, subst, arith}
 use Rattle.std.specs.Prelude.{unwrap_or}
-use Rattle.std.proofs.lemmas.List.{append_assoc}
+use Rattle.std.specs.List.{AllByRecursion}
+use Rattle.std.proofs.lemmas.List.{append_assoc, length-append, length-map}
 use Rattle.cc_words.specs.Words.{joined}
 use Rattle.cc_words.specs.Lines.{Line, lines_of, AreWholeLines}
-use Rattle.cc_job.specs.Jobs.{Item, Declares, Commands, item_words, item_text, item_lines, IsCommand, IsItem, skipped, AreItems}
-use Rattle.cc_job.specs.declared.job.Command.TheVariants.{Put, Drop, Check, Sig, Derive, Run, Tasks}
-use Rattle.cc_job.specs.Reading.{head_of, text_size}
+use Rattle.cc_job.specs.Jobs.{Item, Declares, Commands, item_words, item_text, item_rules, item_lines, rule_line, IsRule, IsCommand, IsItem, skipped, AreItems}
+use Rattle.cc_job.specs.declared.job.Command.TheVariants.{Put, Drop, Check, Sig, Derive, Run, Tasks, Verify, Policy, Audit, Guard}
+use Rattle.cc_job.specs.Reading.{head_of, text_size, rule_count}
 use Rattle.cc_words.proofs.LineLists.{terminated, terminated-lines_of, cons_parts}
-use Rattle.cc_job.proofs.HeadLaws.{item_from, head_for, item_from-head, text_size-head, head_of-item}
+use Rattle.cc_job.proofs.HeadLaws.{item_from, head_for, item_from-head, text_size-head, rule_count-head, head_of-item}
+use Rattle.cc_job.proofs.RuleLaws.{one_list}
 
 command_whole : (command : _) → IsCommand command → AreWholeLines (item_text (Commands command))
 command_whole (Put name text) is = is.1
@@ -18,11 +20,42 @@ command_whole (Sig name) is = refl
 command_whole (Derive owner definition) is = refl
 command_whole (Run owner definition fuel) is = refl
 command_whole (Tasks fuel schedule entries) is = refl
+command_whole (Verify text) is = is.0
+command_whole (Policy rules) is = refl
+command_whole (Audit owner definition) is = refl
+command_whole (Guard owner definition fuel) is = refl
 
 -- the text behind an item's line is whole lines
 pub text_whole : (item : Item) → IsItem item → AreWholeLines (item_text item)
 text_whole (Declares device) is = refl
 text_whole (Commands command) is = command_whole command is
+
+command_ruled : (command : _) → IsCommand command → AllByRecursion IsRule (item_rules (Commands command))
+command_ruled (Put name text) is = tt
+command_ruled (Drop name) is = tt
+command_ruled Check is = tt
+command_ruled (Sig name) is = tt
+command_ruled (Derive owner definition) is = tt
+command_ruled (Run owner definition fuel) is = tt
+command_ruled (Tasks fuel schedule entries) is = tt
+command_ruled (Verify text) is = tt
+command_ruled (Policy rules) is = is.0
+command_ruled (Audit owner definition) is = tt
+command_ruled (Guard owner definition fuel) is = tt
+
+-- and the rules are rules
+pub rules_are : (item : Item) → IsItem item → AllByRecursion IsRule (item_rules item)
+rules_are (Declares device) is = tt
+rules_are (Commands command) is = command_ruled command is
+
+-- the lines behind an item's line
+abbrev pub lines_with : Item → List Line
+lines_with item = lines_of (item_text item) ++ map rule_line (item_rules item)
+
+-- are as many as the line says
+pub lines_with-length : (item : Item) → length (lines_with item) ≡ text_size (head_for item) + rule_count (head_for item)
+lines_with-length item =
+    omega (arith, length-append (lines_of (item_text item)) (map rule_line (item_rules item)), text_size-head item, rule_count-head item, length-map (item_rules item) rule_line)
 
 pub equal_fronts : {A : Type 0} (xs ys more others : List A) → length xs ≡ length ys → xs ++ more ≡ ys ++ others → (xs ≡ ys) × (more ≡ others)
 equal_fronts [] [] more others n e = (refl, e)
@@ -42,12 +75,20 @@ same_head item other is are e = unwrap (sym (head_of-item item is) ∙ (ap head_
 -- the first item of lines is one
 pub one_item : (item other : Item) (rest more : List Line) → IsItem item → IsItem other → item_lines item ++ rest ≡ item_lines other ++ more → (item ≡ other) × (rest ≡ more)
 one_item item other rest more is are e =
-    let parts = cons_parts (joined 32 (item_words item)) (joined 32 (item_words other)) (lines_of (item_text item) ++ rest) (lines_of (item_text other) ++ more) e in
+    let parts = cons_parts (joined 32 (item_words item)) (joined 32 (item_words other)) (lines_with item ++ rest) (lines_with other ++ more) e in
     let heads = same_head item other is are parts.0 in
     let sizes = text_size-head item ∙ (ap text_size heads ∙ sym (text_size-head other)) in
-    let texts = equal_fronts (lines_of (item_text item)) (lines_of (item_text other)) rest more sizes parts.1 in
-    let same = sym (terminated-lines_of (item_text item) (text_whole item is)) ∙ (ap terminated texts.0 ∙ terminated-lines_of (item_text other) (text_whole other are)) in
-    (sym (item_from-head item) ∙ (ap (λ head. item_from head (item_text item)) heads ∙ (ap (item_from (head_for other)) same ∙ item_from-head other)), texts.1)
+    let lengths = lines_with-length item ∙ (ap (λ head. text_size head + rule_count head) heads ∙ sym (lines_with-length other)) in
+    let fronts = equal_fronts (lines_with item) (lines_with other) rest more lengths parts.1 in
+    let behind = equal_fronts (lines_of (item_text item)) (lines_of (item_text other)) (map rule_line (item_rules item)) (map rule_line (item_rules other)) sizes fronts.0 in
+    let texts = sym (terminated-lines_of (item_text item) (text_whole item is)) ∙ (ap terminated behind.0 ∙ terminated-lines_of (item_text other) (text_whole other are)) in
+    let rules = one_list (item_rules item) (item_rules other) (rules_are item is) (rules_are other are) behind.1 in (
+      sym (item_from-head item)
+          ∙ (ap (λ head. item_from head (item_text item) (item_rules item)) heads
+          ∙ (ap (λ text. item_from (head_for other) text (item_rules item)) texts
+          ∙ (ap (λ list. item_from (head_for other) (item_text other) list) rules ∙ item_from-head other))),
+      fronts.1,
+    )
 
 -- the line of an item is not empty
 command_begins : (command : _) → (c : ℕ) × (cs : List ℕ) × (joined 32 (item_words (Commands command)) ≡ c ∷ cs)
@@ -58,6 +99,10 @@ command_begins (Sig name) = (115, _, refl)
 command_begins (Derive owner definition) = (100, _, refl)
 command_begins (Run owner definition fuel) = (114, _, refl)
 command_begins (Tasks fuel schedule entries) = (116, _, refl)
+command_begins (Verify text) = (118, _, refl)
+command_begins (Policy rules) = (112, _, refl)
+command_begins (Audit owner definition) = (97, _, refl)
+command_begins (Guard owner definition fuel) = (103, _, refl)
 
 item_begins : (item : Item) → (c : ℕ) × (cs : List ℕ) × (joined 32 (item_words item) ≡ c ∷ cs)
 item_begins (Declares device) = (100, _, refl)
@@ -70,7 +115,7 @@ skipped-line line lines c cs e = ap (λ it. skipped (it ∷ lines)) e ∙ ap (λ
 skipped-item : (item : Item) (rest : List Line) → skipped (item_lines item ++ rest) ≡ item_lines item ++ rest
 skipped-item item rest =
     let begins = item_begins item in
-    skipped-line (joined 32 (item_words item)) (lines_of (item_text item) ++ rest) begins.0 begins.1 begins.2
+    skipped-line (joined 32 (item_words item)) (lines_with item ++ rest) begins.0 begins.1 begins.2
 
 -- no items are those of no lines, and no lines those of no items
 pub AreItems-none : (items : List Item) → AreItems [] items → items ≡ []

@@ -3,24 +3,27 @@ use Rattle.std.proofs.Common.{◌≡◌, ℕ, zero, suc, ◌+◌, ◌-◌, ◌<�
 use Rattle.std.specs.Prelude.{nat_lt, unwrap_or}
 use Rattle.std.specs.List.{IsDistinct, AllByRecursion}
 use Rattle.std.specs.Str.{bytes_eq}
-use Rattle.std.proofs.lemmas.List.{append-nil, append_assoc, length-append, take-append-drop, take_at, length-take-le, length-replicate}
+use Rattle.std.proofs.lemmas.List.{append-nil, append_assoc, length-append, length-map, take-append-drop, take_at, length-take-le, length-replicate}
 use Rattle.std.proofs.lemmas.Bool.Decides.{nat_tests, Decides-eqb}
 use Rattle.std.proofs.lemmas.Slice.Eq.{bytes_eq-Decides}
 use Rattle.std.proofs.lemmas.Bool.{cases_lt}
 use Rattle.cc_base.specs.declared.device.DeviceDecl.{DeviceDecl}
+use Rattle.cc_policy.specs.declared.policy.Rule.{Rule}
 use Rattle.cc_job.specs.declared.job.Job.{Job}
 use Rattle.cc_job.specs.declared.job.Command.{Command}
 use Rattle.cc_job.specs.declared.head.Head.{Head}
-use Rattle.cc_job.specs.declared.head.Head.TheVariants.{Device, Put as PutHead, Command as CommandHead}
+use Rattle.cc_job.specs.declared.head.Head.TheVariants.{Device, Put as PutHead, Verify as VerifyHead, Policy as PolicyHead, Command as CommandHead}
 use Rattle.cc_words.specs.Words.{joined}
 use Rattle.cc_words.specs.Lines.{Line, lines_of, is_whole_behind, text_cut, next_line}
-use Rattle.cc_job.specs.Jobs.{Item, Declares, Commands, item_words, item_text, item_lines, IsItem, AreItems, items_of, last_text, first_line, IsJob, BeginsJob, IsBadAt, BytesHaveOneJob, BytesHaveOneBadLine}
-use Rattle.cc_job.specs.Reading.{head_of, text_size, has_device, admits, is_admitted, devices_with, commands_with, Read, BadLine, CutShort, next_text, next_head, next_in, next_item}
+use Rattle.cc_job.specs.Jobs.{Item, Declares, Commands, item_words, item_text, item_rules, item_lines, rule_line, IsRule, IsItem, AreItems, items_of, last_text, first_line, IsJob, BeginsJob, IsBadAt, BytesHaveOneJob, BytesHaveOneBadLine}
+use Rattle.cc_job.specs.Reading.{head_of, text_size, rule_count, lines_behind, has_device, admits, is_admitted, devices_with, commands_with, Rules, Are, BadRule, TooFew, rules_cut, Next, Read, BadLine, CutShort, next_rules, next_text, next_head, next_in, next_item}
 use Rattle.cc_words.proofs.Splits.{AllLack}
-use Rattle.cc_words.proofs.LineLists.{terminated, is_whole-append, FirstLine, next_line-first, lines_of-terminated, is_whole-terminated, lines_of-whole, lines-lack, AllLack-append, AllLack-front, AllLack-back, lines-length, cons_parts, Cut, text_cut_gives, text_cut-short}
-use Rattle.cc_job.proofs.HeadLaws.{item_from, head_for, item_from-head, text_size-head, IsLineOf, head_of-item}
-use Rattle.cc_job.proofs.ItemLists.{AreItems-none, AreItems-one, Leads, leads-nothing, leads-blank, leads-item}
-use Rattle.cc_job.proofs.Standing.{names_of, items_in, Stands, job_with, whole_job, begins_take, begins_earlier, last_text-push, Added, added, item_lines_are, line_of_text, append_empty}
+use Rattle.cc_words.proofs.LineLists.{terminated, is_whole-append, back_empty, FirstLine, next_line-first, lines_of-terminated, is_whole-terminated, lines_of-whole, lines-lack, AllLack-append, AllLack-front, AllLack-back, lines-length, cons_parts, Cut, text_cut_gives, text_cut-short}
+use Rattle.cc_job.proofs.HeadLaws.{item_from, head_for, item_from-head, text_size-head, rule_count-head, no_length, IsLineOf, head_of-item}
+use Rattle.cc_job.proofs.RuleLaws.{rules-lack, none_among, any_rule}
+use Rattle.cc_job.proofs.RuleCuts.{ReadRules, BadRules, FewRules, Told, rules_cut_told, empty_rest}
+use Rattle.cc_job.proofs.ItemLists.{rules_are, lines_with, lines_with-length, equal_fronts, AreItems-none, AreItems-one, Leads, leads-nothing, leads-blank, leads-item}
+use Rattle.cc_job.proofs.Standing.{names_of, items_in, Stands, job_with, whole_job, map-append, begins_front, begins_take, take_front, begins_here, last_text-push, Added, added, item_lines_are, line_of_text, one_kind, lines_behind-sum, append_empty}
 
 -- The items of a job whose lines go on with a line that is not empty: one of them has that line.
 record Goes (job : Job) (items : List Item) (line : Line) (more : List Line) : Type 0 where
@@ -47,7 +50,7 @@ goes front items leads bytes job is b bs more e =
 -- the line says what its item is
 goes_says : (job : Job) (items : List Item) (line : Line) (more : List Line) (goes : Goes job items line more) → head_of line ≡ Some (head_for goes.item)
 goes_says job items line more goes =
-    let parts = cons_parts line (joined 32 (item_words goes.item)) more (lines_of (item_text goes.item) ++ goes.rest) goes.spelled in
+    let parts = cons_parts line (joined 32 (item_words goes.item)) more (lines_with goes.item ++ goes.rest) goes.spelled in
     ap head_of parts.0 ∙ head_of-item goes.item goes.is
 
 -- devices stand before commands
@@ -111,74 +114,83 @@ admits_any devices commands device bytes job is before =
     room : (n m : ℕ) → n + suc m ≤ 16 → nat_lt n 16 ≡ true
     room n m h = grind (arith, nat_tests)
 
--- whether a line may begin what follows
-refuses : (bytes : List ℕ) (b : ℕ) (bs behind : List ℕ) (front : List Line) (devices : List DeviceDecl) (commands : List Command) → Leads front (items_in devices commands) → (head : Option Head) → head_of (b ∷ bs) ≡ head → next_head devices commands behind head ≡ BadLine
-    → (job : Job) → IsJob bytes job → (more : List Line) → lines_of bytes ≡ (first_line ∷ front) ++ (b ∷ bs) ∷ more → ⊥
-refuses bytes b bs behind front devices commands leads None says bad job is more e =
-    let at = goes front (items_in devices commands) leads bytes job is b bs more e in
-    let clash = sym says ∙ goes_says job (items_in devices commands) (b ∷ bs) more at in
-    cc
-refuses bytes b bs behind front devices commands leads (Some head) says bad job is more e =
-    refused (is_admitted devices commands head) refl bad
+-- An item whose line may stand here begins jobs, with the lines of a text and of rules behind its line.
+begins_item : (front : List Line) (devices : List DeviceDecl) (commands : List Command) → Leads front (items_in devices commands) → length devices ≤ 16 → IsDistinct bytes_eq (names_of devices) → AllLack 10 (first_line ∷ front)
+    → (line : Line) (head : Head) → AllLack 10 (line ∷ []) → head_of line ≡ Some head → is_admitted devices commands head ≡ true
+    → (lines : List Line) → AllLack 10 lines → length lines ≡ text_size head → (rules : List Rule) → AllByRecursion IsRule rules → length rules ≡ rule_count head
+    → BeginsJob ((first_line ∷ front) ++ line ∷ (lines ++ map rule_line rules))
+begins_item front devices commands leads few names lack line head line_lacks says admitted lines lines_lack size rules are many = record {
+  bytes = terminated (first_line ∷ all);
+  job = job_with (devices_with devices head) (commands_with commands head text rules);
+  is = whole_job all (devices_with devices head) (commands_with commands head text rules) all_lack.1
+      (subst (Leads all) (sym more.items) (subst (λ it. Leads (front ++ it) (items_in devices commands ++ item_from head text rules ∷ [])) lines_are (leads-item front (items_in devices commands) leads (item_from head text rules) of.item)))
+      more.few more.names;
+  behind = [];
+  begins = lines_of-whole (first_line ∷ all) all_lack ∙ sym (append-nil (first_line ∷ all));
+}
   where
-    at : Goes job (items_in devices commands) (b ∷ bs) more
-    at = goes front (items_in devices commands) leads bytes job is b bs more e
+    all : List Line
+    all = front ++ line ∷ (lines ++ map rule_line rules)
 
-    same : head ≡ head_for at.item
-    same = unwrap (sym says ∙ goes_says job (items_in devices commands) (b ∷ bs) more at)
-      where
-        unwrap : Some head ≡ Some (head_for at.item) → head ≡ head_for at.item
-        unwrap h = ap (λ o. unwrap_or o head) h
+    text : List ℕ
+    text = terminated lines
 
-    of_head : (it : Head) → it ≡ head_for at.item → is_admitted devices commands it ≡ true
-    of_head (Device device) h =
-        let item = sym (item_from-head at.item) ∙ ap (λ it. item_from it (item_text at.item)) (sym h) in
-        admits_any devices commands device bytes job is
-        (device_first devices commands device at.others job.devices job.commands (ap (λ it. items_in devices commands ++ it ∷ at.others) (sym item) ∙ sym at.all))
-    of_head (PutHead name count) h = refl
-    of_head (CommandHead command) h = refl
+    of : IsLineOf line head text rules
+    of = line_of_text line head lines rules says lines_lack size are many
 
-    taken : (o : Option (List ℕ × List ℕ)) → next_text devices commands head o ≡ BadLine → ⊥
-    taken None h = cc
-    taken (Some cut) h = cc
+    lines_are : item_lines (item_from head text rules) ≡ line ∷ (lines ++ map rule_line rules)
+    lines_are = item_lines_are line head text rules lines lines_lack refl of
 
-    refused : (test : Bool) → is_admitted devices commands head ≡ test → cond test (next_text devices commands head (text_cut (text_size head) behind)) BadLine ≡ BadLine → ⊥
-    refused true t h = taken (text_cut (text_size head) behind) h
-    refused false t h = let clash = sym t ∙ of_head head same in cc
+    more : Added devices commands head text rules
+    more = added devices commands head text rules admitted few names
 
--- the bytes begin with a line that begins no job
-bad_at : (bytes behind : List ℕ) (line : Line) (rest : List ℕ) (devices : List DeviceDecl) (commands : List Command) (number : ℕ) (stands : Stands bytes rest devices commands number) → lines_of rest ≡ line ∷ lines_of behind
-    → ((other : List ℕ) (job : Job) → IsJob other job → (more : List Line) → lines_of other ≡ (first_line ∷ stands.front) ++ line ∷ more → ⊥) → IsBadAt bytes (number + 1)
-bad_at bytes behind line rest devices commands number stands first refuses =
+    all_lack : AllLack 10 (first_line ∷ all)
+    all_lack =
+        AllLack-append 10 (first_line ∷ front) (line ∷ (lines ++ map rule_line rules)) lack
+        (line_lacks.0, AllLack-append 10 lines (map rule_line rules) lines_lack (rules-lack rules are))
+
+-- a device that may not be declared here is declared in no job
+admitted_any : (bytes : List ℕ) (job : Job) → IsJob bytes job → (devices : List DeviceDecl) (commands : List Command) (line : Line) (more : List Line) (at : Goes job (items_in devices commands) line more)
+    → (head : Head) → head ≡ head_for at.item → is_admitted devices commands head ≡ true
+admitted_any bytes job is devices commands line more at (Device device) h =
+    let item = sym (item_from-head at.item) ∙ ap (λ it. item_from it (item_text at.item) (item_rules at.item)) (sym h) in
+    admits_any devices commands device bytes job is
+    (device_first devices commands device at.others job.devices job.commands (ap (λ it. items_in devices commands ++ it ∷ at.others) (sym item) ∙ sym at.all))
+admitted_any bytes job is devices commands line more at (PutHead name count) h = refl
+admitted_any bytes job is devices commands line more at (VerifyHead count) h = refl
+admitted_any bytes job is devices commands line more at (PolicyHead count) h = refl
+admitted_any bytes job is devices commands line more at (CommandHead command) h = refl
+
+-- the line says what the item says
+same_head : (job : Job) (items : List Item) (line : Line) (more : List Line) (at : Goes job items line more) (head : Head) → head_of line ≡ Some head → head ≡ head_for at.item
+same_head job items line more at head says = unwrap (sym says ∙ goes_says job items line more at)
+  where
+    unwrap : Some head ≡ Some (head_for at.item) → head ≡ head_for at.item
+    unwrap h = ap (λ o. unwrap_or o head) h
+
+-- the lines behind it are those of the item, and others
+same_behind : (job : Job) (items : List Item) (line : Line) (more : List Line) (at : Goes job items line more) → more ≡ lines_with at.item ++ at.rest
+same_behind job items line more at =
+    (cons_parts line (joined 32 (item_words at.item)) more (lines_with at.item ++ at.rest) at.spelled).1
+
+-- A line at which no job goes on, behind lines that begin a job.
+bad_line : (bytes : List ℕ) (before : List Line) (line : Line) (behind : List Line) (number : ℕ) → lines_of bytes ≡ before ++ line ∷ behind → BeginsJob before → number ≡ length before + 1
+    → ((other : List ℕ) (job : Job) → IsJob other job → (more : List Line) → lines_of other ≡ before ++ line ∷ more → ⊥) → IsBadAt bytes number
+bad_line bytes before line behind number spelled begins place refuses =
     record {
-      none = λ job is. refuses bytes job is (lines_of behind) spelled;
-      ends = inl (low, λ begins. refuses begins.bytes begins.job begins.is begins.behind (begins.begins ∙ (ap (λ it. it ++ begins.behind) front ∙ append_assoc (first_line ∷ stands.front) (line ∷ []) begins.behind)));
-      first = λ earlier less. begins_earlier bytes rest devices commands number stands earlier (omega arith);
+      none = λ job is. refuses bytes job is behind spelled;
+      ends = inl (low, λ goes_on. refuses goes_on.bytes goes_on.job goes_on.is goes_on.behind (goes_on.begins ∙ (ap (λ it. it ++ goes_on.behind) front ∙ append_assoc before (line ∷ []) goes_on.behind)));
+      first = λ earlier less. subst BeginsJob (sym (ap (take earlier) spelled ∙ take_front earlier before (line ∷ behind) (omega arith))) (begins_take earlier before begins);
     }
   where
-    spelled : lines_of bytes ≡ (first_line ∷ stands.front) ++ line ∷ lines_of behind
-    spelled = stands.lines ∙ ap (λ it. (first_line ∷ stands.front) ++ it) first
+    low : number ≤ length (lines_of bytes)
+    low = omega (arith, ap length spelled, length-append before (line ∷ behind))
 
-    low : number + 1 ≤ length (lines_of bytes)
-    low = omega (arith, stands.count, ap length spelled, length-append (first_line ∷ stands.front) (line ∷ lines_of behind))
-
-    front : take (number + 1) (lines_of bytes) ≡ (first_line ∷ stands.front) ++ line ∷ []
+    front : take number (lines_of bytes) ≡ before ++ line ∷ []
     front =
-        let size : length ((first_line ∷ stands.front) ++ line ∷ []) ≡ number + 1 = omega (arith, stands.count, length-append (first_line ∷ stands.front) (line ∷ [])) in
-        ap (take (number + 1)) (spelled ∙ sym (append_assoc (first_line ∷ stands.front) (line ∷ []) (lines_of behind)))
-        ∙ take_at ((first_line ∷ stands.front) ++ line ∷ []) (lines_of behind) (number + 1) size
-
-bad_in : (bytes : List ℕ) (b : ℕ) (bs : List ℕ) (devices : List DeviceDecl) (commands : List Command) (number : ℕ) → Stands bytes (b ∷ bs) devices commands number → (line : Line) (behind : List ℕ) → FirstLine (b ∷ bs) line behind → next_in devices commands line behind ≡ BadLine → IsBadAt bytes (number + 1)
-bad_in bytes b bs devices commands number stands [] behind first bad = cc
-bad_in bytes b bs devices commands number stands (c ∷ cs) behind first bad =
-    bad_at bytes behind (c ∷ cs) (b ∷ bs) devices commands number stands first.lines
-    (λ other job is more e. refuses other c cs behind stands.front devices commands stands.leads (head_of (c ∷ cs)) refl bad job is more e)
-
--- what is refused at its line
-pub stands_bad : (bytes : List ℕ) (b : ℕ) (bs : List ℕ) (devices : List DeviceDecl) (commands : List Command) (number : ℕ) → Stands bytes (b ∷ bs) devices commands number → next_item (b ∷ bs) devices commands ≡ BadLine → IsBadAt bytes (number + 1)
-unfolding next_item
-stands_bad bytes b bs devices commands number stands bad =
-    bad_in bytes b bs devices commands number stands (next_line (b ∷ bs)).0 (next_line (b ∷ bs)).1 (next_line-first b bs) bad
+        let size : length (before ++ line ∷ []) ≡ number = omega (arith, length-append before (line ∷ [])) in
+        ap (take number) (spelled ∙ sym (append_assoc before (line ∷ []) behind))
+        ∙ take_at (before ++ line ∷ []) behind number size
 
 -- a line with nothing in it
 abbrev blank_line : Line
@@ -214,122 +226,13 @@ blanks_lack : (n : ℕ) → AllLack 10 (replicate n blank_line)
 blanks_lack zero = tt
 blanks_lack (suc n) = (tt, blanks_lack n)
 
-module _ (bytes : List ℕ) (b : ℕ) (bs : List ℕ) (devices : List DeviceDecl) (commands : List Command) (number : ℕ) (stands : Stands bytes (b ∷ bs) devices commands number)
-    (c : ℕ) (cs behind : List ℕ) (first : FirstLine (b ∷ bs) (c ∷ cs) behind) (head : Head) (says : head_of (c ∷ cs) ≡ Some head) (none : text_cut (text_size head) behind ≡ None) (admitted : is_admitted devices commands head ≡ true) where
-  short_lines : lines_of bytes ≡ (first_line ∷ stands.front) ++ (c ∷ cs) ∷ lines_of behind
-  short_lines = stands.lines ∙ ap (λ it. (first_line ∷ stands.front) ++ it) first.lines
+all_any : (n : ℕ) → AllByRecursion IsRule (replicate n any_rule)
+all_any zero = tt
+all_any (suc n) = ((tt, tt), all_any n)
 
-  not_whole : is_whole_behind true behind ≡ false → is_whole_behind true bytes ≡ false
-  not_whole h =
-      let rest : is_whole_behind true (b ∷ bs) ≡ false = ⊎_elim (λ is. ap (is_whole_behind true) is ∙ (is_whole-append true (c ∷ cs) behind ∙ h)) (λ last. last.2) first.ends in
-      ⊎_elim (λ same. same ∙ rest) (λ ended. clash ended.0) stands.ended
-    where
-      clash : {A : Type 0} → b ∷ bs ≡ [] → A
-      clash e = cc
-
-  no_short_job : (job : Job) → IsJob bytes job → ⊥
-  no_short_job job is =
-      let items = items_in devices commands in
-      let at = goes stands.front items stands.leads bytes job is c cs (lines_of behind) short_lines in
-      let same = heads at.item (sym says ∙ goes_says job items (c ∷ cs) (lines_of behind) at) in
-      let parts = (cons_parts (c ∷ cs) (joined 32 (item_words at.item)) (lines_of behind) (lines_of (item_text at.item) ++ at.rest) at.spelled).1 in
-      let size = text_size-head at.item ∙ ap text_size (sym same) in
-      let tail = text_cut-short (lines_of (item_text at.item)) at.rest behind (ap (λ n. text_cut n behind) size ∙ none) parts in
-      let alone = AreItems-none at.others (subst (λ it. AreItems it at.others) tail.0 at.behind) in
-      let last = ap (last_text []) (at.all ∙ ap (λ it. items ++ at.item ∷ it) alone) ∙ last_text-push [] items at.item in
-      ⊎_elim
-      (λ whole. clash whole (not_whole tail.1))
-      (λ bare. no_cut_of_nothing behind (ap (λ n. text_cut n behind) (sym (ap (λ it. length (lines_of it)) (sym last ∙ bare)) ∙ size) ∙ none))
-      is.ended
-    where
-      heads : (item : Item) → Some head ≡ Some (head_for item) → head ≡ head_for item
-      heads item h = ap (λ o. unwrap_or o head) h
-
-      clash : is_whole_behind true bytes ≡ true → is_whole_behind true bytes ≡ false → ⊥
-      clash p q = let both_are = sym p ∙ q in cc
-
-  begins_short : BeginsJob (lines_of bytes)
-  begins_short = record {
-    bytes = terminated (first_line ∷ all);
-    job = job_with (devices_with devices head) (commands_with commands head text);
-    is = whole_job all (devices_with devices head) (commands_with commands head text) (lack.1)
-        (subst (Leads all) (sym more.items) (subst (λ it. Leads (stands.front ++ it) (items_in devices commands ++ item_from head text ∷ [])) lines_are (leads-item stands.front (items_in devices commands) stands.leads (item_from head text) of.item)))
-        more.few more.names;
-    behind = blanks;
-    begins = lines_of-whole (first_line ∷ all) lack ∙ (ap (λ it. first_line ∷ it) (sym (append_assoc stands.front ((c ∷ cs) ∷ lines_of behind) blanks)) ∙ ap (λ it. it ++ blanks) (sym short_lines));
-  }
-    where
-      missing : ℕ
-      missing = text_size head - length (lines_of behind)
-
-      blanks : List Line
-      blanks = replicate missing blank_line
-
-      lines : List Line
-      lines = lines_of behind ++ blanks
-
-      all : List Line
-      all = stands.front ++ (c ∷ cs) ∷ lines
-
-      text : List ℕ
-      text = terminated lines
-
-      lines_lack : AllLack 10 lines
-      lines_lack = AllLack-append 10 (lines_of behind) blanks (lines-lack behind) (blanks_lack missing)
-
-      size : length lines ≡ text_size head
-      size = omega (arith, length-append (lines_of behind) blanks, length-replicate missing blank_line, (short behind (text_size head) none).few)
-
-      of : IsLineOf (c ∷ cs) head text
-      of = line_of_text (c ∷ cs) head lines says lines_lack size
-
-      lines_are : item_lines (item_from head text) ≡ (c ∷ cs) ∷ lines
-      lines_are = item_lines_are (c ∷ cs) head text lines lines_lack refl of
-
-      more : Added devices commands head text
-      more = added devices commands head text admitted stands.few stands.names
-
-      lack : AllLack 10 (first_line ∷ all)
-      lack =
-          let bytes_lack = subst (AllLack 10) short_lines (lines-lack bytes) in
-          AllLack-append 10 (first_line ∷ stands.front) ((c ∷ cs) ∷ lines) (AllLack-front 10 (first_line ∷ stands.front) ((c ∷ cs) ∷ lines_of behind) bytes_lack) ((AllLack-back 10 (first_line ∷ stands.front) ((c ∷ cs) ∷ lines_of behind) bytes_lack).0, lines_lack)
-
-  short_at : IsBadAt bytes (length (lines_of bytes) + 1)
-  short_at = record {
-    none = no_short_job;
-    ends = inr refl;
-    first = λ earlier less. begins_take earlier (lines_of bytes) begins_short;
-  }
-
-short_in : (bytes : List ℕ) (b : ℕ) (bs : List ℕ) (devices : List DeviceDecl) (commands : List Command) (number : ℕ) → Stands bytes (b ∷ bs) devices commands number → (line : Line) (behind : List ℕ) → FirstLine (b ∷ bs) line behind → (head : Option Head) → (line ≡ [] → ⊥) → head_of line ≡ head → next_head devices commands behind head ≡ CutShort → IsBadAt bytes (length (lines_of bytes) + 1)
-short_in bytes b bs devices commands number stands [] behind first head some says cut = absurd (some refl)
-short_in bytes b bs devices commands number stands (c ∷ cs) behind first None some says cut = cc
-short_in bytes b bs devices commands number stands (c ∷ cs) behind first (Some head) some says cut =
-    at (is_admitted devices commands head) refl (text_cut (text_size head) behind) refl cut
-  where
-    at : (test : Bool) → is_admitted devices commands head ≡ test → (o : Option (List ℕ × List ℕ)) → text_cut (text_size head) behind ≡ o → cond test (next_text devices commands head o) BadLine ≡ CutShort → IsBadAt bytes (length (lines_of bytes) + 1)
-    at true t None e h = short_at bytes b bs devices commands number stands c cs behind first head says e t
-    at true t (Some found) e h = cc
-    at false t o e h = cc
-
-short_here : (bytes : List ℕ) (b : ℕ) (bs : List ℕ) (devices : List DeviceDecl) (commands : List Command) (number : ℕ) → Stands bytes (b ∷ bs) devices commands number → (line : Line) (behind : List ℕ) → FirstLine (b ∷ bs) line behind → next_in devices commands line behind ≡ CutShort → IsBadAt bytes (length (lines_of bytes) + 1)
-short_here bytes b bs devices commands number stands [] behind first cut = cc
-short_here bytes b bs devices commands number stands (c ∷ cs) behind first cut =
-    short_in bytes b bs devices commands number stands (c ∷ cs) behind first (head_of (c ∷ cs)) (λ e. clash e) refl cut
-  where
-    clash : c ∷ cs ≡ [] → ⊥
-    clash e = cc
-
--- what is cut short
-pub stands_short : (bytes : List ℕ) (b : ℕ) (bs : List ℕ) (devices : List DeviceDecl) (commands : List Command) (number : ℕ) → Stands bytes (b ∷ bs) devices commands number → next_item (b ∷ bs) devices commands ≡ CutShort → IsBadAt bytes (length (lines_of bytes) + 1)
-unfolding next_item
-stands_short bytes b bs devices commands number stands cut =
-    short_here bytes b bs devices commands number stands (next_line (b ∷ bs)).0 (next_line (b ∷ bs)).1 (next_line-first b bs) cut
-
--- one turn of reading
-pub record Turn (bytes rest behind : List ℕ) (devices : List DeviceDecl) (commands : List Command) (number : ℕ) : Type 0 where
-  pub stands : Stands bytes behind devices commands number
-  pub shorter : length behind < length rest
+all_append : (rules others : List Rule) → AllByRecursion IsRule rules → AllByRecursion IsRule others → AllByRecursion IsRule (rules ++ others)
+all_append [] others are all = all
+all_append (rule ∷ rules) others are all = (are.0, all_append rules others are.1 all)
 
 ends_shorter : (b : ℕ) (bs : List ℕ) (line : Line) (behind : List ℕ) → FirstLine (b ∷ bs) line behind → length behind < length (b ∷ bs)
 ends_shorter b bs line behind first =
@@ -341,106 +244,317 @@ ends_shorter b bs line behind first =
     bare : length behind ≡ length {A = ℕ} [] → length behind < length (b ∷ bs)
     bare e = omega arith
 
-turn_blank : (bytes : List ℕ) (b : ℕ) (bs : List ℕ) (devices : List DeviceDecl) (commands : List Command) (number : ℕ) → Stands bytes (b ∷ bs) devices commands number → (behind : List ℕ) → FirstLine (b ∷ bs) [] behind → Turn bytes (b ∷ bs) behind devices commands (number + 1)
-turn_blank bytes b bs devices commands number stands behind first = record {
-  stands = record {
-    front = stands.front ++ [] ∷ [];
-    lines = stands.lines ∙ (ap (λ it. (first_line ∷ stands.front) ++ it) first.lines ∙ sym (append_assoc (first_line ∷ stands.front) ([] ∷ []) (lines_of behind)));
-    count = omega (arith, stands.count, length-append stands.front (blank_line ∷ []));
-    leads = leads-blank stands.front (items_in devices commands) stands.leads;
-    few = stands.few;
-    names = stands.names;
-    ended = ⊎_elim (λ same. fed same) (λ ended. clash ended.0) stands.ended;
-  };
-  shorter = ends_shorter b bs [] behind first;
-}
-  where
-    clash : {A : Type 0} → b ∷ bs ≡ [] → A
-    clash e = cc
+-- one turn of reading
+pub record Turn (bytes rest behind : List ℕ) (devices : List DeviceDecl) (commands : List Command) (number : ℕ) : Type 0 where
+  pub stands : Stands bytes behind devices commands number
+  pub shorter : length behind < length rest
 
-    fed : is_whole_behind true bytes ≡ is_whole_behind true (b ∷ bs) → (is_whole_behind true bytes ≡ is_whole_behind true behind) ⊎ ((behind ≡ []) × (last_text [] (items_in devices commands) ≡ []))
-    fed same = ⊎_elim (λ is. inl (same ∙ ap (is_whole_behind true) is)) (λ last. clash last.0) first.ends
+-- what reading an item comes to is so
+abbrev Comes : List ℕ → List ℕ → ℕ → Next → Type 0
+Comes bytes rest number (Read count devices commands behind) = Turn bytes rest behind devices commands (number + (count + 1))
+Comes bytes rest number (BadLine place) = IsBadAt bytes (number + 1 + place)
+Comes bytes rest number CutShort = IsBadAt bytes (length (lines_of bytes) + 1)
 
-module _ (bytes : List ℕ) (b : ℕ) (bs : List ℕ) (devices : List DeviceDecl) (commands : List Command) (number : ℕ) (stands : Stands bytes (b ∷ bs) devices commands number)
-    (line : Line) (behind : List ℕ) (first : FirstLine (b ∷ bs) line behind) (head : Head) (says : head_of line ≡ Some head) (admitted : is_admitted devices commands head ≡ true) (text rest : List ℕ) (cut : Cut (text_size head) behind text rest) where
-  turn_of : IsLineOf line head (terminated cut.lines)
-  turn_of = line_of_text line head cut.lines says cut.lack cut.count_is
-
-  turn_item : Item
-  turn_item = item_from head (terminated cut.lines)
-
-  turn_added : Added devices commands head (terminated cut.lines)
-  turn_added = added devices commands head (terminated cut.lines) admitted stands.few stands.names
-
-  turn_lines : item_lines (item_from head (terminated cut.lines)) ≡ line ∷ cut.lines
-  turn_lines = item_lines_are line head (terminated cut.lines) cut.lines cut.lack refl turn_of
-
-  behind_is : behind ≡ terminated cut.lines ++ rest
-  behind_is = cut.joins ∙ ap (λ it. it ++ rest) cut.text_is
-
-  turn_ended : (is_whole_behind true bytes ≡ is_whole_behind true rest) ⊎ ((rest ≡ []) × (last_text [] (items_in (devices_with devices head) (commands_with commands head (terminated cut.lines))) ≡ []))
-  turn_ended =
-      ⊎_elim (λ same. ⊎_elim (λ is. inl (same ∙ (ap (is_whole_behind true) is ∙ (is_whole-append true line behind ∙ (ap (is_whole_behind true) behind_is ∙ is_whole-terminated cut.lines rest))))) (λ last. inr (bare last.1)) first.ends) (λ ended. clash ended.0) stands.ended
+module _ (bytes : List ℕ) (b : ℕ) (bs : List ℕ) (devices : List DeviceDecl) (commands : List Command) (number : ℕ) (stands : Stands bytes (b ∷ bs) devices commands number) where
+  came_blank : (behind : List ℕ) → FirstLine (b ∷ bs) [] behind → Turn bytes (b ∷ bs) behind devices commands (number + 1)
+  came_blank behind first = record {
+    stands = record {
+      front = stands.front ++ [] ∷ [];
+      lines = stands.lines ∙ (ap (λ it. (first_line ∷ stands.front) ++ it) first.lines ∙ sym (append_assoc (first_line ∷ stands.front) ([] ∷ []) (lines_of behind)));
+      count = omega (arith, stands.count, length-append stands.front (blank_line ∷ []));
+      leads = leads-blank stands.front (items_in devices commands) stands.leads;
+      few = stands.few;
+      names = stands.names;
+      ended = ⊎_elim (λ same. fed same) (λ ended. clash ended.0) stands.ended;
+    };
+    shorter = ends_shorter b bs [] behind first;
+  }
     where
       clash : {A : Type 0} → b ∷ bs ≡ [] → A
       clash e = cc
 
-      bare : behind ≡ [] → (rest ≡ []) × (last_text [] (items_in (devices_with devices head) (commands_with commands head (terminated cut.lines))) ≡ [])
-      bare e =
-          let parts = append_empty (terminated cut.lines) rest (sym behind_is ∙ e) in
-          (parts.1, ap (last_text []) turn_added.items ∙ (last_text-push [] (items_in devices commands) (item_from head (terminated cut.lines)) ∙ (turn_of.texts ∙ parts.0)))
+      fed : is_whole_behind true bytes ≡ is_whole_behind true (b ∷ bs) → (is_whole_behind true bytes ≡ is_whole_behind true behind) ⊎ ((behind ≡ []) × (last_text [] (items_in devices commands) ≡ []))
+      fed same = ⊎_elim (λ is. inl (same ∙ ap (is_whole_behind true) is)) (λ last. clash last.0) first.ends
 
-  turn_whole : Turn bytes (b ∷ bs) rest (devices_with devices head) (commands_with commands head (terminated cut.lines)) (number + (text_size head + 1))
-  turn_whole = record {
-    stands = record {
-      front = stands.front ++ line ∷ cut.lines;
-      lines = stands.lines ∙ (ap (λ it. (first_line ∷ stands.front) ++ it) (first.lines ∙ ap (λ it. line ∷ it) (ap lines_of behind_is ∙ lines_of-terminated cut.lines rest cut.lack)) ∙ sym (append_assoc (first_line ∷ stands.front) (line ∷ cut.lines) (lines_of rest)));
-      count = omega (arith, stands.count, cut.count_is, length-append stands.front (line ∷ cut.lines));
-      leads = subst (Leads (stands.front ++ line ∷ cut.lines)) (sym turn_added.items) (subst (λ it. Leads (stands.front ++ it) (items_in devices commands ++ item_from head (terminated cut.lines) ∷ [])) turn_lines (leads-item stands.front (items_in devices commands) stands.leads (item_from head (terminated cut.lines)) turn_of.item));
-      few = turn_added.few;
-      names = turn_added.names;
-      ended = turn_ended;
-    };
-    shorter = omega (arith, ends_shorter b bs line behind first, ap length behind_is, length-append (terminated cut.lines) rest);
-  }
+  module _ (c : ℕ) (cs behind : List ℕ) (first : FirstLine (b ∷ bs) (c ∷ cs) behind) where
+    lines_here : lines_of bytes ≡ (first_line ∷ stands.front) ++ (c ∷ cs) ∷ lines_of behind
+    lines_here = stands.lines ∙ ap (λ it. (first_line ∷ stands.front) ++ it) first.lines
 
-  turn_item_read : Turn bytes (b ∷ bs) rest (devices_with devices head) (commands_with commands head text) (number + (text_size head + 1))
-  turn_item_read = subst (λ it. Turn bytes (b ∷ bs) rest (devices_with devices head) (commands_with commands head it) (number + (text_size head + 1))) (sym cut.text_is) turn_whole
+    goes_here : (other : List ℕ) (job : Job) → IsJob other job → (more : List Line) → lines_of other ≡ (first_line ∷ stands.front) ++ (c ∷ cs) ∷ more → Goes job (items_in devices commands) (c ∷ cs) more
+    goes_here other job is more e = goes stands.front (items_in devices commands) stands.leads other job is c cs more e
 
--- what was read
-read_parts : (n m : ℕ) (ds es : List DeviceDecl) (cs os : List Command) (r q : List ℕ) → Read n ds cs r ≡ Read m es os q → (n ≡ m) × (ds ≡ es) × (cs ≡ os) × (r ≡ q)
-read_parts n m ds es cs os r q e = (cc, cc, cc, cc)
+    -- the line begins no job
+    bad_here : ((other : List ℕ) (job : Job) → IsJob other job → (more : List Line) → Goes job (items_in devices commands) (c ∷ cs) more → ⊥) → IsBadAt bytes (number + 1 + 0)
+    bad_here refuses =
+        bad_line bytes (first_line ∷ stands.front) (c ∷ cs) (lines_of behind) (number + 1 + 0) lines_here (begins_here bytes (b ∷ bs) devices commands number stands) (omega (arith, stands.count))
+        (λ other job is more e. refuses other job is more (goes_here other job is more e))
 
-turn_same : (bytes rest : List ℕ) (number n m : ℕ) (ds es : List DeviceDecl) (cs os : List Command) (r q : List ℕ) → Read n ds cs r ≡ Read m es os q → Turn bytes rest r ds cs (number + (n + 1)) → Turn bytes rest q es os (number + (m + 1))
-turn_same bytes rest number n m ds es cs os r q e turn =
-    let parts = read_parts n m ds es cs os r q e in
-    subst (λ it. Turn bytes rest it es os (number + (m + 1))) parts.3 (subst (λ it. Turn bytes rest r es it (number + (m + 1))) parts.2 (subst (λ it. Turn bytes rest r it cs (number + (m + 1))) parts.1 (subst (λ it. Turn bytes rest r ds cs (number + (it + 1))) parts.0 turn)))
+    unsaid : head_of (c ∷ cs) ≡ None → IsBadAt bytes (number + 1 + 0)
+    unsaid none = bad_here (λ other job is more at. clash (sym none ∙ goes_says job (items_in devices commands) (c ∷ cs) more at))
+      where
+        clash : {head : Head} → ◌≡◌ {A = Option Head} None (Some head) → ⊥
+        clash h = cc
 
-turn_head : (bytes : List ℕ) (b : ℕ) (bs : List ℕ) (devices : List DeviceDecl) (commands : List Command) (number : ℕ) → Stands bytes (b ∷ bs) devices commands number → (line : Line) (behind : List ℕ) → FirstLine (b ∷ bs) line behind → (head : Option Head) → head_of line ≡ head
-    → (n : ℕ) (ds : List DeviceDecl) (cs : List Command) (rest : List ℕ) → next_head devices commands behind head ≡ Read n ds cs rest → Turn bytes (b ∷ bs) rest ds cs (number + (n + 1))
-turn_head bytes b bs devices commands number stands line behind first None says n ds cs rest h = cc
-turn_head bytes b bs devices commands number stands line behind first (Some head) says n ds cs rest h =
-    at (is_admitted devices commands head) refl (text_cut (text_size head) behind) refl h
-  where
-    at : (test : Bool) → is_admitted devices commands head ≡ test → (o : Option (List ℕ × List ℕ)) → text_cut (text_size head) behind ≡ o → cond test (next_text devices commands head o) BadLine ≡ Read n ds cs rest → Turn bytes (b ∷ bs) rest ds cs (number + (n + 1))
-    at true t None e h = cc
-    at true t (Some found) e h =
-        turn_same bytes (b ∷ bs) number (text_size head) n (devices_with devices head) ds (commands_with commands head found.0) cs found.1 rest h
-        (turn_item_read bytes b bs devices commands number stands line behind first head says t found.0 found.1 (text_cut_gives (text_size head) behind found.0 found.1 e))
-    at false t o e h = cc
+    module _ (head : Head) (says : head_of (c ∷ cs) ≡ Some head) where
+      unadmitted : is_admitted devices commands head ≡ false → IsBadAt bytes (number + 1 + 0)
+      unadmitted refused =
+          bad_here (λ other job is more at. clash (sym refused ∙ admitted_any other job is devices commands (c ∷ cs) more at head (same_head job (items_in devices commands) (c ∷ cs) more at head says)))
+        where
+          clash : ◌≡◌ {A = Bool} false true → ⊥
+          clash h = cc
 
-turn_in : (bytes : List ℕ) (b : ℕ) (bs : List ℕ) (devices : List DeviceDecl) (commands : List Command) (number : ℕ) → Stands bytes (b ∷ bs) devices commands number → (line : Line) (behind : List ℕ) → FirstLine (b ∷ bs) line behind
-    → (n : ℕ) (ds : List DeviceDecl) (cs : List Command) (rest : List ℕ) → next_in devices commands line behind ≡ Read n ds cs rest → Turn bytes (b ∷ bs) rest ds cs (number + (n + 1))
-turn_in bytes b bs devices commands number stands [] behind first n ds cs rest h =
-    turn_same bytes (b ∷ bs) number 0 n devices ds commands cs behind rest h (turn_blank bytes b bs devices commands number stands behind first)
-turn_in bytes b bs devices commands number stands (c ∷ line) behind first n ds cs rest h =
-    turn_head bytes b bs devices commands number stands (c ∷ line) behind first (head_of (c ∷ line)) refl n ds cs rest h
+      -- how many lines an item has here
+      size_here : (job : Job) (more : List Line) (at : Goes job (items_in devices commands) (c ∷ cs) more) → length (lines_of (item_text at.item)) ≡ text_size head
+      size_here job more at =
+          text_size-head at.item ∙ ap text_size (sym (same_head job (items_in devices commands) (c ∷ cs) more at head says))
 
-pub stands_more : (bytes : List ℕ) (b : ℕ) (bs : List ℕ) (devices : List DeviceDecl) (commands : List Command) (number : ℕ) → Stands bytes (b ∷ bs) devices commands number
-    → (n : ℕ) (ds : List DeviceDecl) (cs : List Command) (rest : List ℕ) → next_item (b ∷ bs) devices commands ≡ Read n ds cs rest → Turn bytes (b ∷ bs) rest ds cs (number + (n + 1))
-unfolding next_item
-stands_more bytes b bs devices commands number stands n ds cs rest h =
-    turn_in bytes b bs devices commands number stands (next_line (b ∷ bs)).0 (next_line (b ∷ bs)).1 (next_line-first b bs) n ds cs rest h
+      count_here : (job : Job) (more : List Line) (at : Goes job (items_in devices commands) (c ∷ cs) more) → length (item_rules at.item) ≡ rule_count head
+      count_here job more at =
+          rule_count-head at.item ∙ ap rule_count (sym (same_head job (items_in devices commands) (c ∷ cs) more at head says))
+
+      module _ (admitted : is_admitted devices commands head ≡ true) where
+        -- lines behind the line begin a job, where others make them those of an item
+        begins_with : (lines : List Line) → AllLack 10 lines → length lines ≡ text_size head → (rules : List Rule) → AllByRecursion IsRule rules → length rules ≡ rule_count head
+            → (seen more : List Line) → lines ++ map rule_line rules ≡ seen ++ more → BeginsJob ((first_line ∷ stands.front) ++ (c ∷ cs) ∷ seen)
+        begins_with lines lines_lack size rules are many seen more e =
+            let bytes_lack = subst (AllLack 10) lines_here (lines-lack bytes) in
+            let front_lacks = AllLack-front 10 (first_line ∷ stands.front) ((c ∷ cs) ∷ lines_of behind) bytes_lack in
+            let line_lacks = (AllLack-back 10 (first_line ∷ stands.front) ((c ∷ cs) ∷ lines_of behind) bytes_lack).0 in
+            let all = begins_item stands.front devices commands stands.leads stands.few stands.names front_lacks (c ∷ cs) head (line_lacks, tt) says admitted lines lines_lack size rules are many in
+            begins_front ((first_line ∷ stands.front) ++ (c ∷ cs) ∷ seen) more
+            (subst BeginsJob (ap (λ it. (first_line ∷ stands.front) ++ (c ∷ cs) ∷ it) e ∙ sym (append_assoc (first_line ∷ stands.front) ((c ∷ cs) ∷ seen) more)) all)
+
+        -- all lines begin a job, and the bytes are none
+        short_line : BeginsJob ((first_line ∷ stands.front) ++ (c ∷ cs) ∷ lines_of behind) → ((job : Job) → IsJob bytes job → Goes job (items_in devices commands) (c ∷ cs) (lines_of behind) → ⊥) → IsBadAt bytes (length (lines_of bytes) + 1)
+        short_line begins none = record {
+          none = λ job is. none job is (goes_here bytes job is (lines_of behind) lines_here);
+          ends = inr refl;
+          first = λ earlier less. begins_take earlier (lines_of bytes) (subst BeginsJob (sym lines_here) begins);
+        }
+
+        -- the text is cut short
+        short_text : text_cut (text_size head) behind ≡ None → IsBadAt bytes (length (lines_of bytes) + 1)
+        short_text none = short_line begins refuses
+          where
+            missing : ℕ
+            missing = text_size head - length (lines_of behind)
+
+            blanks : List Line
+            blanks = replicate missing blank_line
+
+            rules : List Rule
+            rules = replicate (rule_count head) any_rule
+
+            size : length (lines_of behind ++ blanks) ≡ text_size head
+            size = omega (arith, length-append (lines_of behind) blanks, length-replicate missing blank_line, (short behind (text_size head) none).few)
+
+            begins : BeginsJob ((first_line ∷ stands.front) ++ (c ∷ cs) ∷ lines_of behind)
+            begins =
+                begins_with (lines_of behind ++ blanks) (AllLack-append 10 (lines_of behind) blanks (lines-lack behind) (blanks_lack missing)) size
+                rules (all_any (rule_count head)) (length-replicate (rule_count head) any_rule)
+                (lines_of behind) (blanks ++ map rule_line rules) (append_assoc (lines_of behind) blanks (map rule_line rules))
+
+            not_whole : is_whole_behind true behind ≡ false → is_whole_behind true bytes ≡ false
+            not_whole h =
+                let rest : is_whole_behind true (b ∷ bs) ≡ false = ⊎_elim (λ is. ap (is_whole_behind true) is ∙ (is_whole-append true (c ∷ cs) behind ∙ h)) (λ last. last.2) first.ends in
+                ⊎_elim (λ same. same ∙ rest) (λ ended. clash ended.0) stands.ended
+              where
+                clash : {A : Type 0} → b ∷ bs ≡ [] → A
+                clash e = cc
+
+            refuses : (job : Job) → IsJob bytes job → Goes job (items_in devices commands) (c ∷ cs) (lines_of behind) → ⊥
+            refuses job is at =
+                let items = items_in devices commands in
+                let size = size_here job (lines_of behind) at in
+                let parts = same_behind job items (c ∷ cs) (lines_of behind) at ∙ append_assoc (lines_of (item_text at.item)) (map rule_line (item_rules at.item)) at.rest in
+                let tail = text_cut-short (lines_of (item_text at.item)) (map rule_line (item_rules at.item) ++ at.rest) behind (ap (λ n. text_cut n behind) size ∙ none) parts in
+                let alone = AreItems-none at.others (subst (λ it. AreItems it at.others) (back_empty (map rule_line (item_rules at.item)) at.rest tail.0) at.behind) in
+                let last = ap (last_text []) (at.all ∙ ap (λ it. items ++ at.item ∷ it) alone) ∙ last_text-push [] items at.item in
+                ⊎_elim
+                (λ whole. clash whole (not_whole tail.1))
+                (λ bare. no_cut_of_nothing behind (ap (λ n. text_cut n behind) (sym (ap (λ it. length (lines_of it)) (sym last ∙ bare)) ∙ size) ∙ none))
+                is.ended
+              where
+                clash : is_whole_behind true bytes ≡ true → is_whole_behind true bytes ≡ false → ⊥
+                clash p q = let both_are = sym p ∙ q in cc
+
+        module _ (text rest : List ℕ) (cut : Cut (text_size head) behind text rest) where
+          behind_text : behind ≡ terminated cut.lines ++ rest
+          behind_text = cut.joins ∙ ap (λ it. it ++ rest) cut.text_is
+
+          lines_text : lines_of behind ≡ cut.lines ++ lines_of rest
+          lines_text = ap lines_of behind_text ∙ lines_of-terminated cut.lines rest cut.lack
+
+          -- there are too few rules
+          short_rules : FewRules (rule_count head) rest → IsBadAt bytes (length (lines_of bytes) + 1)
+          short_rules few = short_line begins refuses
+            where
+              missing : ℕ
+              missing = rule_count head - length few.rules
+
+              others : List Rule
+              others = replicate missing any_rule
+
+              all_lines : lines_of behind ≡ cut.lines ++ map rule_line few.rules
+              all_lines = lines_text ∙ ap (λ it. cut.lines ++ it) few.lines
+
+              count : length (few.rules ++ others) ≡ rule_count head
+              count = omega (arith, length-append few.rules others, length-replicate missing any_rule, few.few)
+
+              begins : BeginsJob ((first_line ∷ stands.front) ++ (c ∷ cs) ∷ lines_of behind)
+              begins =
+                  begins_with cut.lines cut.lack cut.count_is (few.rules ++ others) (all_append few.rules others few.are (all_any missing)) count
+                  (lines_of behind) (map rule_line others)
+                  (ap (λ it. cut.lines ++ it) (map-append rule_line few.rules others)
+                  ∙ (sym (append_assoc cut.lines (map rule_line few.rules) (map rule_line others)) ∙ ap (λ it. it ++ map rule_line others) (sym all_lines)))
+
+              refuses : (job : Job) → IsJob bytes job → Goes job (items_in devices commands) (c ∷ cs) (lines_of behind) → ⊥
+              refuses job is at =
+                  let same = ap length (sym all_lines ∙ same_behind job (items_in devices commands) (c ∷ cs) (lines_of behind) at) in
+                  let heads = same_head job (items_in devices commands) (c ∷ cs) (lines_of behind) at head says in
+                  let sizes = lines_with-length at.item ∙ ap (λ it. text_size it + rule_count it) (sym heads) in
+                  omega (arith, same, sizes, cut.count_is, few.few, length-append cut.lines (map rule_line few.rules), length-map few.rules rule_line, length-append (lines_with at.item) at.rest)
+
+          -- one of the lines of rules is none
+          bad_rule : (place : ℕ) → BadRules (rule_count head) rest place → IsBadAt bytes (number + 1 + place)
+          bad_rule place bad =
+              bad_line bytes before bad.line bad.behind (number + 1 + place) spelled begins
+              (omega (arith, stands.count, bad.place_is, none_of_text, cut.count_is, length-append (first_line ∷ stands.front) ((c ∷ cs) ∷ seen), length-append cut.lines (map rule_line bad.rules), length-map bad.rules rule_line))
+              refuses
+            where
+              seen : List Line
+              seen = cut.lines ++ map rule_line bad.rules
+
+              before : List Line
+              before = (first_line ∷ stands.front) ++ (c ∷ cs) ∷ seen
+
+              none_of_text : text_size head ≡ 0
+              none_of_text = one_kind head (omega (arith, bad.few))
+
+              missing : ℕ
+              missing = rule_count head - length bad.rules
+
+              others : List Rule
+              others = replicate missing any_rule
+
+              count : length (bad.rules ++ others) ≡ rule_count head
+              count = omega (arith, length-append bad.rules others, length-replicate missing any_rule, bad.few)
+
+              spelled : lines_of bytes ≡ before ++ bad.line ∷ bad.behind
+              spelled =
+                  lines_here
+                  ∙ (ap (λ it. (first_line ∷ stands.front) ++ (c ∷ cs) ∷ it) (lines_text ∙ (ap (λ it. cut.lines ++ it) bad.lines ∙ sym (append_assoc cut.lines (map rule_line bad.rules) (bad.line ∷ bad.behind))))
+                  ∙ sym (append_assoc (first_line ∷ stands.front) ((c ∷ cs) ∷ seen) (bad.line ∷ bad.behind)))
+
+              begins : BeginsJob before
+              begins =
+                  begins_with cut.lines cut.lack cut.count_is (bad.rules ++ others) (all_append bad.rules others bad.are (all_any missing)) count
+                  seen (map rule_line others)
+                  (ap (λ it. cut.lines ++ it) (map-append rule_line bad.rules others) ∙ sym (append_assoc cut.lines (map rule_line bad.rules) (map rule_line others)))
+
+              refuses : (other : List ℕ) (job : Job) → IsJob other job → (more : List Line) → lines_of other ≡ before ++ bad.line ∷ more → ⊥
+              refuses other job is more e =
+                  let lines = e ∙ append_assoc (first_line ∷ stands.front) ((c ∷ cs) ∷ seen) (bad.line ∷ more) in
+                  let at = goes_here other job is (seen ++ bad.line ∷ more) lines in
+                  let parts =
+                  sym (append_assoc cut.lines (map rule_line bad.rules) (bad.line ∷ more))
+                  ∙ (same_behind job (items_in devices commands) (c ∷ cs) (seen ++ bad.line ∷ more) at
+                  ∙ append_assoc (lines_of (item_text at.item)) (map rule_line (item_rules at.item)) at.rest) in
+                  let sizes = cut.count_is ∙ sym (size_here job (seen ++ bad.line ∷ more) at) in
+                  let fronts = equal_fronts cut.lines (lines_of (item_text at.item)) (map rule_line bad.rules ++ bad.line ∷ more) (map rule_line (item_rules at.item) ++ at.rest) sizes parts in
+                  none_among (map rule_line bad.rules) bad.line more (item_rules at.item) at.rest (rules_are at.item at.is)
+                  (omega (arith, bad.few, length-map bad.rules rule_line, count_here job (seen ++ bad.line ∷ more) at)) fronts.1 bad.none
+
+          module _ (rules : List Rule) (left : List ℕ) (read : ReadRules (rule_count head) rest rules left) where
+            turn_of : IsLineOf (c ∷ cs) head (terminated cut.lines) rules
+            turn_of = line_of_text (c ∷ cs) head cut.lines rules says cut.lack cut.count_is read.are read.count_is
+
+            turn_added : Added devices commands head (terminated cut.lines) rules
+            turn_added = added devices commands head (terminated cut.lines) rules admitted stands.few stands.names
+
+            turn_lines : item_lines (item_from head (terminated cut.lines) rules) ≡ (c ∷ cs) ∷ (cut.lines ++ map rule_line rules)
+            turn_lines = item_lines_are (c ∷ cs) head (terminated cut.lines) rules cut.lines cut.lack refl turn_of
+
+            turn_behind : lines_of behind ≡ (cut.lines ++ map rule_line rules) ++ lines_of left
+            turn_behind = lines_text ∙ (ap (λ it. cut.lines ++ it) read.lines ∙ sym (append_assoc cut.lines (map rule_line rules) (lines_of left)))
+
+            turn_last : terminated cut.lines ≡ [] → last_text [] (items_in (devices_with devices head) (commands_with commands head (terminated cut.lines) rules)) ≡ []
+            turn_last none = ap (last_text []) turn_added.items ∙ (last_text-push [] (items_in devices commands) (item_from head (terminated cut.lines) rules) ∙ (turn_of.texts ∙ none))
+
+            turn_ended : (is_whole_behind true bytes ≡ is_whole_behind true left) ⊎ ((left ≡ []) × (last_text [] (items_in (devices_with devices head) (commands_with commands head (terminated cut.lines) rules)) ≡ []))
+            turn_ended = ⊎_elim (λ same. ⊎_elim (λ is. fed same is) (λ last. inr (bare last.1)) first.ends) (λ ended. clash ended.0) stands.ended
+              where
+                clash : {A : Type 0} → b ∷ bs ≡ [] → A
+                clash e = cc
+
+                no_text : text_size head ≡ 0 → terminated cut.lines ≡ []
+                no_text none = ap terminated (no_length cut.lines (cut.count_is ∙ none))
+
+                fed : is_whole_behind true bytes ≡ is_whole_behind true (b ∷ bs) → b ∷ bs ≡ (c ∷ cs) ++ 10 ∷ behind
+                    → (is_whole_behind true bytes ≡ is_whole_behind true left) ⊎ ((left ≡ []) × (last_text [] (items_in (devices_with devices head) (commands_with commands head (terminated cut.lines) rules)) ≡ []))
+                fed same is =
+                    let so_far = same ∙ (ap (is_whole_behind true) is ∙ (is_whole-append true (c ∷ cs) behind ∙ (ap (is_whole_behind true) behind_text ∙ is_whole-terminated cut.lines rest))) in
+                    ⊎_elim (λ on. inl (so_far ∙ on)) (λ last. inr (last.0, turn_last (no_text (one_kind head last.1)))) read.ends
+
+                bare : behind ≡ [] → (left ≡ []) × (last_text [] (items_in (devices_with devices head) (commands_with commands head (terminated cut.lines) rules)) ≡ [])
+                bare e =
+                    let parts = append_empty (terminated cut.lines) rest (sym behind_text ∙ e) in
+                    (empty_rest rest left parts.1 read.low, turn_last parts.0)
+
+            turn_whole : Turn bytes (b ∷ bs) left (devices_with devices head) (commands_with commands head (terminated cut.lines) rules) (number + (lines_behind head + 1))
+            turn_whole = record {
+              stands = record {
+                front = stands.front ++ (c ∷ cs) ∷ (cut.lines ++ map rule_line rules);
+                lines = stands.lines ∙ (ap (λ it. (first_line ∷ stands.front) ++ it) (first.lines ∙ ap (λ it. (c ∷ cs) ∷ it) turn_behind) ∙ sym (append_assoc (first_line ∷ stands.front) ((c ∷ cs) ∷ (cut.lines ++ map rule_line rules)) (lines_of left)));
+                count = omega (arith, stands.count, cut.count_is, read.count_is, lines_behind-sum head, length-append stands.front ((c ∷ cs) ∷ (cut.lines ++ map rule_line rules)), length-append cut.lines (map rule_line rules), length-map rules rule_line);
+                leads = subst (Leads (stands.front ++ (c ∷ cs) ∷ (cut.lines ++ map rule_line rules))) (sym turn_added.items) (subst (λ it. Leads (stands.front ++ it) (items_in devices commands ++ item_from head (terminated cut.lines) rules ∷ [])) turn_lines (leads-item stands.front (items_in devices commands) stands.leads (item_from head (terminated cut.lines) rules) turn_of.item));
+                few = turn_added.few;
+                names = turn_added.names;
+                ended = turn_ended;
+              };
+              shorter = omega (arith, ends_shorter b bs (c ∷ cs) behind first, ap length behind_text, length-append (terminated cut.lines) rest, read.low);
+            }
+
+            turn_read : Turn bytes (b ∷ bs) left (devices_with devices head) (commands_with commands head text rules) (number + (lines_behind head + 1))
+            turn_read = subst (λ it. Turn bytes (b ∷ bs) left (devices_with devices head) (commands_with commands head it rules) (number + (lines_behind head + 1))) (sym cut.text_is) turn_whole
+
+          comes_rules : (rules : Rules) → Told (rule_count head) rest rules → Comes bytes (b ∷ bs) number (next_rules devices commands head text rules)
+          comes_rules (Are rules left) read = turn_read rules left read
+          comes_rules (BadRule place) bad = bad_rule place bad
+          comes_rules TooFew few = short_rules few
+
+        comes_text : (o : Option (List ℕ × List ℕ)) → text_cut (text_size head) behind ≡ o → Comes bytes (b ∷ bs) number (next_text devices commands head o)
+        comes_text None e = short_text e
+        comes_text (Some cut) e =
+            comes_rules cut.0 cut.1 (text_cut_gives (text_size head) behind cut.0 cut.1 e) (rules_cut (rule_count head) cut.1) (rules_cut_told (rule_count head) cut.1)
+
+      comes_said : (test : Bool) → is_admitted devices commands head ≡ test → Comes bytes (b ∷ bs) number (cond test (next_text devices commands head (text_cut (text_size head) behind)) (BadLine 0))
+      comes_said true t = comes_text t (text_cut (text_size head) behind) refl
+      comes_said false t = unadmitted t
+
+    comes_head : (o : Option Head) → head_of (c ∷ cs) ≡ o → Comes bytes (b ∷ bs) number (next_head devices commands behind o)
+    comes_head None e = unsaid e
+    comes_head (Some head) e = comes_said head e (is_admitted devices commands head) refl
+
+  comes_in : (line : Line) (behind : List ℕ) → FirstLine (b ∷ bs) line behind → Comes bytes (b ∷ bs) number (next_in devices commands line behind)
+  comes_in [] behind first = came_blank behind first
+  comes_in (c ∷ cs) behind first = comes_head c cs behind first (head_of (c ∷ cs)) refl
+
+  comes : Comes bytes (b ∷ bs) number (next_item (b ∷ bs) devices commands)
+  unfolding next_item
+  comes = comes_in (next_line (b ∷ bs)).0 (next_line (b ∷ bs)).1 (next_line-first b bs)
+
+  -- what is read
+  pub stands_more : (n : ℕ) (ds : List DeviceDecl) (cs : List Command) (rest : List ℕ) → next_item (b ∷ bs) devices commands ≡ Read n ds cs rest → Turn bytes (b ∷ bs) rest ds cs (number + (n + 1))
+  stands_more n ds cs rest h = subst (Comes bytes (b ∷ bs) number) h comes
+
+  -- what is refused at its line or at a line behind it
+  pub stands_bad : (place : ℕ) → next_item (b ∷ bs) devices commands ≡ BadLine place → IsBadAt bytes (number + 1 + place)
+  stands_bad place h = subst (Comes bytes (b ∷ bs) number) h comes
+
+  -- what is cut short
+  pub stands_short : next_item (b ∷ bs) devices commands ≡ CutShort → IsBadAt bytes (length (lines_of bytes) + 1)
+  stands_short h = subst (Comes bytes (b ∷ bs) number) h comes
 
 -- all is read
 pub stands_whole : (bytes : List ℕ) (devices : List DeviceDecl) (commands : List Command) (number : ℕ) → Stands bytes [] devices commands number → IsJob bytes (record { devices = devices; commands = commands })
@@ -460,9 +574,9 @@ module _ (bytes : List ℕ) (devices : List DeviceDecl) (commands : List Command
   turn [] stands some n ds cs behind h = cc
   turn (b ∷ bs) stands some n ds cs behind h = stands_more bytes b bs devices commands number stands n ds cs behind h
 
-  pub bad : (rest : List ℕ) → Stands bytes rest devices commands number → (length rest == 0) ≡ false → next_item rest devices commands ≡ BadLine → IsBadAt bytes (number + 1)
-  bad [] stands some h = cc
-  bad (b ∷ bs) stands some h = stands_bad bytes b bs devices commands number stands h
+  pub bad : (rest : List ℕ) → Stands bytes rest devices commands number → (length rest == 0) ≡ false → (place : ℕ) → next_item rest devices commands ≡ BadLine place → IsBadAt bytes (number + 1 + place)
+  bad [] stands some place h = cc
+  bad (b ∷ bs) stands some place h = stands_bad bytes b bs devices commands number stands place h
 
   pub cut_short : (rest : List ℕ) → Stands bytes rest devices commands number → (length rest == 0) ≡ false → next_item rest devices commands ≡ CutShort → IsBadAt bytes (length (lines_of bytes) + 1)
   cut_short [] stands some h = cc
@@ -477,6 +591,17 @@ module _ (bytes : List ℕ) (devices : List DeviceDecl) (commands : List Command
   more_lines [] stands some = cc
   more_lines (b ∷ bs) stands some =
       omega (arith, stands.count, ap length stands.lines, length-append (first_line ∷ stands.front) (lines_of (b ∷ bs)), lines-length bytes, ap length (next_line-first b bs).lines)
+
+-- a bad line is at most one behind the last
+pub bad_low : (bytes : List ℕ) (number : ℕ) → IsBadAt bytes number → number ≤ length bytes + 1
+bad_low bytes number bad =
+    ⊎_elim (λ within. low within.0) (λ past. beyond past) bad.ends
+  where
+    low : number ≤ length (lines_of bytes) → number ≤ length bytes + 1
+    low h = omega (arith, lines-length bytes)
+
+    beyond : number ≡ length (lines_of bytes) + 1 → number ≤ length bytes + 1
+    beyond h = omega (arith, lines-length bytes)
 
 -- the number of lines read is at most that of bytes
 pub stands_low : (bytes rest : List ℕ) (devices : List DeviceDecl) (commands : List Command) (number : ℕ) → Stands bytes rest devices commands number → number ≤ length bytes

@@ -1,8 +1,11 @@
 pub mod TaskCovering
 pub mod HeadLaws
+pub mod RuleLaws
+pub mod RuleCuts
 pub mod ItemLists
 pub mod Standing
 pub mod JobLaws
 pub mod ReadJobs
 pub mod WorkedJobs
 pub mod WorkedLimits
+pub mod WorkedPolicies

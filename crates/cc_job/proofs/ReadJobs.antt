@@ -10,7 +10,8 @@ use Rattle.cc_job.specs.Reading.{Next, Read, BadLine, CutShort, next_item}
 use Rattle.cc_job.proofs.Standing.{Stands, job_with}
 use Rattle.cc_job.proofs.JobLaws.{stands_more, stands_bad, stands_short, stands_whole, first_bad, first_good}
 
--- what reading comes to: a job, a bad line, the end of the bytes within a text, or nothing yet
+-- what reading comes to: a job, a bad line, the end of the bytes within the lines behind another, or nothing
+-- yet
 pub data Found : Type 0 where
   AJob : (devices : List DeviceDecl) (commands : List Command) → Found
   BadAt : (number : ℕ) → Found
@@ -22,7 +23,7 @@ Reader = List ℕ → List DeviceDecl → List Command → ℕ → Found
 
 abbrev pub behind_item : Reader → ℕ → Next → Found
 behind_item go number (Read count devices commands behind) = go behind devices commands (number + (count + 1))
-behind_item go number BadLine = BadAt (number + 1)
+behind_item go number (BadLine place) = BadAt (number + 1 + place)
 behind_item go number CutShort = BadBehind
 
 -- what is found in the rest of bytes in so many steps
@@ -49,7 +50,7 @@ behind_is : (bytes : List ℕ) (go : Reader) → ((rest : List ℕ) (ds : List D
     → (next : Next) → next_item (b ∷ bs) devices commands ≡ next → IsFound bytes (behind_item go number next)
 behind_is bytes go is b bs devices commands number stands (Read count ds cs behind) e =
     is behind ds cs (number + (count + 1)) (stands_more bytes b bs devices commands number stands count ds cs behind e).stands
-behind_is bytes go is b bs devices commands number stands BadLine e = stands_bad bytes b bs devices commands number stands e
+behind_is bytes go is b bs devices commands number stands (BadLine place) e = stands_bad bytes b bs devices commands number stands place e
 behind_is bytes go is b bs devices commands number stands CutShort e = stands_short bytes b bs devices commands number stands e
 
 found_in_is : (bytes : List ℕ) (steps : ℕ) (rest : List ℕ) (devices : List DeviceDecl) (commands : List Command) (number : ℕ)
@@ -88,7 +89,8 @@ item_read : (bytes : List ℕ) (b : ℕ) (bs : List ℕ)
 item_read bytes b bs go devices commands number stands (Read count ds cs behind) e =
     let turn = stands_more bytes b bs devices commands number stands count ds cs behind e in
     go behind ds cs (number + (count + 1)) turn.shorter turn.stands
-item_read bytes b bs go devices commands number stands BadLine e = inr (number + 1, stands_bad bytes b bs devices commands number stands e)
+item_read bytes b bs go devices commands number stands (BadLine place) e =
+    inr (number + 1 + place, stands_bad bytes b bs devices commands number stands place e)
 item_read bytes b bs go devices commands number stands CutShort e =
     inr (length (lines_of bytes) + 1, stands_short bytes b bs devices commands number stands e)
 

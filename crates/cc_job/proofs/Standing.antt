@@ -1,21 +1,22 @@
 -- What was read of a job so far, and what stands behind it.
-use Rattle.std.proofs.Common.{◌≡◌, ℕ, zero, suc, ◌<◌, ◌≤◌, Bool, true, false, not, ◌&&◌, ◌==◌, List, [], ◌∷◌, ◌++◌, length, map, take, drop, Some, refl, sym, ap, ◌∙◌, subst, inl, ◌⊎◌, arith}
+use Rattle.std.proofs.Common.{◌≡◌, ℕ, zero, suc, ◌+◌, ◌<◌, ◌≤◌, Bool, true, false, not, ◌&&◌, ◌==◌, List, [], ◌∷◌, ◌++◌, length, map, take, drop, Some, refl, sym, ap, ◌∙◌, subst, inl, ◌⊎◌, arith}
 use Rattle.std.specs.Prelude.{nat_lt}
-use Rattle.std.specs.List.{list_any, IsDistinct}
+use Rattle.std.specs.List.{list_any, AllByRecursion, IsDistinct}
 use Rattle.std.specs.Str.{bytes_eq}
 use Rattle.std.specs.Cmp.Lexicographic.{nat_list_eq_equiv}
 use Rattle.std.proofs.lemmas.List.{append-nil, append_assoc, length-append, take-append-drop}
 use Rattle.std.proofs.lemmas.Map.Keys.{IsDistinct-push}
 use Rattle.std.proofs.lemmas.Bool.Decides.{nat_tests, Decides-eqb}
 use Rattle.cc_base.specs.declared.device.DeviceDecl.{DeviceDecl}
+use Rattle.cc_policy.specs.declared.policy.Rule.{Rule}
 use Rattle.cc_job.specs.declared.job.Job.{Job}
 use Rattle.cc_job.specs.declared.job.Command.{Command}
-use Rattle.cc_job.specs.declared.job.Command.TheVariants.{Put}
+use Rattle.cc_job.specs.declared.job.Command.TheVariants.{Put, Verify, Policy}
 use Rattle.cc_job.specs.declared.head.Head.{Head}
-use Rattle.cc_job.specs.declared.head.Head.TheVariants.{Device, Put as PutHead, Command as CommandHead}
+use Rattle.cc_job.specs.declared.head.Head.TheVariants.{Device, Put as PutHead, Verify as VerifyHead, Policy as PolicyHead, Command as CommandHead}
 use Rattle.cc_words.specs.Lines.{Line, lines_of, is_whole_behind}
-use Rattle.cc_job.specs.Jobs.{Item, Declares, Commands, item_text, item_lines, AreItems, last_text, first_line, IsJob, BeginsJob}
-use Rattle.cc_job.specs.Reading.{head_of, text_size, has_device, admits, is_admitted, devices_with, commands_with}
+use Rattle.cc_job.specs.Jobs.{Item, Declares, Commands, item_text, item_rules, item_lines, rule_line, IsRule, AreItems, last_text, first_line, IsJob, BeginsJob}
+use Rattle.cc_job.specs.Reading.{head_of, text_size, rule_count, lines_behind, has_device, admits, is_admitted, devices_with, commands_with}
 use Rattle.cc_words.proofs.Steps.{both}
 use Rattle.cc_words.proofs.Splits.{AllLack, Lacks-test}
 use Rattle.cc_words.proofs.LineLists.{terminated, lines_of-whole, whole-terminated, lines-lack, AllLack-front}
@@ -28,7 +29,7 @@ names_of devices = map (λ device. device.name) devices
 abbrev pub items_in : List DeviceDecl → List Command → List Item
 items_in devices commands = map Declares devices ++ map Commands commands
 
-map-append : {A B : Type 0} (f : A → B) (xs ys : List A) → map f (xs ++ ys) ≡ map f xs ++ map f ys
+pub map-append : {A B : Type 0} (f : A → B) (xs ys : List A) → map f (xs ++ ys) ≡ map f xs ++ map f ys
 map-append f [] ys = refl
 map-append f (x ∷ xs) ys = ap (λ it. f x ∷ it) (map-append f xs ys)
 
@@ -98,10 +99,10 @@ pub last_text-push : (text : List ℕ) (items : List Item) (item : Item) → las
 last_text-push text [] item = refl
 last_text-push text (x ∷ items) item = last_text-push (item_text x) items item
 
-pub record Added (devices : List DeviceDecl) (commands : List Command) (head : Head) (text : List ℕ) : Type 0 where
+pub record Added (devices : List DeviceDecl) (commands : List Command) (head : Head) (text : List ℕ) (rules : List Rule) : Type 0 where
   pub few : length (devices_with devices head) ≤ 16
   pub names : IsDistinct bytes_eq (names_of (devices_with devices head))
-  pub items : items_in (devices_with devices head) (commands_with commands head text) ≡ items_in devices commands ++ item_from head text ∷ []
+  pub items : items_in (devices_with devices head) (commands_with commands head text rules) ≡ items_in devices commands ++ item_from head text rules ∷ []
 
 command_added : (devices : List DeviceDecl) (commands : List Command) (command : Command) → map Declares devices ++ map Commands (commands ++ command ∷ []) ≡ items_in devices commands ++ Commands command ∷ []
 command_added devices commands command =
@@ -119,9 +120,10 @@ pub not_true : (t : Bool) → not t ≡ false → t ≡ true
 not_true true h = refl
 not_true false h = cc
 
-pub added : (devices : List DeviceDecl) (commands : List Command) (head : Head) (text : List ℕ) → is_admitted devices commands head ≡ true → length devices ≤ 16 → IsDistinct bytes_eq (names_of devices) → Added devices commands head text
+pub added : (devices : List DeviceDecl) (commands : List Command) (head : Head) (text : List ℕ) (rules : List Rule) → is_admitted devices commands head ≡ true → length devices ≤ 16 → IsDistinct bytes_eq (names_of devices)
+    → Added devices commands head text rules
 unfolding admits
-added devices [] (Device device) text admitted few names =
+added devices [] (Device device) text rules admitted few names =
     let tests = both ((length {A = Command} [] == 0) && nat_lt (length devices) 16) (not (has_device devices device)) admitted in
     let below : nat_lt (length devices) 16 ≡ true = (both (length {A = Command} [] == 0) (nat_lt (length devices) 16) tests.0).1 in
     let less : length devices < 16 = grind (arith, nat_tests) in
@@ -131,24 +133,46 @@ added devices [] (Device device) text admitted few names =
       names = subst (IsDistinct bytes_eq) (sym (map-append (λ it. it.name) devices (device ∷ []))) (IsDistinct-push nat_list_eq_equiv (names_of devices) device.name names fresh);
       items = append-nil (map Declares (devices ++ device ∷ [])) ∙ (map-append Declares devices (device ∷ []) ∙ ap (λ it. it ++ Declares device ∷ []) (sym (append-nil (map Declares devices))));
     }
-added devices (command ∷ commands) (Device device) text admitted few names = absurd (clash admitted)
+added devices (command ∷ commands) (Device device) text rules admitted few names = absurd (clash admitted)
   where
     clash : ((length (command ∷ commands) == 0) && nat_lt (length devices) 16 && not (has_device devices device)) ≡ true → ⊥
     clash h = let first = (both (length (command ∷ commands) == 0) (nat_lt (length devices) 16) (both ((length (command ∷ commands) == 0) && nat_lt (length devices) 16) (not (has_device devices device)) h).0).0 in let none = (Decides-eqb (length (command ∷ commands)) 0).0 first in omega arith
-added devices commands (PutHead name count) text admitted few names =
+added devices commands (PutHead name count) text rules admitted few names =
     record { few = few; names = names; items = command_added devices commands (Put name text) }
-added devices commands (CommandHead command) text admitted few names =
+added devices commands (VerifyHead count) text rules admitted few names =
+    record { few = few; names = names; items = command_added devices commands (Verify text) }
+added devices commands (PolicyHead count) text rules admitted few names =
+    record { few = few; names = names; items = command_added devices commands (Policy rules) }
+added devices commands (CommandHead command) text rules admitted few names =
     record { few = few; names = names; items = command_added devices commands command }
 
--- the lines of what a line says with whole lines behind it
-pub item_lines_are : (line : Line) (head : Head) (text : List ℕ) (lines : List Line) → AllLack 10 lines → text ≡ terminated lines → IsLineOf line head text → item_lines (item_from head text) ≡ line ∷ lines
-item_lines_are line head text lines lack is of =
-    ap (λ it. it ∷ lines_of (item_text (item_from head text))) (sym of.spelled)
-    ∙ ap (λ it. line ∷ it) (ap lines_of (of.texts ∙ is) ∙ lines_of-whole lines lack)
+-- the lines of what a line says with whole lines and rules behind it
+pub item_lines_are : (line : Line) (head : Head) (text : List ℕ) (rules : List Rule) (lines : List Line) → AllLack 10 lines → text ≡ terminated lines → IsLineOf line head text rules
+    → item_lines (item_from head text rules) ≡ line ∷ (lines ++ map rule_line rules)
+item_lines_are line head text rules lines lack is of =
+    ap (λ it. it ∷ (lines_of (item_text (item_from head text rules)) ++ map rule_line (item_rules (item_from head text rules)))) (sym of.spelled)
+    ∙ (ap (λ it. line ∷ (it ++ map rule_line (item_rules (item_from head text rules)))) (ap lines_of (of.texts ∙ is) ∙ lines_of-whole lines lack)
+    ∙ ap (λ it. line ∷ (lines ++ map rule_line it)) of.ruled)
 
-pub line_of_text : (line : Line) (head : Head) (lines : List Line) → head_of line ≡ Some head → AllLack 10 lines → length lines ≡ text_size head → IsLineOf line head (terminated lines)
-line_of_text line head lines says lack size =
-    head_of_gives (terminated lines) (whole-terminated lines) line head says (ap length (lines_of-whole lines lack) ∙ size)
+pub line_of_text : (line : Line) (head : Head) (lines : List Line) (rules : List Rule) → head_of line ≡ Some head → AllLack 10 lines → length lines ≡ text_size head
+    → AllByRecursion IsRule rules → length rules ≡ rule_count head → IsLineOf line head (terminated lines) rules
+line_of_text line head lines rules says lack size are many =
+    head_of_gives (terminated lines) (whole-terminated lines) rules are line head says (ap length (lines_of-whole lines lack) ∙ size) many
+
+-- whole lines of a text or rules stand behind a line, not both
+pub one_kind : (head : Head) → 1 ≤ rule_count head → text_size head ≡ 0
+one_kind (Device device) some = absurd (omega arith)
+one_kind (PutHead name count) some = absurd (omega arith)
+one_kind (VerifyHead count) some = absurd (omega arith)
+one_kind (PolicyHead count) some = refl
+one_kind (CommandHead command) some = absurd (omega arith)
+
+pub lines_behind-sum : (head : Head) → lines_behind head ≡ text_size head + rule_count head
+lines_behind-sum (Device device) = refl
+lines_behind-sum (PutHead name count) = omega arith
+lines_behind-sum (VerifyHead count) = omega arith
+lines_behind-sum (PolicyHead count) = omega arith
+lines_behind-sum (CommandHead command) = refl
 
 pub append_empty : {A : Type 0} (xs ys : List A) → xs ++ ys ≡ [] → (xs ≡ []) × (ys ≡ [])
 append_empty [] ys e = (refl, e)

@@ -2,7 +2,6 @@
 use Rattle.std.proofs.Common.{◌≡◌, ℕ, List, [], ◌∷◌, ◌++◌, refl, inr, subst, Some, arith}
 use Rattle.std.specs.Prelude.{codes, encode_utf8_all}
 use Rattle.std.specs.List.{IsDistinct}
-use Rattle.std.specs.Fmt.{digits}
 use Rattle.unicode_ident.proofs.Computing.{unicode_ident}
 use Rattle.cc_base.specs.Names.{IsName, is_reserved, reserved_words}
 use Rattle.cc_base.specs.declared.device.DeviceDecl.{DeviceDecl}
@@ -10,7 +9,7 @@ use Rattle.cc_base.specs.declared.device.Kind.TheVariants.{Console}
 use Rattle.cc_job.specs.declared.job.Command.TheVariants.{Check}
 use Rattle.cc_words.specs.Words.{name_of, number_of, signed_of, pair_of}
 use Rattle.cc_job.specs.Reading.{is_schedule, schedule_of, turns_of, file_of, kind_with, kind_of, device_of, put_of, drop_of, check_of, sig_of, derive_of, run_of, tasks_of, command_with, head_with, head_of, admits, Read, BadLine, CutShort, next_item}
-use Rattle.cc_job.specs.Examples.{text, ShortestJob, LongJob, NothingIsBad, TwoSpacesAreBad, MinusZeroIsBad, MissingTaskIsBad, LateDeviceIsBad, SecondNameIsBad, ShortTextIsBad, OpenTextIsBad}
+use Rattle.cc_job.specs.Examples.{text, ShortestJob, NothingIsBad, TwoSpacesAreBad, MinusZeroIsBad, MissingTaskIsBad, LateDeviceIsBad, SecondNameIsBad, ShortTextIsBad, OpenTextIsBad}
 use Rattle.cc_words.proofs.NameBytes.{name_of-encoded}
 use Rattle.cc_job.proofs.JobLaws.{turn, bad, cut_short, first_bad, first_good}
 use lib.Utf8.{encode}
@@ -28,7 +27,7 @@ two_spaces_are_bad =
     let bytes = text (codes "capc 1" ∷ codes "check" ∷ codes "drop  m" ∷ codes "check" ∷ []) in
     let first = first_good bytes refl in
     let second = turn bytes [] [] 1 (text (codes "check" ∷ codes "drop  m" ∷ codes "check" ∷ [])) first refl 0 _ _ _ refl in
-    bad bytes _ _ 2 (text (codes "drop  m" ∷ codes "check" ∷ [])) second.stands refl refl
+    bad bytes _ _ 2 (text (codes "drop  m" ∷ codes "check" ∷ [])) second.stands refl 0 refl
 
 -- a name that is its text
 named : (name : List ℕ) → IsName name → encode_utf8_all name ≡ name → name_of name ≡ Some name
@@ -54,7 +53,7 @@ g_is : name_of (codes "g") ≡ Some (codes "g")
 unfolding encode unicode_ident is_reserved reserved_words
 g_is = named (codes "g") refl refl
 
-minus_zero : next_item (text (codes "device in file -0" ∷ [])) [] [] ≡ BadLine
+minus_zero : next_item (text (codes "device in file -0" ∷ [])) [] [] ≡ BadLine 0
 unfolding next_item head_of head_with command_with device_of put_of check_of tasks_of turns_of schedule_of is_schedule pair_of kind_of kind_with file_of number_of signed_of admits
 minus_zero = rw in_is refl
 
@@ -64,18 +63,18 @@ minus_zero_is_bad =
     let bytes = text (codes "capc 1" ∷ [] ∷ codes "device in file -0" ∷ []) in
     let first = first_good bytes refl in
     let second = turn bytes [] [] 1 (text ([] ∷ codes "device in file -0" ∷ [])) first refl 0 [] [] (text (codes "device in file -0" ∷ [])) refl in
-    bad bytes [] [] 2 (text (codes "device in file -0" ∷ [])) second.stands refl minus_zero
+    bad bytes [] [] 2 (text (codes "device in file -0" ∷ [])) second.stands refl 0 minus_zero
 
-missing_task : next_item (text (codes "tasks 1 0,0 m.f m.g" ∷ [])) [] [] ≡ BadLine
+missing_task : next_item (text (codes "tasks 1 0,0 m.f m.g" ∷ [])) [] [] ≡ BadLine 0
 unfolding next_item head_of head_with command_with device_of put_of check_of tasks_of turns_of schedule_of is_schedule pair_of kind_of kind_with file_of number_of signed_of admits
 missing_task = rw (m_is, f_is, g_is) refl
 
 pub missing_task_is_bad : MissingTaskIsBad
 missing_task_is_bad =
     let bytes = text (codes "capc 1" ∷ codes "tasks 1 0,0 m.f m.g" ∷ []) in
-    bad bytes [] [] 1 (text (codes "tasks 1 0,0 m.f m.g" ∷ [])) (first_good bytes refl) refl missing_task
+    bad bytes [] [] 1 (text (codes "tasks 1 0,0 m.f m.g" ∷ [])) (first_good bytes refl) refl 0 missing_task
 
-late_device : next_item (text (codes "device out console" ∷ [])) [] (Check ∷ []) ≡ BadLine
+late_device : next_item (text (codes "device out console" ∷ [])) [] (Check ∷ []) ≡ BadLine 0
 unfolding next_item head_of head_with command_with device_of put_of check_of tasks_of turns_of schedule_of is_schedule pair_of kind_of kind_with file_of number_of signed_of admits
 late_device = rw out_is refl
 
@@ -85,7 +84,7 @@ late_device_is_bad =
     let bytes = text (codes "capc 1" ∷ codes "check" ∷ codes "device out console" ∷ []) in
     let first = first_good bytes refl in
     let second = turn bytes [] [] 1 (text (codes "check" ∷ codes "device out console" ∷ [])) first refl 0 [] (Check ∷ []) (text (codes "device out console" ∷ [])) refl in
-    bad bytes [] (Check ∷ []) 2 (text (codes "device out console" ∷ [])) second.stands refl late_device
+    bad bytes [] (Check ∷ []) 2 (text (codes "device out console" ∷ [])) second.stands refl 0 late_device
 
 abbrev out : List DeviceDecl
 out = record { name = codes "out"; kind = Console } ∷ []
@@ -94,7 +93,7 @@ first_out : next_item (text (codes "device out console" ∷ codes "device out co
 unfolding next_item head_of head_with command_with device_of put_of check_of tasks_of turns_of schedule_of is_schedule pair_of kind_of kind_with file_of number_of signed_of admits
 first_out = rw out_is refl
 
-second_out : next_item (text (codes "device out counter" ∷ [])) out [] ≡ BadLine
+second_out : next_item (text (codes "device out counter" ∷ [])) out [] ≡ BadLine 0
 unfolding next_item head_of head_with command_with device_of put_of check_of tasks_of turns_of schedule_of is_schedule pair_of kind_of kind_with file_of number_of signed_of admits
 second_out = rw out_is refl
 
@@ -103,7 +102,7 @@ second_name_is_bad =
     let bytes = text (codes "capc 1" ∷ codes "device out console" ∷ codes "device out counter" ∷ []) in
     let first = first_good bytes refl in
     let second = turn bytes [] [] 1 (text (codes "device out console" ∷ codes "device out counter" ∷ [])) first refl 0 out [] (text (codes "device out counter" ∷ [])) first_out in
-    bad bytes out [] 2 (text (codes "device out counter" ∷ [])) second.stands refl second_out
+    bad bytes out [] 2 (text (codes "device out counter" ∷ [])) second.stands refl 0 second_out
 
 short_text : next_item (text (codes "put m 3" ∷ codes "a" ∷ codes "b" ∷ [])) [] [] ≡ CutShort
 unfolding next_item head_of head_with command_with device_of put_of check_of tasks_of turns_of schedule_of is_schedule pair_of kind_of kind_with file_of number_of signed_of admits
@@ -122,65 +121,3 @@ pub open_text_is_bad : OpenTextIsBad
 open_text_is_bad =
     let bytes = text (codes "capc 1" ∷ codes "put m 2" ∷ codes "a" ∷ []) ++ codes "b" in
     cut_short bytes [] [] 1 (text (codes "put m 2" ∷ codes "a" ∷ []) ++ codes "b") (first_good bytes refl) refl open_text
-
-pub long_job : LongJob
-unfolding IsDistinct digits encode unicode_ident is_reserved reserved_words
-long_job =
-    record {
-      behind = _;
-      begins = refl;
-      items = (
-        _,
-        (refl, tt),
-        refl,
-        (
-          _,
-          (refl, (refl, (refl, (refl, tt)))),
-          refl,
-          (
-            _,
-            (refl, tt),
-            refl,
-            (
-              _,
-              (refl, refl, omega arith),
-              refl,
-              (
-                _,
-                (refl, refl, omega arith),
-                refl,
-                (
-                  _,
-                  refl,
-                  refl,
-                  (
-                    _,
-                    tt,
-                    refl,
-                    (
-                      _,
-                      refl,
-                      refl,
-                      (
-                        _,
-                        (refl, refl),
-                        refl,
-                        (
-                          _,
-                          ((refl, refl), omega arith),
-                          refl,
-                          (_, (omega arith, (omega arith, omega arith, (omega arith, (omega arith, (omega arith, tt))), refl), ((refl, refl), ((refl, refl), tt)), omega arith, omega arith), refl, refl),
-                        ),
-                      ),
-                    ),
-                  ),
-                ),
-              ),
-            ),
-          ),
-        ),
-      );
-      few = omega arith;
-      names = ((refl, (refl, tt)), ((refl, tt), (tt, tt)));
-      ended = inr refl;
-    }

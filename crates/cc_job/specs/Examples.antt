@@ -1,7 +1,8 @@
 -- Worked jobs, and bytes that are none.
-use Rattle.std.specs.Prelude.{ℕ, pos, negsuc, List, [], ◌∷◌, ◌++◌, codes}
+use Rattle.std.specs.Prelude.{ℕ, pos, negsuc, Bool, true, false, List, [], ◌∷◌, ◌++◌, Option, Some, None, codes}
 use Rattle.cc_base.specs.declared.device.Kind.TheVariants.{Console, File, Counter}
-use Rattle.cc_job.specs.declared.job.Command.TheVariants.{Put, Drop, Check, Sig, Derive, Run, Tasks}
+use Rattle.cc_job.specs.declared.job.Command.TheVariants.{Put, Drop, Check, Sig, Derive, Run, Tasks, Verify, Policy, Audit, Guard}
+use Rattle.cc_policy.specs.declared.policy.Rule.{Rule}
 use Rattle.cc_job.specs.Jobs.{IsJob, IsBadAt}
 
 -- lines, each with its line feed
@@ -30,6 +31,36 @@ LongJob =
           Put (codes "m") (10 ∷ codes "def  x" ++ 10 ∷ []) ∷ Put (codes "e") [] ∷ Drop (codes "e") ∷ Check ∷
           Sig (codes "m") ∷ Derive (codes "m") (codes "f") ∷ Run (codes "m") (codes "f") 1000000 ∷
           Tasks 10 (0 ∷ 1 ∷ 0 ∷ []) ((codes "m", codes "f") ∷ (codes "m", codes "g") ∷ []) ∷ [];
+    })
+
+-- a text that is verified: an empty line counts, spaces are free, and what could be a command is none
+abbrev pub CertificateJob : Type 0
+CertificateJob =
+    IsJob
+    (text (codes "capc 1" ∷ codes "verify 3" ∷ [] ∷ codes " a  b" ∷ codes "check" ∷ [] ∷ codes "verify 0" ∷ []))
+    (record {
+      devices = [];
+      commands = Verify (text ([] ∷ codes " a  b" ∷ codes "check" ∷ [])) ∷ Verify [] ∷ [];
+    })
+
+abbrev pub rule : Bool → Option (List ℕ) → Option (List ℕ) → Rule
+rule allow owner device = record { allow = allow; «module» = owner; device = device }
+
+-- policies, whose rules keep their order, with what asks for them; the last rule stands without its line feed
+abbrev pub PolicyJob : Type 0
+PolicyJob =
+    IsJob
+    (text (
+    codes "capc 1" ∷ codes "policy 3" ∷ codes "deny m d" ∷ codes "allow * d" ∷ codes "allow m *" ∷ [] ∷
+    codes "audit m.f" ∷ codes "guard m.f 7" ∷ codes "policy 0" ∷ codes "policy 1" ∷ []) ++ codes "deny * *")
+    (record {
+      devices = [];
+      commands =
+          Policy (
+          rule false (Some (codes "m")) (Some (codes "d")) ∷ rule true None (Some (codes "d")) ∷
+          rule true (Some (codes "m")) None ∷ []) ∷
+          Audit (codes "m") (codes "f") ∷ Guard (codes "m") (codes "f") 7 ∷ Policy [] ∷
+          Policy (rule false None None ∷ []) ∷ [];
     })
 
 -- no bytes

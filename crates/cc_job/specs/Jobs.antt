@@ -1,6 +1,6 @@
 -- The text of a job: a list of lines, which declare devices and then give commands.
-use Rattle.std.specs.Prelude.{◌≡◌, ℕ, zero, suc, ◌+◌, ◌<◌, ◌≤◌, Bool, true, ◌==◌, ◌&&◌, ◌⊎◌}
-use Rattle.std.specs.Prelude.{List, [], ◌∷◌, ◌++◌, length, map, take, codes, encode_utf8_all, IsTrue, Result, Ok, Err}
+use Rattle.std.specs.Prelude.{◌≡◌, ℕ, zero, suc, ◌+◌, ◌<◌, ◌≤◌, Bool, true, false, ◌==◌, ◌&&◌, ◌⊎◌}
+use Rattle.std.specs.Prelude.{List, [], ◌∷◌, ◌++◌, length, map, take, codes, encode_utf8_all, IsTrue, Option, Some, None, Result, Ok, Err}
 use Rattle.std.specs.List.{list_any, AllByRecursion, IsDistinct}
 use Rattle.std.specs.Fmt.{decimal, signed_decimal}
 use Rattle.std.specs.Str.{bytes_eq}
@@ -8,10 +8,11 @@ use Rattle.cc_base.specs.Names.{IsName}
 use Rattle.cc_base.specs.declared.device.Kind.{Kind}
 use Rattle.cc_base.specs.declared.device.Kind.TheVariants.{Console, File, Counter}
 use Rattle.cc_base.specs.declared.device.DeviceDecl.{DeviceDecl}
+use Rattle.cc_policy.specs.declared.policy.Rule.{Rule}
 use Rattle.cc_words.specs.Words.{joined, has_64_bits, IsPair, pair_text}
 use Rattle.cc_words.specs.Lines.{Line, lines_of, AreWholeLines}
 use Rattle.cc_job.specs.declared.job.Command.{Command}
-use Rattle.cc_job.specs.declared.job.Command.TheVariants.{Put, Drop, Check, Sig, Derive, Run, Tasks}
+use Rattle.cc_job.specs.declared.job.Command.TheVariants.{Put, Drop, Check, Sig, Derive, Run, Tasks, Verify, Policy, Audit, Guard}
 use Rattle.cc_job.specs.declared.job.Job.{Job}
 use Rattle.cc_job.specs.declared.job.JobError.{JobError}
 use Rattle.cc_job.specs.declared.job.JobError.TheVariants.{BadJob, NoMemory}
@@ -26,6 +27,23 @@ kind_words Console = codes "console" ∷ []
 kind_words (File numbers) = codes "file" ∷ map signed_decimal numbers
 kind_words Counter = codes "counter" ∷ []
 
+-- whether a rule allows
+abbrev pub permission_word : Bool → List ℕ
+permission_word true = codes "allow"
+permission_word false = codes "deny"
+
+-- which modules or which devices a rule is about: one with this name, or any
+abbrev pub scope_word : Option (List ℕ) → List ℕ
+scope_word None = codes "*"
+scope_word (Some name) = encode_utf8_all name
+
+-- The line of a rule: its words with one space between them.
+abbrev pub rule_words : Rule → List (List ℕ)
+rule_words rule = permission_word rule.allow ∷ scope_word rule.«module» ∷ scope_word rule.device ∷ []
+
+abbrev pub rule_line : Rule → Line
+rule_line rule = joined 32 (rule_words rule)
+
 abbrev pub command_words : Command → List (List ℕ)
 command_words (Put name text) = codes "put" ∷ encode_utf8_all name ∷ decimal (length (lines_of text)) ∷ []
 command_words (Drop name) = codes "drop" ∷ encode_utf8_all name ∷ []
@@ -35,13 +53,17 @@ command_words (Derive owner definition) = codes "derive" ∷ pair_text (owner, d
 command_words (Run owner definition fuel) = codes "run" ∷ pair_text (owner, definition) ∷ decimal fuel ∷ []
 command_words (Tasks fuel schedule entries) =
     codes "tasks" ∷ decimal fuel ∷ joined 44 (map decimal schedule) ∷ map pair_text entries
+command_words (Verify text) = codes "verify" ∷ decimal (length (lines_of text)) ∷ []
+command_words (Policy rules) = codes "policy" ∷ decimal (length rules) ∷ []
+command_words (Audit owner definition) = codes "audit" ∷ pair_text (owner, definition) ∷ []
+command_words (Guard owner definition fuel) = codes "guard" ∷ pair_text (owner, definition) ∷ decimal fuel ∷ []
 
 -- the words of an item's line
 abbrev pub item_words : Item → List (List ℕ)
 item_words (Declares device) = codes "device" ∷ encode_utf8_all device.name ∷ kind_words device.kind
 item_words (Commands command) = command_words command
 
--- the text behind an item's line: that of a put
+-- the text behind an item's line: that of a put, or the one that is verified
 abbrev pub command_text : Command → List ℕ
 command_text (Put name text) = text
 command_text (Drop name) = []
@@ -50,14 +72,38 @@ command_text (Sig name) = []
 command_text (Derive owner definition) = []
 command_text (Run owner definition fuel) = []
 command_text (Tasks fuel schedule entries) = []
+command_text (Verify text) = text
+command_text (Policy rules) = []
+command_text (Audit owner definition) = []
+command_text (Guard owner definition fuel) = []
 
 abbrev pub item_text : Item → List ℕ
 item_text (Declares device) = []
 item_text (Commands command) = command_text command
 
--- The lines of an item: its words with one space between them, and the lines of the text behind.
+-- the rules behind an item's line: those of a policy
+abbrev pub command_rules : Command → List Rule
+command_rules (Put name text) = []
+command_rules (Drop name) = []
+command_rules Check = []
+command_rules (Sig name) = []
+command_rules (Derive owner definition) = []
+command_rules (Run owner definition fuel) = []
+command_rules (Tasks fuel schedule entries) = []
+command_rules (Verify text) = []
+command_rules (Policy rules) = rules
+command_rules (Audit owner definition) = []
+command_rules (Guard owner definition fuel) = []
+
+abbrev pub item_rules : Item → List Rule
+item_rules (Declares device) = []
+item_rules (Commands command) = command_rules command
+
+-- The lines of an item: its words with one space between them, and behind it the lines of its text and those of its
+-- rules, of which no item has both.
 abbrev pub item_lines : Item → List Line
-item_lines item = joined 32 (item_words item) ∷ lines_of (item_text item)
+item_lines item =
+    joined 32 (item_words item) ∷ (lines_of (item_text item) ++ map rule_line (item_rules item))
 
 abbrev pub IsKind : Kind → Type 0
 IsKind Console = Unit {0}
@@ -75,6 +121,14 @@ IsSchedule tasks schedule =
     (1 ≤ length schedule) × (length schedule ≤ 64) × AllByRecursion (λ number. number < tasks) schedule
     × IsTrue (covers tasks schedule)
 
+-- what a rule may be about
+abbrev pub IsScope : Option (List ℕ) → Type 0
+IsScope None = Unit {0}
+IsScope (Some name) = IsName name
+
+abbrev pub IsRule : Rule → Type 0
+IsRule rule = IsScope rule.«module» × IsScope rule.device
+
 -- what a command may be
 abbrev pub IsCommand : Command → Type 0
 IsCommand (Put name text) = IsName name × AreWholeLines text × (length (lines_of text) ≤ 4194304)
@@ -86,6 +140,10 @@ IsCommand (Run owner definition fuel) = (IsName owner × IsName definition) × (
 IsCommand (Tasks fuel schedule entries) =
     (fuel ≤ 1000000) × IsSchedule (length entries) schedule × AllByRecursion IsPair entries
     × (1 ≤ length entries) × (length entries ≤ 8)
+IsCommand (Verify text) = AreWholeLines text × (length (lines_of text) ≤ 4194304)
+IsCommand (Policy rules) = AllByRecursion IsRule rules × (length rules ≤ 256)
+IsCommand (Audit owner definition) = IsName owner × IsName definition
+IsCommand (Guard owner definition fuel) = (IsName owner × IsName definition) × (fuel ≤ 1000000)
 
 abbrev pub IsItem : Item → Type 0
 IsItem (Declares device) = IsName device.name × IsKind device.kind
@@ -116,7 +174,8 @@ last_text text (item ∷ items) = last_text (item_text item) items
 abbrev pub first_line : Line
 first_line = codes "capc 1"
 
--- The bytes are the text of the job. Its last line may stand without its line feed, unless it is one of a put's text.
+-- The bytes are the text of the job. Its last line may stand without its line feed, unless it is one of the text of a
+-- put or of one that is verified; so the line of a rule may.
 pub record IsJob (bytes : List ℕ) (job : Job) : Type 0 where
   pub behind : List Line
   pub begins : lines_of bytes ≡ first_line ∷ behind

@@ -1,13 +1,13 @@
 -- The limits of jobs, each on both of its sides.
-use Rattle.std.specs.Prelude.{ℕ, List, [], ◌∷◌, ◌++◌, map, replicate, ℤ, pos, negsuc, codes}
+use Rattle.std.specs.Prelude.{ℕ, List, [], ◌∷◌, ◌++◌, map, replicate, ℤ, pos, negsuc, false, None, codes}
 use Rattle.std.specs.Fmt.{decimal}
 use Rattle.cc_base.specs.declared.device.Kind.TheVariants.{Console, File}
 use Rattle.cc_base.specs.declared.device.DeviceDecl.{DeviceDecl}
 use Rattle.cc_job.specs.declared.job.Command.{Command}
-use Rattle.cc_job.specs.declared.job.Command.TheVariants.{Put, Check, Run, Tasks}
+use Rattle.cc_job.specs.declared.job.Command.TheVariants.{Put, Check, Run, Tasks, Verify, Policy, Guard}
 use Rattle.cc_words.specs.Words.{joined}
 use Rattle.cc_job.specs.Jobs.{IsJob, IsBadAt}
-use Rattle.cc_job.specs.Examples.{text}
+use Rattle.cc_job.specs.Examples.{text, rule}
 
 -- the text of a job with this one line behind its first
 abbrev pub with_line : List ℕ → List ℕ
@@ -120,3 +120,72 @@ TextLineCounts =
     (record { devices = []; commands = Put (codes "m") (text (codes "a" ∷ codes "check" ∷ [])) ∷ [] })
     × IsBadAt (text (codes "capc 1" ∷ codes "put m 2" ∷ codes "a" ∷ [])) 4
     × IsBadAt (text (codes "capc 1" ∷ codes "put m 1" ∷ codes "a" ∷ codes "b" ∷ [])) 4
+
+-- A certificate of 4,194,304 lines may follow, and here none does. None has a line more, and the number is written as
+-- others are.
+abbrev pub CertificateLineLimit : Type 0
+CertificateLineLimit =
+    IsBadAt (with_line (codes "verify 4194304")) 3 × IsRefused (codes "verify 4194305")
+    × IsRefused (codes "verify 01") × IsRefused (codes "verify") × IsRefused (codes "verify m 1")
+
+-- The lines behind it are its text. It is cut short by a line fewer, and where its last line has no line feed; of one
+-- line more, the last is read as a command.
+abbrev pub CertificateLineCounts : Type 0
+CertificateLineCounts =
+    IsJob (text (codes "capc 1" ∷ codes "verify 1" ∷ codes "check" ∷ []))
+    (record { devices = []; commands = Verify (text (codes "check" ∷ [])) ∷ [] })
+    × IsBadAt (text (codes "capc 1" ∷ codes "verify 2" ∷ codes "a" ∷ [])) 4
+    × IsBadAt (text (codes "capc 1" ∷ codes "verify 2" ∷ codes "a" ∷ []) ++ codes "b") 5
+    × IsBadAt (text (codes "capc 1" ∷ codes "verify 1" ∷ codes "a" ∷ codes "b" ∷ [])) 4
+
+-- A policy of 256 rules. None has a rule more, and the number is written as others are.
+abbrev pub RuleLimit : Type 0
+RuleLimit =
+    IsJob (text (codes "capc 1" ∷ codes "policy 256" ∷ replicate 256 (codes "deny * *")))
+    (record { devices = []; commands = Policy (replicate 256 (rule false None None)) ∷ [] })
+    × IsRefused (codes "policy 257") × IsRefused (codes "policy 01") × IsRefused (codes "policy")
+    × IsRefused (codes "policy 1 1")
+
+-- With a rule fewer the policy is cut short, and no line is bad, also where the last one has no line feed; of one rule
+-- more, the last is read as a command.
+abbrev pub RuleCounts : Type 0
+RuleCounts =
+    IsBadAt (text (codes "capc 1" ∷ codes "policy 2" ∷ codes "deny m *" ∷ [])) 4
+    × IsBadAt (text (codes "capc 1" ∷ codes "policy 2" ∷ []) ++ codes "deny m *") 4
+    × IsBadAt (text (codes "capc 1" ∷ codes "policy 1" ∷ [])) 3
+    × IsBadAt (text (codes "capc 1" ∷ codes "policy 1" ∷ codes "deny m *" ∷ codes "deny * *" ∷ [])) 4
+
+-- A line that is no rule is the bad one, whether it is the first of three, the second or the last. It is that also
+-- where fewer lines follow than should.
+abbrev pub RulePlaces : Type 0
+RulePlaces =
+    IsBadAt (text (codes "capc 1" ∷ codes "policy 3" ∷ codes "deny m" ∷ codes "deny m *" ∷ codes "deny * *" ∷ [])) 3
+    × IsBadAt (text (codes "capc 1" ∷ codes "policy 3" ∷ codes "deny m *" ∷ codes "deny m" ∷ codes "deny * *" ∷ [])) 4
+    × IsBadAt (text (codes "capc 1" ∷ codes "policy 3" ∷ codes "deny m *" ∷ codes "deny * *" ∷ codes "deny m" ∷ [])) 5
+    × IsBadAt (text (codes "capc 1" ∷ codes "check" ∷ codes "policy 9" ∷ codes "deny m *" ∷ codes "deny m" ∷ [])) 5
+
+-- the line, which is the second of a policy, is no rule
+abbrev pub IsNoRule : List ℕ → Type 0
+IsNoRule line = IsBadAt (text (codes "capc 1" ∷ codes "policy 2" ∷ codes "deny m *" ∷ line ∷ [])) 4
+
+-- a second space, a space behind the words, a fourth word, a capital, an empty line, a carriage return, a reserved word
+-- as a name, what is neither a name nor the word for any, and a command
+abbrev pub RuleForms : Type 0
+RuleForms =
+    IsNoRule (codes "deny  m *") × IsNoRule (codes "deny m * ") × IsNoRule (codes "deny m * d")
+    × IsNoRule (codes "Deny m *") × IsNoRule [] × IsNoRule (codes "deny m *" ++ 13 ∷ [])
+    × IsNoRule (codes "deny val *") × IsNoRule (codes "deny m *x") × IsNoRule (codes "deny ** m")
+    × IsNoRule (codes "check")
+
+-- the fuel of a guarded run: nothing, 1,000,000 and one more
+abbrev pub GuardFuelLimit : Type 0
+GuardFuelLimit =
+    Commands (codes "guard m.f 0") (Guard (codes "m") (codes "f") 0)
+    × Commands (codes "guard m.f 1000000") (Guard (codes "m") (codes "f") 1000000)
+    × IsRefused (codes "guard m.f 1000001")
+
+-- an audit of a module alone, of three names, or with fuel; a guarded run without fuel, or with a zero before it
+abbrev pub AuditForms : Type 0
+AuditForms =
+    IsRefused (codes "audit m") × IsRefused (codes "audit m.f.g") × IsRefused (codes "audit m.f 1")
+    × IsRefused (codes "guard m.f") × IsRefused (codes "guard m.f 01")

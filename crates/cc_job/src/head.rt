@@ -1,8 +1,9 @@
-//! What a line says, without the text behind it.
+//! What a line says, without the lines behind it.
 
 ghost use Rattle.std.specs.Prelude.{◌≡◌, ◌<◌, map, IfOk};
 ghost use Rattle.std.specs.Option.{option_map};
-ghost use Rattle.cc_job.specs.Reading.{covers, is_schedule, schedule_of, file_of, kind_of, kind_with, device_of, put_of, drop_of, check_of, sig_of, derive_of, run_of, turns_of, tasks_of, command_with, head_with, head_of};
+ghost use Rattle.cc_words.specs.Words.{number_of};
+ghost use Rattle.cc_job.specs.Reading.{covers, is_schedule, schedule_of, file_of, kind_of, kind_with, device_of, put_of, verify_of, policy_of, drop_of, check_of, sig_of, derive_of, run_of, turns_of, tasks_of, audit_of, guard_of, command_with, head_with, head_of};
 
 use crate::job::{Command, EntryList, Schedule};
 use cc_base::device::{DeviceDecl, Kind, Numbers};
@@ -13,13 +14,17 @@ use cc_words::words::{
 };
 use std::alloc::{AllocError, Global};
 
-/// What a line says: the text of a put stands behind it.
+/// What a line says: a text or rules may stand behind it.
 #[derive(Drop)]
 pub enum Head {
     /// A device is declared.
     Device(DeviceDecl),
     /// The module gets the text, which is so many lines.
     Put(Name, u32),
+    /// The text, which is so many lines, is judged as a certificate.
+    Verify(u32),
+    /// The rules, which are so many, are in force.
+    Policy(u32),
     /// The command is given.
     Command(Command),
 }
@@ -139,6 +144,26 @@ fn device_of(alloc: Global, words: &[&[u8]]) -> Result<Option<Head>, AllocError>
     Ok(Some(Head::Device(DeviceDecl { name, kind })))
 }
 
+// The number of lines that a text may have which a word writes, if it writes one.
+fn text_lines_of(word: &[u8]) -> Option<u32>
+    ensures { result ≡ number_of 4194304 word.now }
+{
+    let Some(count) = number_of(word, 4_194_304) else {
+        return None;
+    };
+    Some(count as u32)
+}
+
+// The fuel that a word writes, if it writes one.
+fn fuel_of(word: &[u8]) -> Option<u32>
+    ensures { result ≡ number_of 1000000 word.now }
+{
+    let Some(fuel) = number_of(word, 1_000_000) else {
+        return None;
+    };
+    Some(fuel as u32)
+}
+
 #[tactic(auto, unfolding(crate::specs::Reading::put_of))]
 fn put_of(alloc: Global, words: &[&[u8]]) -> Result<Option<Head>, AllocError>
     ensures { IfOk result (λ head. head ≡ put_of (map (λ it. it.now) words.now)) }
@@ -149,10 +174,36 @@ fn put_of(alloc: Global, words: &[&[u8]]) -> Result<Option<Head>, AllocError>
     let Some(name) = name_of(alloc, word)? else {
         return Ok(None);
     };
-    let Some(count) = number_of(digits, 4_194_304) else {
+    let Some(count) = text_lines_of(digits) else {
         return Ok(None);
     };
-    Ok(Some(Head::Put(name, count as u32)))
+    Ok(Some(Head::Put(name, count)))
+}
+
+#[tactic(auto, unfolding(crate::specs::Reading::verify_of))]
+fn verify_of(words: &[&[u8]]) -> Option<Head>
+    ensures { result ≡ verify_of (map (λ it. it.now) words.now) }
+{
+    let Some(digits) = one_of(words) else {
+        return None;
+    };
+    let Some(count) = text_lines_of(digits) else {
+        return None;
+    };
+    Some(Head::Verify(count))
+}
+
+#[tactic(auto, unfolding(crate::specs::Reading::policy_of))]
+fn policy_of(words: &[&[u8]]) -> Option<Head>
+    ensures { result ≡ policy_of (map (λ it. it.now) words.now) }
+{
+    let Some(digits) = one_of(words) else {
+        return None;
+    };
+    let Some(count) = number_of(digits, 256) else {
+        return None;
+    };
+    Some(Head::Policy(count as u32))
 }
 
 #[tactic(auto, unfolding(crate::specs::Reading::drop_of))]
@@ -214,10 +265,10 @@ fn run_of(alloc: Global, words: &[&[u8]]) -> Result<Option<Command>, AllocError>
     let Some((module, definition)) = pair_of(alloc, word)? else {
         return Ok(None);
     };
-    let Some(fuel) = number_of(digits, 1_000_000) else {
+    let Some(fuel) = fuel_of(digits) else {
         return Ok(None);
     };
-    Ok(Some(Command::Run(module, definition, fuel as u32)))
+    Ok(Some(Command::Run(module, definition, fuel)))
 }
 
 #[tactic(auto, unfolding(crate::specs::Reading::tasks_of))]
@@ -227,16 +278,45 @@ fn tasks_of(alloc: Global, words: &[&[u8]]) -> Result<Option<Command>, AllocErro
     let Some((digits, words)) = first_and_rest(words) else {
         return Ok(None);
     };
-    let Some(fuel) = number_of(digits, 1_000_000) else {
+    let Some(fuel) = fuel_of(digits) else {
         return Ok(None);
     };
     let Some((numbers, words)) = first_and_rest(words) else {
         return Ok(None);
     };
-    turns_of(alloc, fuel as u32, numbers, words)
+    turns_of(alloc, fuel, numbers, words)
 }
 
-// The command that a word and those behind it say, other than a put.
+#[tactic(auto, unfolding(crate::specs::Reading::audit_of))]
+fn audit_of(alloc: Global, words: &[&[u8]]) -> Result<Option<Command>, AllocError>
+    ensures { IfOk result (λ command. command ≡ audit_of (map (λ it. it.now) words.now)) }
+{
+    let Some(word) = one_of(words) else {
+        return Ok(None);
+    };
+    let Some((module, definition)) = pair_of(alloc, word)? else {
+        return Ok(None);
+    };
+    Ok(Some(Command::Audit(module, definition)))
+}
+
+#[tactic(auto, unfolding(crate::specs::Reading::guard_of))]
+fn guard_of(alloc: Global, words: &[&[u8]]) -> Result<Option<Command>, AllocError>
+    ensures { IfOk result (λ command. command ≡ guard_of (map (λ it. it.now) words.now)) }
+{
+    let Some((word, digits)) = two_of(words) else {
+        return Ok(None);
+    };
+    let Some((module, definition)) = pair_of(alloc, word)? else {
+        return Ok(None);
+    };
+    let Some(fuel) = fuel_of(digits) else {
+        return Ok(None);
+    };
+    Ok(Some(Command::Guard(module, definition, fuel)))
+}
+
+// The command that a word and those behind it say, where no line stands behind it.
 #[tactic(auto, unfolding(crate::specs::Reading::command_with))]
 fn command_with(alloc: Global, word: &[u8], rest: &[&[u8]]) -> Result<Option<Command>, AllocError>
     ensures { IfOk result (λ command. command ≡ command_with word.now (map (λ it. it.now) rest.now)) }
@@ -259,6 +339,12 @@ fn command_with(alloc: Global, word: &[u8], rest: &[&[u8]]) -> Result<Option<Com
     if word == b"tasks".as_slice() {
         return tasks_of(alloc, rest);
     }
+    if word == b"audit".as_slice() {
+        return audit_of(alloc, rest);
+    }
+    if word == b"guard".as_slice() {
+        return guard_of(alloc, rest);
+    }
     Ok(None)
 }
 
@@ -272,6 +358,12 @@ fn head_with(alloc: Global, word: &[u8], rest: &[&[u8]]) -> Result<Option<Head>,
     }
     if word == b"put".as_slice() {
         return put_of(alloc, rest);
+    }
+    if word == b"verify".as_slice() {
+        return Ok(verify_of(rest));
+    }
+    if word == b"policy".as_slice() {
+        return Ok(policy_of(rest));
     }
     match command_with(alloc, word, rest)? {
         Some(command) => Ok(Some(Head::Command(command))),

@@ -3,6 +3,7 @@ ghost use Rattle.std.specs.Prelude.{◌≡◌};
 use cc_base::device::DeviceDecl;
 use cc_base::name::Name;
 use cc_base::text::Text;
+use cc_policy::policy::Policy;
 use std::marker::Model;
 
 /// The declared devices of a job, in order. Contracts see their list.
@@ -120,6 +121,14 @@ pub enum Command {
     Run(Name, Name, u32),
     /// Definitions are run together by a schedule, for at most so many steps in all.
     Tasks(u32, Schedule, EntryList),
+    /// The text is judged as a certificate.
+    Verify(Text),
+    /// The rules are in force from here on.
+    Policy(Policy),
+    /// What the rules in force say of a module's definition is shown.
+    Audit(Name, Name),
+    /// A module's definition is run as by `Run` where the rules in force permit it.
+    Guard(Name, Name, u32),
 }
 
 /// The commands of a job, in order. Contracts see their list.

@@ -1,6 +1,6 @@
 ghost use Rattle.cc_job.specs.Jobs.{BytesAreAJobOrBad, BytesHaveOneJob, BytesHaveOneBadLine};
 ghost use Rattle.cc_job.specs.LimitExamples as limit;
-ghost use Rattle.cc_job.specs.Examples.{ShortestJob, LongJob, NothingIsBad, TwoSpacesAreBad, MinusZeroIsBad, MissingTaskIsBad, LateDeviceIsBad, SecondNameIsBad, ShortTextIsBad, OpenTextIsBad};
+ghost use Rattle.cc_job.specs.Examples.{ShortestJob, LongJob, CertificateJob, PolicyJob, NothingIsBad, TwoSpacesAreBad, MinusZeroIsBad, MissingTaskIsBad, LateDeviceIsBad, SecondNameIsBad, ShortTextIsBad, OpenTextIsBad};
 
 /// Bytes are the text of a job, or they have a bad line.
 pub fn bytes_are_a_job_or_bad()
@@ -21,6 +21,8 @@ pub fn bytes_have_one_bad_line()
 pub fn worked_jobs()
     ensures shortest { ShortestJob }
     ensures long { LongJob }
+    ensures certificate { CertificateJob }
+    ensures policy { PolicyJob }
 {}
 
 /// Bytes that are no job, with their lines.
@@ -49,4 +51,12 @@ pub fn worked_limits()
     ensures devices { limit.DeviceLimit }
     ensures lines { limit.TextLineLimit }
     ensures counts { limit.TextLineCounts }
+    ensures certificate_lines { limit.CertificateLineLimit }
+    ensures certificate_counts { limit.CertificateLineCounts }
+    ensures rules { limit.RuleLimit }
+    ensures rule_counts { limit.RuleCounts }
+    ensures rule_places { limit.RulePlaces }
+    ensures rule_forms { limit.RuleForms }
+    ensures fuel_of_guards { limit.GuardFuelLimit }
+    ensures forms_of_audits { limit.AuditForms }
 {}

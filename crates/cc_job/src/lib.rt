@@ -5,3 +5,4 @@ pub mod head;
 pub mod job;
 pub mod laws;
 pub mod read;
+pub mod rules;

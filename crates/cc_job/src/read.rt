@@ -2,12 +2,14 @@
 
 ghost use Rattle.std.specs.Prelude.{◌≡◌, ◌+◌, ◌-◌, ◌^◌, ◌<◌, length, OnOk, IfOk};
 ghost use Rattle.cc_job.specs.Jobs.{ReadsJob};
-ghost use Rattle.cc_job.specs.Reading.{text_size, has_device, admits, is_admitted, devices_with, commands_with, next_item, IsStep};
+ghost use Rattle.cc_job.specs.Reading.{text_size, rule_count, lines_behind, has_device, admits, is_admitted, devices_with, commands_with, next_item, IsStep};
 
 use crate::head::{Head, head_of};
 use crate::job::{Command, CommandList, DeviceList, Job, JobError};
+use crate::rules::{RuleLines, rules_cut};
 use cc_base::device::DeviceDecl;
 use cc_base::text::Text;
+use cc_policy::policy::Policy;
 use cc_words::lines::{line_count, next_line, text_cut};
 use std::alloc::{AllocError, Global};
 
@@ -18,6 +20,34 @@ fn text_size(head: &Head) -> u32
     match head {
         Head::Device(_) => 0,
         Head::Put(_, count) => *count,
+        Head::Verify(count) => *count,
+        Head::Policy(_) => 0,
+        Head::Command(_) => 0,
+    }
+}
+
+// How many lines of rules.
+fn rule_count(head: &Head) -> u32
+    ensures { result ≡ rule_count head.now }
+{
+    match head {
+        Head::Device(_) => 0,
+        Head::Put(_, _) => 0,
+        Head::Verify(_) => 0,
+        Head::Policy(count) => *count,
+        Head::Command(_) => 0,
+    }
+}
+
+// How many lines.
+fn lines_behind(head: &Head) -> u32
+    ensures { result ≡ lines_behind head.now }
+{
+    match head {
+        Head::Device(_) => 0,
+        Head::Put(_, count) => *count,
+        Head::Verify(count) => *count,
+        Head::Policy(count) => *count,
         Head::Command(_) => 0,
     }
 }
@@ -43,20 +73,23 @@ fn is_admitted(devices: &[DeviceDecl], commands: &[Command], head: &Head) -> boo
     match head {
         Head::Device(device) => admits(devices, commands, device),
         Head::Put(_, _) => true,
+        Head::Verify(_) => true,
+        Head::Policy(_) => true,
         Head::Command(_) => true,
     }
 }
 
-// Adds what a line and the text behind it say.
+// Adds what a line and the text and the rules behind it say.
 fn add(
     alloc: Global,
     devices: &mut Vec<DeviceDecl>,
     commands: &mut Vec<Command>,
     head: Head,
     text: &[u8],
+    policy: Policy,
 ) -> Result<(), AllocError>
     ensures devices { OnOk result (devices.new.items ≡ devices_with devices.old.items head) }
-    ensures commands { OnOk result (commands.new.items ≡ commands_with commands.old.items head text.now) }
+    ensures commands { OnOk result (commands.new.items ≡ commands_with commands.old.items head text.now policy) }
 {
     match head {
         Head::Device(device) => devices.push(device)?,
@@ -64,6 +97,11 @@ fn add(
             let text = Text::new(Vec::from_slice(alloc, text)?);
             commands.push(Command::Put(name, text))?;
         }
+        Head::Verify(_) => {
+            let text = Text::new(Vec::from_slice(alloc, text)?);
+            commands.push(Command::Verify(text))?;
+        }
+        Head::Policy(_) => commands.push(Command::Policy(policy))?,
         Head::Command(command) => commands.push(command)?,
     }
     Ok(())
@@ -73,9 +111,9 @@ fn add(
 enum Step<'a> {
     // A line and so many behind it, with this behind them.
     Read(u32, &'a [u8]),
-    // The line begins no job.
-    BadLine,
-    // The text of a put is cut short.
+    // The line so many places behind the first begins no job.
+    BadLine(u32),
+    // The lines behind the first are cut short.
     CutShort,
 }
 
@@ -94,17 +132,23 @@ fn next_item<'a>(
         return Ok(Step::Read(0, behind));
     }
     let Some(head) = head_of(alloc, line)? else {
-        return Ok(Step::BadLine);
+        return Ok(Step::BadLine(0));
     };
     if !is_admitted(devices.as_slice(), commands.as_slice(), &head) {
-        return Ok(Step::BadLine);
+        return Ok(Step::BadLine(0));
     }
-    let count = text_size(&head);
-    let Some((text, behind)) = text_cut(behind, count) else {
+    let count = lines_behind(&head);
+    let Some((text, behind)) = text_cut(behind, text_size(&head)) else {
         return Ok(Step::CutShort);
     };
-    add(alloc, devices, commands, head, text)?;
-    Ok(Step::Read(count, behind))
+    match rules_cut(alloc, behind, rule_count(&head))? {
+        RuleLines::Read(policy, behind) => {
+            add(alloc, devices, commands, head, text, policy)?;
+            Ok(Step::Read(count, behind))
+        }
+        RuleLines::BadLine(place) => Ok(Step::BadLine(place)),
+        RuleLines::CutShort => Ok(Step::CutShort),
+    }
 }
 
 /// The job whose text the bytes are.
@@ -128,7 +172,11 @@ pub fn read_job(alloc: Global, bytes: &[u8]) -> Result<Job, JobError>
                 number += count + 1;
                 rest = behind;
             }
-            Ok(Step::BadLine) => return Err(JobError::BadJob { line: number + 1 }),
+            Ok(Step::BadLine(place)) => {
+                return Err(JobError::BadJob {
+                    line: number + 1 + place,
+                });
+            }
             Ok(Step::CutShort) => {
                 return Err(JobError::BadJob {
                     line: line_count(bytes) + 1,

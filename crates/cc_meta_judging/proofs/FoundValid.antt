@@ -10,8 +10,10 @@ use Rattle.cc_meta_validity.specs.Rows.{TypeOf}
 use Rattle.cc_meta_validity.specs.Broken.{broken, IsLeast}
 use Rattle.cc_meta_validity.proofs.BrokenNodes.{valid_typings}
 use Rattle.cc_certificate_text.specs.Certificates.{States, Concludes as ConcludesNode}
+use Rattle.cc_certificate_judging.specs.CertificateParts.{bind_line, parts_lines, bound_context}
 use Rattle.cc_certificate_judging.specs.Judging.{NodeTree, listed, read_tree, Judgement, IsValidAt, IsBadNode, IsJudged}
 use Rattle.cc_certificate_judging.proofs.OneTree.{one_tree}
+use Rattle.cc_certificate_judging.proofs.SameParts.{same_tail, same_parts}
 use Rattle.cc_meta_certificates.specs.CertificateLaws.{IsPresentable, IsPresentableEntry, IsTermEntry}
 use Rattle.cc_meta_checking.specs.CheckingLaws.{definition_context}
 use Rattle.cc_meta_checking.specs.CanonicalLaws.{accepted_derived}
@@ -19,9 +21,9 @@ use Rattle.cc_core.specs.Shapes.{CapturingType}
 use Rattle.cc_meta_certificates.proofs.DefinitionCertificates.{accepted_certifiable}
 use Rattle.cc_meta_certificates.proofs.PresentableTypings.{valid_presentable}
 use Rattle.cc_meta_certificates.proofs.WholeCertificates.{written_are_read_back}
-use Rattle.cc_meta_judging.specs.JudgedCertificates.{written_tree, bind_line, parts_lines, bound_context, PartsAreReadBack, AnswersAs, WrittenCertificatesAreFoundValid, WrittenTreesAreReadBack, CertificatesOfDefinitionsAreFoundValid, TreesOfDefinitionsAreReadBack}
+use Rattle.cc_meta_judging.specs.JudgedCertificates.{written_tree, PartsAreReadBack, AnswersAs, WrittenCertificatesAreFoundValid, WrittenTreesAreReadBack, CertificatesOfDefinitionsAreFoundValid, TreesOfDefinitionsAreReadBack}
 use Rattle.cc_meta_judging.proofs.ReadTrees.{written_nodes, derivations_back}
-use Rattle.cc_meta_judging.proofs.SameLines.{same_tail, same_parts, binds_in, bound_are_binds, context_of_binds}
+use Rattle.cc_meta_judging.proofs.ContextBinds.{binds_in, bound_are_binds, context_of_binds}
 
 term_entries : (g : Context) → AllByRecursion IsPresentableEntry g → AllByRecursion IsTermEntry g
 term_entries [] all = tt

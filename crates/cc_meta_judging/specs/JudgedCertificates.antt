@@ -11,11 +11,10 @@ use Rattle.cc_sets.specs.Verdicts.{Definition, Accepted, IsAccepted, HasVerdict}
 use Rattle.cc_meta_checking.specs.CheckingLaws.{Fits, definition_context}
 use Rattle.cc_meta_checking.specs.CanonicalLaws.{accepted_derived}
 use Rattle.cc_certificate.specs.Certificates.{binds_first, binds_others, with_binder, certificate_text}
-use Rattle.cc_certificate_text.specs.Certificates.{CertificateNode, Line, Opens, Binds}
-use Rattle.cc_certificate_text.specs.Certificates.{States, Concludes as ConcludesNode}
-use Rattle.cc_certificate_text.specs.Certificates.{IsCertificate}
+use Rattle.cc_certificate_text.specs.Certificates.{CertificateNode, Concludes as ConcludesNode, IsCertificate}
+use Rattle.cc_certificate_judging.specs.CertificateParts.{CertificateBind, parts_lines, bound_context}
 use Rattle.cc_certificate_judging.specs.Judging.{NodeTree, Grown, NodeTrees, NoTree, Tree, listed}
-use Rattle.cc_certificate_judging.specs.Judging.{read_tree, with_binds}
+use Rattle.cc_certificate_judging.specs.Judging.{read_tree}
 use Rattle.cc_certificate_judging.specs.Judging.{Judgement, IsValidAt, IsBadNode, IsJudged}
 use Rattle.cc_meta_certificates.specs.CertificateLines.{numbered_claim, outermost_number, concluded_lines}
 use Rattle.cc_meta_certificates.specs.DefinitionLaws.{IsWithinLimits}
@@ -57,21 +56,6 @@ ValidDerivationsAreJudgedValid =
     → IsWellFormedContext context → IsWellFormedTerm context term → IsValidTyping context term derivation
     → IsFinished derivation → Concludes derivation (OfType type)
     → IsJudged context term (listed 0 (written_tree (length context) 0 derivation)) (IsValidAt type)
-
--- a bind of a certificate: its name and its type
-abbrev pub CertificateBind : Type 0
-CertificateBind = List ℕ × CapturingType
-
-abbrev pub bind_line : CertificateBind → Line
-bind_line bind = Binds bind.0 bind.1
-
--- the lines of a certificate with these binds, this term and these nodes
-abbrev pub parts_lines : List CertificateBind → Term → List CertificateNode → List Line
-parts_lines binds term nodes = Opens ∷ (map bind_line binds ++ States term ∷ map ConcludesNode nodes)
-
--- the context of the binds
-abbrev pub bound_context : List CertificateBind → Context
-bound_context binds = with_binds [] (map (λ bind. bind.1) binds)
 
 -- What is read back from the text of a valid derivation binds its context, states its term, and has the nodes of the
 -- derivation.

@@ -37,7 +37,7 @@ use Rattle.cc_meta_certificates.proofs.DefinitionCertificates.{accepted_certifia
 use Rattle.cc_meta_judging.specs.JudgedCertificates.{written_tree}
 use Rattle.cc_meta_judging.proofs.FoundValid.{definitions_found_valid, tree_of_definition_back}
 use Rattle.cc_meta_judging.proofs.ReadTrees.{written_nodes, derivations_back, judged_valid}
-use Rattle.cc_meta_judging.proofs.SameLines.{binds_in, bound_are_binds, context_of_binds}
+use Rattle.cc_meta_judging.proofs.ContextBinds.{binds_in, bound_are_binds, context_of_binds, names_of_binds}
 use Rattle.cc_meta_modules.specs.StandingDefinitions.{StandsInPresentModule, with_definitions, context_behind, names_behind}
 use Rattle.cc_meta_limits.specs.ModuleCertificates.{IsCertified, StandsInModule, LinesOfDefinitionsHaveNoLineFeed, AreNamed, DefinitionsOfModulesAreCertified, DefinitionsOfPresentTextsAreCertified}
 use Rattle.cc_meta_limits.specs.ModuleLimits.{IsLowFinding}
@@ -97,6 +97,7 @@ certified_in devices globals d a names fits has low of named apart each few =
       tree = written_tree (length g) 0 tree;
       parts = λ i. Opens ∷ (bound_are_binds names g all i ++ States a.filled ∷ listed_are i);
       bound = context_of_binds names g all;
+      named = names_of_binds names g all each;
       canonical = derivations_back g a.filled tree all can.context.formed can.term.formed can.valid can.done;
       valid =
           judged_valid g a.filled tree a.signature all can.context.formed can.term.formed can.valid can.done can.concludes;

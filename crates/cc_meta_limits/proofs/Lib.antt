@@ -2,6 +2,7 @@ pub mod BareShapes
 pub mod CertifiedModules
 pub mod ElaboratedHeights
 pub mod EveryRule
+pub mod FoundSignatures
 pub mod JobDevices
 pub mod JudgedPlaces
 pub mod KeptHeights

@@ -1,3 +1,4 @@
+pub mod FoundCertificates
 pub mod LimitLaws
 pub mod ModuleCertificates
 pub mod ModuleExamples

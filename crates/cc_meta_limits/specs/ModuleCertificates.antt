@@ -26,10 +26,10 @@ use Rattle.cc_meta_modules.specs.StandingDefinitions.{names_behind}
 use Rattle.cc_certificate.specs.DefinitionCertificates.{definition_certificate, definition_certificate_lines}
 use Rattle.cc_certificate.specs.Laws.{IsOneLine}
 use Rattle.cc_certificate_text.specs.Certificates.{Line, CertificateNode, IsCertificate}
+use Rattle.cc_certificate_judging.specs.CertificateParts.{CertificateBind, parts_lines, bound_context, bound_names}
 use Rattle.cc_certificate_judging.specs.Judging.{NodeTree, listed, read_tree, Judgement, IsValidAt, IsJudged}
 use Rattle.cc_meta_certificates.specs.CertificateLines.{lines_of}
 use Rattle.cc_meta_limits.specs.ModuleLimits.{IsLowFinding}
-use Rattle.cc_meta_judging.specs.JudgedCertificates.{CertificateBind, parts_lines, bound_context}
 
 -- The context is the one that the definition of a checked program is typed in.
 abbrev pub ContextsAreThoseOfPrograms : Type 0
@@ -45,7 +45,7 @@ abbrev pub definition_lines : List (List ℕ) → Context → Accepted → List 
 definition_lines names context accepted = lines_of names context accepted.filled (accepted_derived context accepted)
 
 -- The certificate of the definition is right: it is one, with the lines of its canonical derivation and with no others.
--- These bind the context, state the filled right side and list the nodes of a tree, which is read as the canonical
+-- These bind the context by its names, state the filled right side and list the nodes of a tree, which is read as the canonical
 -- derivation, and which is judged to be valid at the signature. So it is with whatever is read back from the text.
 pub record IsCertified (names : List (List ℕ)) (context : Context) (accepted : Accepted) : Type 0 where
   pub written : IsCertificate (definition_certificate names context accepted) (definition_lines names context accepted)
@@ -55,6 +55,7 @@ pub record IsCertified (names : List (List ℕ)) (context : Context) (accepted :
   pub tree : NodeTree
   pub parts : definition_lines names context accepted ≡ parts_lines binds accepted.filled (listed 0 tree)
   pub bound : bound_context binds ≡ context
+  pub named : bound_names binds ≡ names
   pub canonical : read_tree (length context) (kinds_of context) tree ≡ accepted_derived context accepted
   pub valid : IsJudged context accepted.filled (listed 0 tree) (IsValidAt accepted.signature)
   pub tree_read_back :

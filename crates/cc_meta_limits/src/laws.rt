@@ -1,4 +1,5 @@
 //! The functions do nothing. Their contracts are theorems.
+ghost use Rattle.cc_meta_limits.specs.FoundCertificates as found_law;
 ghost use Rattle.cc_meta_limits.specs.LimitLaws as law;
 ghost use Rattle.cc_meta_limits.specs.ModuleCertificates as certificate_law;
 ghost use Rattle.cc_meta_limits.specs.ModuleExamples as example;
@@ -36,6 +37,14 @@ pub fn modules_have_certificates()
     ensures contexts { certificate_law.ContextsAreThoseOfPrograms }
     ensures devices { certificate_law.DevicesOfJobsAreNamed }
     ensures one_line { certificate_law.LinesOfDefinitionsHaveNoLineFeed }
+{}
+
+/// What is found of a definition's certificate, where it is read from its lines, each with its line feed: it proves the type
+/// that others see, with the names of the definition's context, and nothing else is found. The lines are whole ones.
+pub fn certificates_prove_signatures()
+    ensures right { found_law.RightCertificatesProveSignatures }
+    ensures present { found_law.CertificatesOfPresentTextsProveSignatures }
+    ensures named { found_law.CertificatesOfNamedDefinitionsProveSignatures }
 {}
 
 /// A text whose definition has a right certificate.

@@ -39,6 +39,13 @@ impl Policy {
     {
         Policy { rules }
     }
+
+    /// How many rules it has.
+    pub fn len(&self) -> u32
+        ensures { result ≡ length self.now }
+    {
+        self.rules.len() as u32
+    }
 }
 
 /// What a policy decides: whether it allows, and the number of the rule that decides, from 1, if there is one.

@@ -1,6 +1,7 @@
 pub mod Mapped
 pub mod OutputLaws
 pub mod PresentAfter
+pub mod PolicyLaws
 pub mod ReplyLaws
 pub mod StaleLaws
 pub mod WorkedTexts

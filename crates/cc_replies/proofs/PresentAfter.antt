@@ -14,7 +14,7 @@ use Rattle.cc_graph.specs.Graph.{compare_names}
 use Rattle.cc_meta_modules.specs.PresentTexts.{Texts, ArePresent}
 use Rattle.cc_replies.specs.ReplyTexts.{is_refusal}
 use Rattle.cc_replies.specs.Replies.{put_reply}
-use Rattle.cc_replies.specs.Requests.{PutText, DropModule, Ask}
+use Rattle.cc_replies.specs.Requests.{PutText, DropModule, SetPolicy, VerifyText, Ask}
 use Rattle.cc_replies.specs.Laws.{TextsStayPresent}
 
 names_total : IsTotalOrder compare_names
@@ -90,4 +90,6 @@ texts_stay_present state (PutText name text) sorted =
     (sorted_put compare_names names_total name text state.texts sorted)
 texts_stay_present state (DropModule name) sorted =
     sorted_without compare_names (bytes_eq name) state.texts sorted
+texts_stay_present state (SetPolicy rules) sorted = sorted
+texts_stay_present state (VerifyText text) sorted = sorted
 texts_stay_present state (Ask question) sorted = sorted

@@ -1,5 +1,5 @@
 -- A command has one reply.
-use Rattle.std.proofs.Common.{◌≡◌, ℕ, Bool, true, false, cond, List, [], ◌∷◌, map, Option, Some, None, Result, Ok, Err, refl, sym, ap, subst, ◌∙◌, if◌then◌else◌}
+use Rattle.std.proofs.Common.{◌≡◌, ℕ, Bool, true, false, cond, List, [], ◌∷◌, length, map, Option, Some, None, Result, Ok, Err, refl, sym, ap, subst, ◌∙◌, if◌then◌else◌}
 use Rattle.std.specs.Option.{is_some}
 use Rattle.std.specs.Map.{lookup}
 use Rattle.std.specs.Str.{bytes_eq}
@@ -16,10 +16,13 @@ use Rattle.cc_meta_modules.specs.PresentTexts.{Texts, ArePresent, text_of, AreVe
 use Rattle.cc_meta_modules.specs.StandingDefinitions.{standing_in}
 use Rattle.cc_meta_modules.proofs.PresentLaws.{present_verdicts_exist, present_verdicts_are_unique}
 use Rattle.cc_meta_modules.proofs.FoundStanding.{found_by_texts}
-use Rattle.cc_replies.specs.ReplyTexts.{Reply, SignaturesRefused, Verdicts, RunRefused, TasksRefused}
-use Rattle.cc_replies.specs.Requests.{Question, CheckModules, ShowSignature, ShowDerivation, RunDefinition, RunTasks, PutText, DropModule, Ask}
+use Rattle.cc_policy.specs.declared.policy.Rule.{Rule}
+use Rattle.cc_certificate_judging.proofs.BytesFound.{something_is_found, one_thing_is_found}
+use Rattle.cc_replies.specs.PolicyReplies.{audit_told, guard_told}
+use Rattle.cc_replies.specs.ReplyTexts.{Reply, PolicySet, Verified, SignaturesRefused, Verdicts, RunRefused, TasksRefused, AuditRefused, GuardRefused}
+use Rattle.cc_replies.specs.Requests.{Question, CheckModules, ShowSignature, ShowDerivation, RunDefinition, RunTasks, AuditDefinition, GuardDefinition, PutText, DropModule, SetPolicy, VerifyText, Ask}
 use Rattle.cc_replies.specs.Replies.{put_reply, drop_reply, check_reply, definitions_reply, signature_reply, derivation_reply, IsAnswer}
-use Rattle.cc_replies.specs.RunReplies.{declared_run, run_told, IsRunAnswer, Unstarted, unstarted_or, first_unstarted, HasEntry, HaveEntries, tasks_told, IsTasksAnswer}
+use Rattle.cc_replies.specs.RunReplies.{declared_run, run_told, IsEntryAnswer, Unstarted, unstarted_or, first_unstarted, HasEntry, HaveEntries, tasks_told, IsTasksAnswer}
 use Rattle.cc_replies.specs.Laws.{RepliesExist, RepliesAreUnique}
 
 pub some_of : {X : Type 0} (o : Option X) → is_some o ≡ true → (x : X) × (o ≡ Some x)
@@ -49,14 +52,15 @@ chosen_alike true x y z h = h refl
 chosen_alike false x y z h = refl
 
 -- the entries of definitions that are all to be started
-module _ (devices : List DeviceDecl) (texts : Texts) (verdicts : List ℕ → ModuleVerdict) (differ : NamesOfDevicesDiffer devices)
+module _ (devices : List DeviceDecl) (rules : List Rule) (texts : Texts) (verdicts : List ℕ → ModuleVerdict) (differ : NamesOfDevicesDiffer devices)
     (sorted : ArePresent texts) (are : AreVerdicts devices texts verdicts) where
-  run_answer : (module_name name : List ℕ) (fuel : ℕ) (r : Result CheckedDefinition Code) → started_in texts verdicts module_name name ≡ r
-      → (reply : Reply) × IsRunAnswer devices texts verdicts module_name name fuel r reply
-  run_answer module_name name fuel (Ok started) e =
+  entry_answer : (module_name name : List ℕ) (told : CheckedEntry → Reply) (refused : Code → Reply) (r : Result CheckedDefinition Code)
+      → started_in texts verdicts module_name name ≡ r
+      → (reply : Reply) × IsEntryAnswer devices texts verdicts module_name name told refused r reply
+  entry_answer module_name name told refused (Ok started) e =
       let (entry, is) = entries_exist devices texts verdicts differ sorted are module_name name started e in
-      (run_told module_name name entry.authority (declared_run devices fuel entry), (entry, is, refl))
-  run_answer module_name name fuel (Err code) e = (RunRefused module_name name code, refl)
+      (told entry, (entry, is, refl))
+  entry_answer module_name name told refused (Err code) e = (refused code, refl)
 
   entries_from : (tasks : List (List ℕ × List ℕ)) → first_unstarted texts verdicts tasks ≡ None
       → (entries : List CheckedEntry) × HaveEntries devices texts verdicts tasks entries
@@ -79,24 +83,35 @@ module _ (devices : List DeviceDecl) (texts : Texts) (verdicts : List ℕ → Mo
   tasks_answer fuel schedule tasks None e =
       let (entries, have) = entries_from tasks e in (tasks_told devices fuel schedule entries, (entries, have, refl))
 
-  pub answers_exist : (question : Question) → (reply : Reply) × IsAnswer devices texts verdicts question reply
+  pub answers_exist : (question : Question) → (reply : Reply) × IsAnswer devices rules texts verdicts question reply
   answers_exist CheckModules = (check_reply texts verdicts, refl)
   answers_exist (ShowSignature name) = (signature_reply texts verdicts name, refl)
   answers_exist (ShowDerivation module_name name) =
       (derivation_reply devices module_name name (standing_in texts verdicts module_name name), refl)
-  answers_exist (RunDefinition module_name name fuel) = run_answer module_name name fuel (started_in texts verdicts module_name name) refl
+  answers_exist (RunDefinition module_name name fuel) =
+      entry_answer module_name name (λ entry. run_told module_name name entry.authority (declared_run devices fuel entry)) (RunRefused module_name name)
+      (started_in texts verdicts module_name name) refl
   answers_exist (RunTasks fuel schedule tasks) = tasks_answer fuel schedule tasks (first_unstarted texts verdicts tasks) refl
+  answers_exist (AuditDefinition module_name name) =
+      entry_answer module_name name (audit_told devices rules module_name name) (AuditRefused module_name name)
+      (started_in texts verdicts module_name name) refl
+  answers_exist (GuardDefinition module_name name fuel) =
+      entry_answer module_name name (guard_told devices rules module_name name fuel) (GuardRefused module_name name)
+      (started_in texts verdicts module_name name) refl
 
 pub replies_exist : RepliesExist
 replies_exist devices state (PutText name text) differ sorted = (put_reply state.texts name text, refl)
 replies_exist devices state (DropModule name) differ sorted = (drop_reply state.texts name, refl)
+replies_exist devices state (SetPolicy rules) differ sorted = (PolicySet (length rules), refl)
+replies_exist devices state (VerifyText text) differ sorted =
+    let (found, is) = something_is_found text in (Verified found, (found, is, refl))
 replies_exist devices state (Ask question) differ sorted =
     let (verdicts, are) = present_verdicts_exist devices state.texts differ sorted in
-    let (reply, is) = answers_exist devices state.texts verdicts differ sorted are question in
+    let (reply, is) = answers_exist devices state.rules state.texts verdicts differ sorted are question in
     (reply, (verdicts, are, is))
 
 -- two functions that give the present modules their verdicts
-module _ (devices : List DeviceDecl) (texts : Texts) (first second : List ℕ → ModuleVerdict) (sorted : ArePresent texts)
+module _ (devices : List DeviceDecl) (rules : List Rule) (texts : Texts) (first second : List ℕ → ModuleVerdict) (sorted : ArePresent texts)
     (a : AreVerdicts devices texts first) (b : AreVerdicts devices texts second) where
   agree : (name : List ℕ) → is_some (text_of texts name) ≡ true → first name ≡ second name
   agree name there = let found = some_of (text_of texts name) there in
@@ -105,16 +120,18 @@ module _ (devices : List DeviceDecl) (texts : Texts) (first second : List ℕ �
   started : (module_name name : List ℕ) → started_in texts first module_name name ≡ started_in texts second module_name name
   started module_name name = started_definitions_are_one devices texts first second module_name name sorted a b
 
-  run_alike : (module_name name : List ℕ) (fuel : ℕ) (r s : Result CheckedDefinition Code) (one other : Reply)
+  entry_alike : (module_name name : List ℕ) (told : CheckedEntry → Reply) (refused : Code → Reply)
+      (r s : Result CheckedDefinition Code) (one other : Reply)
       → started_in texts first module_name name ≡ r → started_in texts second module_name name ≡ s → r ≡ s
-      → IsRunAnswer devices texts first module_name name fuel r one → IsRunAnswer devices texts second module_name name fuel s other → one ≡ other
-  run_alike module_name name fuel (Ok it) (Ok again) one other p q same x y =
+      → IsEntryAnswer devices texts first module_name name told refused r one
+      → IsEntryAnswer devices texts second module_name name told refused s other → one ≡ other
+  entry_alike module_name name told refused (Ok it) (Ok again) one other p q same x y =
       let entry = entries_are_one devices texts first second module_name name it again x.0 y.0 sorted a b p q x.1 y.1 in
-      x.2 ∙ ap (λ e. run_told module_name name e.authority (declared_run devices fuel e)) entry ∙ sym y.2
-  run_alike module_name name fuel (Ok it) (Err code) one other p q same x y = cc
-  run_alike module_name name fuel (Err code) (Ok again) one other p q same x y = cc
-  run_alike module_name name fuel (Err code) (Err code') one other p q same x y =
-      x ∙ ap (λ r. RunRefused module_name name r) code_same ∙ sym y
+      x.2 ∙ ap told entry ∙ sym y.2
+  entry_alike module_name name told refused (Ok it) (Err code) one other p q same x y = cc
+  entry_alike module_name name told refused (Err code) (Ok again) one other p q same x y = cc
+  entry_alike module_name name told refused (Err code) (Err code') one other p q same x y =
+      x ∙ ap refused code_same ∙ sym y
     where
       code_same : code ≡ code'
       code_same = cc
@@ -144,8 +161,16 @@ module _ (devices : List DeviceDecl) (texts : Texts) (first second : List ℕ �
   tasks_alike fuel schedule tasks None None one other same x y =
       x.2 ∙ ap (tasks_told devices fuel schedule) (entries_alike tasks x.0 y.0 x.1 y.1) ∙ sym y.2
 
-  pub answers_alike : (question : Question) (one other : Reply) → IsAnswer devices texts first question one
-      → IsAnswer devices texts second question other → one ≡ other
+  -- and so are the answers about the definition
+  answer_alike : (module_name name : List ℕ) (told : CheckedEntry → Reply) (refused : Code → Reply) (one other : Reply)
+      → IsEntryAnswer devices texts first module_name name told refused (started_in texts first module_name name) one
+      → IsEntryAnswer devices texts second module_name name told refused (started_in texts second module_name name) other → one ≡ other
+  answer_alike module_name name told refused one other x y =
+      entry_alike module_name name told refused (started_in texts first module_name name) (started_in texts second module_name name) one other
+      refl refl (started module_name name) x y
+
+  pub answers_alike : (question : Question) (one other : Reply) → IsAnswer devices rules texts first question one
+      → IsAnswer devices rules texts second question other → one ≡ other
   answers_alike CheckModules one other x y = x ∙ ap Verdicts (listed_alike first second texts agree) ∙ sym y
   answers_alike (ShowSignature name) one other x y =
       let alike = chosen_alike (is_some (text_of texts name)) (definitions_reply name (first name))
@@ -155,13 +180,20 @@ module _ (devices : List DeviceDecl) (texts : Texts) (first second : List ℕ �
   answers_alike (ShowDerivation module_name name) one other x y =
       x ∙ ap (derivation_reply devices module_name name) (found_by_texts devices texts first second sorted a b module_name name) ∙ sym y
   answers_alike (RunDefinition module_name name fuel) one other x y =
-      run_alike module_name name fuel (started_in texts first module_name name) (started_in texts second module_name name) one other
-      refl refl (started module_name name) x y
+      answer_alike module_name name (λ entry. run_told module_name name entry.authority (declared_run devices fuel entry)) (RunRefused module_name name)
+      one other x y
   answers_alike (RunTasks fuel schedule tasks) one other x y =
       tasks_alike fuel schedule tasks (first_unstarted texts first tasks) (first_unstarted texts second tasks) one other (unstarted_alike tasks) x y
+  answers_alike (AuditDefinition module_name name) one other x y =
+      answer_alike module_name name (audit_told devices rules module_name name) (AuditRefused module_name name) one other x y
+  answers_alike (GuardDefinition module_name name fuel) one other x y =
+      answer_alike module_name name (guard_told devices rules module_name name fuel) (GuardRefused module_name name) one other x y
 
 pub replies_are_unique : RepliesAreUnique
 replies_are_unique devices state (PutText name text) first second sorted a b = a ∙ sym b
 replies_are_unique devices state (DropModule name) first second sorted a b = a ∙ sym b
+replies_are_unique devices state (SetPolicy rules) first second sorted a b = a ∙ sym b
+replies_are_unique devices state (VerifyText text) first second sorted a b =
+    a.2 ∙ ap Verified (one_thing_is_found text a.0 b.0 a.1 b.1) ∙ sym b.2
 replies_are_unique devices state (Ask question) first second sorted a b =
-    answers_alike devices state.texts a.0 b.0 sorted a.1 b.1 question first second a.2 b.2
+    answers_alike devices state.rules state.texts a.0 b.0 sorted a.1 b.1 question first second a.2 b.2

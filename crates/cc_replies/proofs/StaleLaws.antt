@@ -16,7 +16,7 @@ use Rattle.cc_meta_modules.specs.PresentTexts.{Texts, ArePresent, text_of, graph
 use Rattle.cc_meta_modules.specs.Readings.{imports_of}
 use Rattle.cc_replies.specs.Laws.{StaleModulesAreCounted, StaleModulesAreCountedOnce}
 use Rattle.cc_replies.specs.Replies.{after}
-use Rattle.cc_replies.specs.Requests.{Request, PutText, DropModule, Ask, JobState}
+use Rattle.cc_replies.specs.Requests.{Request, PutText, DropModule, SetPolicy, VerifyText, Ask, JobState}
 use Rattle.cc_replies.specs.StaleModules.{Checks, FindsStale, AreStale}
 use Rattle.cc_replies.proofs.PresentAfter.{texts_stay_present}
 use Rattle.cc_replies.proofs.ReplyLaws.{some_of, found_first, found_later}
@@ -83,6 +83,8 @@ pub finds_exist : (devices : List DeviceDecl) (state : JobState) (last : List Ju
     → (count : ℕ) × (next : List Judgement) × FindsStale devices state last request count next
 finds_exist devices state last (PutText name text) differ sorted = (0, last, (refl, refl))
 finds_exist devices state last (DropModule name) differ sorted = (0, last, (refl, refl))
+finds_exist devices state last (SetPolicy rules) differ sorted = (0, last, (refl, refl))
+finds_exist devices state last (VerifyText text) differ sorted = (0, last, (refl, refl))
 finds_exist devices state last (Ask question) differ sorted =
     let (verdicts, are) = present_verdicts_exist devices state.texts differ sorted in
     (stale_count last state.texts verdicts, judgements state.texts verdicts, (verdicts, are, refl, refl))
@@ -107,6 +109,8 @@ finds_alike : (devices : List DeviceDecl) (state : JobState) (last : List Judgem
     → (m ≡ n) × (a ≡ b)
 finds_alike devices state last (PutText name text) sorted m n a b p q = (p.0 ∙ sym q.0, p.1 ∙ sym q.1)
 finds_alike devices state last (DropModule name) sorted m n a b p q = (p.0 ∙ sym q.0, p.1 ∙ sym q.1)
+finds_alike devices state last (SetPolicy rules) sorted m n a b p q = (p.0 ∙ sym q.0, p.1 ∙ sym q.1)
+finds_alike devices state last (VerifyText text) sorted m n a b p q = (p.0 ∙ sym q.0, p.1 ∙ sym q.1)
 finds_alike devices state last (Ask question) sorted m n a b p q = checks_alike devices state.texts last sorted m n a b p q
 
 pub stale_is_one : StaleModulesAreCountedOnce

@@ -3,7 +3,7 @@ use Rattle.std.proofs.Common.{◌≡◌, ℕ, suc, ◌+◌, ◌<◌, ◌≤◌, 
 use Rattle.std.proofs.lemmas.List.{append-nil, map_push, take_more, take_all, length-map, length-take-le}
 use Rattle.std.proofs.lemmas.Simd.{map-map}
 use Rattle.cc_replies.proofs.RunLines.{flat_map-append}
-use Rattle.cc_replies.specs.RunTexts.{of_task, by_task}
+use Rattle.cc_replies.specs.TaskTexts.{of_task, by_task}
 
 -- one more line stands behind the others
 pub by_task-more : (first : ℕ) (texts : List (List ℕ)) (text : List ℕ)

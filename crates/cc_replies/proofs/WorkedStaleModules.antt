@@ -22,6 +22,12 @@ puts_find_none_stale devices texts last name text = (refl, refl)
 pub drops_find_none_stale : example.DropsFindNoneStale
 drops_find_none_stale devices texts last name = (refl, refl)
 
+pub policies_find_none_stale : example.PoliciesFindNoneStale
+policies_find_none_stale devices texts last rules = (refl, refl)
+
+pub certificates_find_none_stale : example.CertificatesFindNoneStale
+certificates_find_none_stale devices texts last text = (refl, refl)
+
 -- a module with nothing in it
 abbrev nothing : ModuleSyntax
 nothing = record { imports = []; defs = [] }
@@ -155,6 +161,47 @@ put_again_behind_a_check =
             1,
             (all_accepted, none_present [] all_accepted, refl, refl),
             (0, [], 1, (refl, refl), (1, empty, 0, (all_accepted, empty_accepted, refl, refl), refl, refl), refl),
+            refl,
+          ),
+          refl,
+        ),
+        refl,
+      ),
+      refl,
+    )
+
+pub audits_and_guards_check : example.AuditsAndGuardsCheck
+unfolding reading_of_text word_of short_symbol pair_symbol front_of blank_of token_of number_of encode is_utf8 chars reading_of module_at imports_at import_at defs_at def_at def_rule_at one_part_at name_at placed_name_at symbol_at word_at
+audits_and_guards_check =
+    let empty = judged [] in
+    let blank = judged (codes " ") in (
+      0,
+      [],
+      2,
+      (refl, refl),
+      (
+        0,
+        [],
+        2,
+        (refl, refl),
+        (
+          1,
+          empty,
+          1,
+          (all_accepted, empty_accepted, refl, refl),
+          (
+            0,
+            empty,
+            1,
+            (refl, refl),
+            (
+              1,
+              blank,
+              0,
+              (all_accepted, blank_accepted, refl, refl),
+              (0, blank, 0, (all_accepted, blank_accepted, refl, refl), refl, refl),
+              refl,
+            ),
             refl,
           ),
           refl,

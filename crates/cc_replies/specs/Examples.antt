@@ -1,5 +1,5 @@
 -- Worked replies.
-use Rattle.std.specs.Prelude.{◌≡◌, ℕ, true, false, List, [], ◌∷◌, ◌++◌, codes, replicate, refl}
+use Rattle.std.specs.Prelude.{◌≡◌, ℕ, true, false, List, [], ◌∷◌, ◌++◌, codes, replicate, Some, None, refl}
 use Rattle.std.specs.Fmt.{digits}
 use Rattle.cc_base.specs.declared.code.Code.TheVariants.{E15, E30, E31, E32, E34}
 use Rattle.cc_base.specs.declared.literal.Base.TheVariants as bases
@@ -12,11 +12,14 @@ use Rattle.cc_core.specs.Shapes.{BaseShape, FunctionShape, CapturingType, captur
 use Rattle.cc_core.specs.Terms.{Absent, LiteralTerm}
 use Rattle.cc_base.specs.Literals.{UnitLiteral}
 use Rattle.cc_meta_modules.specs.ModuleVerdicts.{CheckedDefinition, IsAccepted, IsRefused}
-use Rattle.cc_replies.specs.ReplyTexts.{PutDone, PutRefused, DropDone, DropRefused, Verdicts, Signatures}
-use Rattle.cc_replies.specs.ReplyTexts.{SignaturesRefused, line, reply_text, is_refusal}
+use Rattle.cc_policy.specs.declared.policy.Decision.{Decision}
+use Rattle.cc_policy.specs.declared.policy.Rule.{Rule}
+use Rattle.cc_replies.specs.ReplyTexts.{Reply, PutDone, PutRefused, DropDone, DropRefused, PolicySet, Verified, Verdicts, Signatures}
+use Rattle.cc_replies.specs.ReplyTexts.{SignaturesRefused, Audited, line, reply_text, is_refusal}
+use Rattle.cc_certificate_judging.specs.Answers.{ProvesType, HasBadLine, HasBadNode}
 use Rattle.cc_replies.specs.Replies.{put_reply, texts_after}
-use Rattle.cc_replies.specs.Requests.{PutText, DropModule, no_module}
-use Rattle.cc_replies.specs.Outputs.{IsOutput}
+use Rattle.cc_replies.specs.Requests.{CheckModules, PutText, DropModule, SetPolicy, VerifyText, Ask, no_module}
+use Rattle.cc_replies.specs.Outputs.{IsOutput, after_all}
 use lib.Utf8.{encode}
 
 abbrev a : List ℕ
@@ -98,3 +101,79 @@ removed_twice = (
   refl,
   refl,
 )
+
+-- a rule that denies everything, and one that allows it
+abbrev nothing : Rule
+nothing = record { allow = false; «module» = None; device = None }
+
+abbrev everything : Rule
+everything = record { allow = true; «module» = None; device = None }
+
+-- how many rules a policy has
+pub policies_are_set :
+    IsOutput [] no_module (SetPolicy (nothing ∷ everything ∷ []) ∷ SetPolicy [] ∷ [])
+    (line (codes "policy 2") ++ line (codes "policy 0")) false
+unfolding encode digits
+policies_are_set = (
+  PolicySet 2,
+  line (codes "policy 0"),
+  false,
+  refl,
+  (PolicySet 0, [], false, refl, (refl, refl), refl, refl),
+  refl,
+  refl,
+)
+
+-- The rules that were set last are in force, whatever came behind them. At first there are none.
+pub last_rules_are_in_force :
+    (after_all no_module
+    (SetPolicy (nothing ∷ []) ∷ SetPolicy (everything ∷ []) ∷ PutText a [] ∷ DropModule a ∷ VerifyText [] ∷ Ask CheckModules ∷ [])).rules
+    ≡ everything ∷ []
+unfolding encode
+last_rules_are_in_force = refl
+
+pub no_rules_at_first : (after_all no_module (PutText a [] ∷ Ask CheckModules ∷ [])).rules ≡ []
+unfolding encode
+no_rules_at_first = refl
+
+-- a line for each device, with what is decided and by which rule; that a device is denied is no refusal
+abbrev audit : Reply
+audit =
+    Audited a b
+    ((0, record { allow = true; rule = Some 1 }) ∷ (1, record { allow = false; rule = Some 2 })
+    ∷ (2, record { allow = false; rule = None }) ∷ [])
+
+pub decisions_are_told :
+    reply_text (codes "out" ∷ codes "hits" ∷ codes "data" ∷ []) audit
+    ≡ line (codes "audit a.b") ++ line (codes "  out allow 1") ++ line (codes "  hits deny 2")
+    ++ line (codes "  data deny none")
+unfolding encode digits
+decisions_are_told = refl
+
+pub denials_are_no_refusals : is_refusal audit ≡ false
+denials_are_no_refusals = refl
+
+-- what is found of a certificate: its type with the names of its binds, a bad line, or a bad node
+pub valid_certificate :
+    reply_text [] (Verified (ProvesType (codes "out" ∷ []) runs))
+    ≡ line (codes "verify") ++ line (codes "  valid ((_0: Unit) -> Unit)^{out}")
+unfolding encode digits from_list insert empty placed
+valid_certificate = refl
+
+pub bad_line : reply_text [] (Verified (HasBadLine 4)) ≡ line (codes "verify") ++ line (codes "  bad line 4")
+unfolding digits
+bad_line = refl
+
+pub bad_node : reply_text [] (Verified (HasBadNode 12)) ≡ line (codes "verify") ++ line (codes "  bad node 12")
+unfolding digits
+bad_node = refl
+
+-- the last two are refusals
+pub valid_is_no_refusal : is_refusal (Verified (ProvesType [] runs)) ≡ false
+valid_is_no_refusal = refl
+
+pub bad_line_is_one : is_refusal (Verified (HasBadLine 4)) ≡ true
+bad_line_is_one = refl
+
+pub bad_node_is_one : is_refusal (Verified (HasBadNode 12)) ≡ true
+bad_node_is_one = refl

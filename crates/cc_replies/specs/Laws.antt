@@ -1,9 +1,17 @@
 -- The laws of replies and of outputs.
-use Rattle.std.specs.Prelude.{◌≡◌, ℕ, Bool, ◌||◌, List, ◌++◌}
+use Rattle.std.specs.Prelude.{◌≡◌, ◌↔◌, ℕ, Bool, ◌||◌, List, ◌++◌, Some, IsTrue, slice_get}
+use Rattle.std.specs.List.{AllByRecursion}
+use Rattle.cc_base.specs.declared.code.Code.TheVariants.{E37}
 use Rattle.cc_base.specs.declared.device.DeviceDecl.{DeviceDecl}
+use Rattle.cc_meta_entries.specs.PresentEntries.{CheckedEntry}
 use Rattle.cc_meta_modules.specs.ModuleLaws.{NamesOfDevicesDiffer}
 use Rattle.cc_meta_modules.specs.PresentTexts.{ArePresent}
-use Rattle.cc_replies.specs.ReplyTexts.{Reply}
+use Rattle.cc_mnf.specs.CoreModules.{device_names}
+use Rattle.cc_policy.specs.declared.policy.Rule.{Rule}
+use Rattle.cc_policy.specs.Policies.{Decides}
+use Rattle.cc_replies.specs.PolicyReplies.{Allows, IsPermitted, decision_for, are_allowed, permitted_told, guard_told}
+use Rattle.cc_replies.specs.ReplyTexts.{Reply, GuardRefused}
+use Rattle.cc_replies.specs.RunReplies.{declared_run}
 use Rattle.cc_replies.specs.Requests.{Request, JobState}
 use Rattle.cc_replies.specs.Replies.{Replies, after}
 use Rattle.cc_judge.specs.Judgements.{Judgement}
@@ -25,6 +33,33 @@ abbrev pub RepliesAreUnique : Type 0
 RepliesAreUnique =
     (devices : List DeviceDecl) (state : JobState) (request : Request) (first second : Reply) → ArePresent state.texts
     → Replies devices state request first → Replies devices state request second → first ≡ second
+
+-- what is told of a device is what the rules decide for the module and the device's name
+abbrev pub ToldDecisionsAreDecided : Type 0
+ToldDecisionsAreDecided =
+    (names : List (List ℕ)) (rules : List Rule) (module_name : List ℕ) (device : ℕ) (name : List ℕ)
+    → slice_get names device ≡ Some name → Decides rules module_name name (decision_for names rules module_name device)
+
+-- the test says that devices are allowed exactly where they are
+abbrev pub PermissionIsTested : Type 0
+PermissionIsTested =
+    (names : List (List ℕ)) (rules : List Rule) (module_name : List ℕ) (devices : List ℕ)
+    → IsTrue (are_allowed names rules module_name devices) ↔ AllByRecursion (Allows names rules module_name) devices
+
+-- an entry that is permitted is run
+abbrev pub PermittedEntriesAreRun : Type 0
+PermittedEntriesAreRun =
+    (devices : List DeviceDecl) (rules : List Rule) (module_name name : List ℕ) (fuel : ℕ) (entry : CheckedEntry)
+    → IsPermitted (device_names devices) rules entry
+    → guard_told devices rules module_name name fuel entry
+    ≡ permitted_told module_name name entry.authority (declared_run devices fuel entry)
+
+-- and one that is not is refused
+abbrev pub OtherEntriesAreNotRun : Type 0
+OtherEntriesAreNotRun =
+    (devices : List DeviceDecl) (rules : List Rule) (module_name name : List ℕ) (fuel : ℕ) (entry : CheckedEntry)
+    → (IsPermitted (device_names devices) rules entry → ⊥)
+    → guard_told devices rules module_name name fuel entry ≡ GuardRefused module_name name E37
 
 -- commands have an output
 abbrev pub OutputsExist : Type 0

@@ -1,11 +1,13 @@
+pub mod CertificateTexts
 pub mod DerivationTexts
 pub mod Examples
 pub mod Laws
 pub mod Outputs
+pub mod PolicyReplies
 pub mod Replies
 pub mod Requests
 pub mod RunReplies
-pub mod RunTexts
+pub mod TaskTexts
 pub mod ReplyTexts
 pub mod StaleModules
 pub mod RefusalExamples

@@ -14,10 +14,14 @@ use Rattle.cc_meta_entries.specs.PresentEntries.{started_in}
 use Rattle.cc_meta_modules.specs.ModuleVerdicts.{ModuleVerdict, IsAccepted, IsRefused}
 use Rattle.cc_meta_modules.specs.PresentTexts.{Texts, text_of, AreVerdicts}
 use Rattle.cc_meta_modules.specs.StandingDefinitions.{Standing, standing_context, standing_names, standing_in}
+use Rattle.cc_policy.specs.declared.policy.Rule.{Rule}
 use Rattle.cc_replies.specs.ReplyTexts.{Reply, PutDone, PutRefused, DropDone, DropRefused, Verdicts, Signatures}
-use Rattle.cc_replies.specs.ReplyTexts.{SignaturesRefused, Derived, DerivationRefused, is_refusal}
+use Rattle.cc_replies.specs.ReplyTexts.{PolicySet, Verified, SignaturesRefused, Derived, DerivationRefused, is_refusal}
+use Rattle.cc_certificate_judging.specs.Answers.{Found, IsFound}
+use Rattle.cc_replies.specs.PolicyReplies.{IsAuditAnswer, IsGuardAnswer}
 use Rattle.cc_replies.specs.Requests.{Question, CheckModules, ShowSignature, ShowDerivation, RunDefinition, RunTasks}
-use Rattle.cc_replies.specs.Requests.{Request, PutText, DropModule, Ask, JobState}
+use Rattle.cc_replies.specs.Requests.{AuditDefinition, GuardDefinition}
+use Rattle.cc_replies.specs.Requests.{Request, PutText, DropModule, SetPolicy, VerifyText, Ask, JobState}
 use Rattle.cc_replies.specs.RunReplies.{IsRunAnswer, first_unstarted, IsTasksAnswer}
 use Rattle.cc_sets.specs.DerivationSizes.{nodes}
 
@@ -66,33 +70,51 @@ abbrev pub derivation_reply : List DeviceDecl → List ℕ → List ℕ → Resu
 derivation_reply devices module_name name (Ok it) = derivation_told devices module_name name it
 derivation_reply devices module_name name (Err code) = DerivationRefused module_name name code
 
--- What is answered to a question, beside the devices and where present modules have these texts and these verdicts.
-abbrev pub IsAnswer : List DeviceDecl → Texts → (List ℕ → ModuleVerdict) → Question → Reply → Type 0
-IsAnswer devices texts verdicts CheckModules reply = reply ≡ check_reply texts verdicts
-IsAnswer devices texts verdicts (ShowSignature name) reply = reply ≡ signature_reply texts verdicts name
-IsAnswer devices texts verdicts (ShowDerivation module_name name) reply =
+-- What is answered to a question, beside the devices and where these rules are in force and present modules have these
+-- texts and these verdicts.
+abbrev pub IsAnswer : List DeviceDecl → List Rule → Texts → (List ℕ → ModuleVerdict) → Question → Reply → Type 0
+IsAnswer devices rules texts verdicts CheckModules reply = reply ≡ check_reply texts verdicts
+IsAnswer devices rules texts verdicts (ShowSignature name) reply = reply ≡ signature_reply texts verdicts name
+IsAnswer devices rules texts verdicts (ShowDerivation module_name name) reply =
     reply ≡ derivation_reply devices module_name name (standing_in texts verdicts module_name name)
-IsAnswer devices texts verdicts (RunDefinition module_name name fuel) reply =
+IsAnswer devices rules texts verdicts (RunDefinition module_name name fuel) reply =
     IsRunAnswer devices texts verdicts module_name name fuel (started_in texts verdicts module_name name) reply
-IsAnswer devices texts verdicts (RunTasks fuel schedule tasks) reply =
+IsAnswer devices rules texts verdicts (RunTasks fuel schedule tasks) reply =
     IsTasksAnswer devices texts verdicts fuel schedule tasks (first_unstarted texts verdicts tasks) reply
+IsAnswer devices rules texts verdicts (AuditDefinition module_name name) reply =
+    IsAuditAnswer devices rules texts verdicts module_name name (started_in texts verdicts module_name name) reply
+IsAnswer devices rules texts verdicts (GuardDefinition module_name name fuel) reply =
+    IsGuardAnswer devices rules texts verdicts module_name name fuel (started_in texts verdicts module_name name) reply
 
 -- What is answered to a command, beside the devices and in this state. A question is answered by the verdicts that the
--- present texts have.
+-- present texts have. What is found of a text that is to be a certificate has nothing to do with devices and modules.
 abbrev pub Replies : List DeviceDecl → JobState → Request → Reply → Type 0
 Replies devices state (PutText name text) reply = reply ≡ put_reply state.texts name text
 Replies devices state (DropModule name) reply = reply ≡ drop_reply state.texts name
+Replies devices state (SetPolicy rules) reply = reply ≡ PolicySet (length rules)
+Replies devices state (VerifyText text) reply = (found : Found) × IsFound text found × (reply ≡ Verified found)
 Replies devices state (Ask question) reply =
     (verdicts : List ℕ → ModuleVerdict) × AreVerdicts devices state.texts verdicts
-    × IsAnswer devices state.texts verdicts question reply
+    × IsAnswer devices state.rules state.texts verdicts question reply
 
--- The texts that are present after a command. One that is refused changes nothing, and neither does a question.
+-- The texts that are present after a command: those that put and remove modules alone change them, where they are not
+-- refused.
 abbrev pub texts_after : Texts → Request → Texts
 texts_after texts (PutText name text) =
     if is_refusal (put_reply texts name text) then texts else insert_entry compare_names texts name text
 texts_after texts (DropModule name) = remove_entry (bytes_eq name) texts
+texts_after texts (SetPolicy rules) = texts
+texts_after texts (VerifyText text) = texts
 texts_after texts (Ask question) = texts
+
+-- the rules in force after a command: those that it sets, or else the ones before
+abbrev pub rules_after : List Rule → Request → List Rule
+rules_after rules (PutText name text) = rules
+rules_after rules (DropModule name) = rules
+rules_after rules (SetPolicy next) = next
+rules_after rules (VerifyText text) = rules
+rules_after rules (Ask question) = rules
 
 -- the state after a command
 abbrev pub after : JobState → Request → JobState
-after state request = record { texts = texts_after state.texts request }
+after state request = record { texts = texts_after state.texts request; rules = rules_after state.rules request }

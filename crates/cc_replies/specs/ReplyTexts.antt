@@ -1,5 +1,6 @@
 -- Replies to commands, and how they are written: a head line, and then lines that begin with two spaces.
-use Rattle.std.specs.Prelude.{ℕ, Bool, true, false, List, [], ◌∷◌, ◌++◌, codes, encode_utf8_all}
+use Rattle.std.specs.Prelude.{ℕ, Bool, true, false, not, if◌then◌else◌, List, [], ◌∷◌, ◌++◌, codes, encode_utf8_all, Option, Some, None}
+use Rattle.std.specs.Fmt.{decimal}
 use Rattle.std.specs.List.{flat_map, list_any}
 use Rattle.cc_base.specs.Texts.{code_text, place_text}
 use Rattle.cc_base.specs.declared.code.Code.{Code}
@@ -10,16 +11,23 @@ use Rattle.cc_print.specs.TypeTexts.{type_text}
 use Rattle.cc_meta_runs.specs.Interleavings.{Report}
 use Rattle.cc_meta_runs.specs.Runs.{Ending, Ends, IsStopped}
 use Rattle.cc_meta_modules.specs.ModuleVerdicts.{CheckedDefinition, ModuleVerdict, IsAccepted, IsRefused}
-use Rattle.cc_replies.specs.RunTexts.{run_lines, task_lines}
+use Rattle.cc_policy.specs.declared.policy.Decision.{Decision}
+use Rattle.cc_certificate_judging.specs.Answers.{Found, found_text, is_valid}
+use Rattle.cc_replies.specs.TaskTexts.{task_lines}
+use Rattle.cc_run_texts.specs.RunTexts.{device_text, run_lines}
 
--- What is answered to a command: the module was put, or was removed, or that was refused; the verdicts of modules; the
--- definitions of an accepted module; the lines of the certificate of a definition; the devices that a run may operate,
--- its events, its end and its steps; the same of tasks that ran interleaved; or why one of these is not shown.
+-- What is answered to a command: the module was put, or was removed, or that was refused; so many rules are in force;
+-- what was found of a certificate; the verdicts of modules; the definitions of an accepted module; the lines of the
+-- certificate of a definition; the devices that a run may operate, its events, its end and its steps; the same of tasks
+-- that ran interleaved; each device that a run may operate with what the rules decide; the same of a run that they permit
+-- as of any other; or why one of these is not shown.
 pub data Reply : Type 0 where
   PutDone : (name : List ℕ) → Reply
   PutRefused : (name : List ℕ) (code : Code) → Reply
   DropDone : (name : List ℕ) → Reply
   DropRefused : (name : List ℕ) (code : Code) → Reply
+  PolicySet : (count : ℕ) → Reply
+  Verified : (found : Found) → Reply
   Verdicts : (verdicts : List (List ℕ × ModuleVerdict)) → Reply
   Signatures : (name : List ℕ) (definitions : List CheckedDefinition) → Reply
   SignaturesRefused : (name : List ℕ) (code : Code) → Reply
@@ -29,6 +37,10 @@ pub data Reply : Type 0 where
   RunRefused : (module_name name : List ℕ) (code : Code) → Reply
   TasksRan : (authorities : List (List ℕ)) (report : Report) → Reply
   TasksRefused : (code : Code) (module_name name : List ℕ) → Reply
+  Audited : (module_name name : List ℕ) (decisions : List (ℕ × Decision)) → Reply
+  AuditRefused : (module_name name : List ℕ) (code : Code) → Reply
+  Guarded : (module_name name : List ℕ) (authority : List ℕ) (events : List Event) (ending : Ending) (steps : ℕ) → Reply
+  GuardRefused : (module_name name : List ℕ) (code : Code) → Reply
 
 -- a line is its text and a line feed
 abbrev pub line : List ℕ → List ℕ
@@ -77,12 +89,32 @@ abbrev pub signature_line : List (List ℕ) → CheckedDefinition → List ℕ
 signature_line names one =
     inner_line (encode_utf8_all one.name ++ codes ": " ++ type_text names 0 one.accepted.signature)
 
+-- the number of the rule that decides, or that none does
+abbrev pub rule_text : Option ℕ → List ℕ
+rule_text (Some number) = decimal number
+rule_text None = codes "none"
+
+-- what is decided, and by which rule
+abbrev pub decision_text : Decision → List ℕ
+decision_text it = (if it.allow then codes "allow " else codes "deny ") ++ rule_text it.rule
+
+-- a line for each device, where the devices have these names
+abbrev pub decision_line : List (List ℕ) → ℕ × Decision → List ℕ
+decision_line names one = inner_line (device_text names one.0 ++ codes " " ++ decision_text one.1)
+
+-- the text of a reply that tells of a run under this word
+abbrev pub run_text : List ℕ → List (List ℕ) → List ℕ → List ℕ → List ℕ → List Event → Ending → ℕ → List ℕ
+run_text word names module_name name authority events ending steps =
+    pair_head word module_name name ++ flat_map inner_line (run_lines names authority events ending steps)
+
 -- the text of a reply where the devices have these names
 abbrev pub reply_text : List (List ℕ) → Reply → List ℕ
 reply_text names (PutDone name) = head (codes "put") name
 reply_text names (PutRefused name code) = refused_head (codes "put") name code
 reply_text names (DropDone name) = head (codes "drop") name
 reply_text names (DropRefused name code) = refused_head (codes "drop") name code
+reply_text names (PolicySet count) = line (codes "policy " ++ decimal count)
+reply_text names (Verified found) = line (codes "verify") ++ inner_line (found_text found)
 reply_text names (Verdicts verdicts) = line (codes "check") ++ flat_map verdict_line verdicts
 reply_text names (Signatures name definitions) =
     head (codes "sig") name ++ flat_map (signature_line names) definitions
@@ -92,12 +124,18 @@ reply_text names (Derived module_name name lines) =
 reply_text names (DerivationRefused module_name name code) =
     refused_pair_head (codes "derive") module_name name code
 reply_text names (Ran module_name name authority events ending steps) =
-    pair_head (codes "run") module_name name ++ flat_map inner_line (run_lines names authority events ending steps)
+    run_text (codes "run") names module_name name authority events ending steps
 reply_text names (RunRefused module_name name code) = refused_pair_head (codes "run") module_name name code
 reply_text names (TasksRan authorities report) =
     line (codes "tasks") ++ flat_map inner_line (task_lines names authorities report)
 reply_text names (TasksRefused code module_name name) =
     line (codes "tasks refused " ++ code_text code ++ codes " " ++ pair_text module_name name)
+reply_text names (Audited module_name name decisions) =
+    pair_head (codes "audit") module_name name ++ flat_map (decision_line names) decisions
+reply_text names (AuditRefused module_name name code) = refused_pair_head (codes "audit") module_name name code
+reply_text names (Guarded module_name name authority events ending steps) =
+    run_text (codes "guard") names module_name name authority events ending steps
+reply_text names (GuardRefused module_name name code) = refused_pair_head (codes "guard") module_name name code
 
 -- the module is refused
 abbrev pub is_refused : ModuleVerdict → Bool
@@ -110,12 +148,15 @@ is_unfinished (Ends (Done shown)) = false
 is_unfinished (Ends OutOfFuel) = true
 is_unfinished IsStopped = true
 
--- The reply tells of a refusal: that of the command, or of a module, or that the fuel of a run or a task ran out.
+-- The reply tells of a refusal: that of the command, or of a module, or of what is to be a certificate; or that the fuel
+-- of a run or a task ran out. What is denied is none.
 abbrev pub is_refusal : Reply → Bool
 is_refusal (PutDone name) = false
 is_refusal (PutRefused name code) = true
 is_refusal (DropDone name) = false
 is_refusal (DropRefused name code) = true
+is_refusal (PolicySet count) = false
+is_refusal (Verified found) = not (is_valid found)
 is_refusal (Verdicts verdicts) = list_any (λ one. is_refused one.1) verdicts
 is_refusal (Signatures name definitions) = false
 is_refusal (SignaturesRefused name code) = true
@@ -125,3 +166,7 @@ is_refusal (Ran module_name name authority events ending steps) = is_unfinished 
 is_refusal (RunRefused module_name name code) = true
 is_refusal (TasksRan authorities report) = list_any (λ it. is_unfinished it.0) report.ends
 is_refusal (TasksRefused code module_name name) = true
+is_refusal (Audited module_name name decisions) = false
+is_refusal (AuditRefused module_name name code) = true
+is_refusal (Guarded module_name name authority events ending steps) = is_unfinished ending
+is_refusal (GuardRefused module_name name code) = true

@@ -11,6 +11,14 @@ use Rattle.cc_meta_runs.specs.Links.{program_start}
 use Rattle.cc_meta_runs.specs.Runs.{Run, run}
 use Rattle.cc_replies.specs.ReplyTexts.{Reply, Ran, RunRefused, TasksRan, TasksRefused}
 
+-- What is answered about a definition that is to be started: what is told of its entry, where there is this one to be
+-- started, or the refusal, by why there is none.
+abbrev pub IsEntryAnswer : List DeviceDecl → Texts → (List ℕ → ModuleVerdict) → List ℕ → List ℕ
+    → (CheckedEntry → Reply) → (Code → Reply) → Result CheckedDefinition Code → Reply → Type 0
+IsEntryAnswer devices texts verdicts module_name name told refused (Ok started) reply =
+    (entry : CheckedEntry) × IsEntryOf devices texts verdicts module_name name started entry × (reply ≡ told entry)
+IsEntryAnswer devices texts verdicts module_name name told refused (Err code) reply = reply ≡ refused code
+
 -- the run of an entry's program on the declared devices
 abbrev pub declared_run : List DeviceDecl → ℕ → CheckedEntry → Run
 declared_run devices fuel entry =
@@ -23,10 +31,9 @@ run_told module_name name authority it = Ran module_name name authority it.event
 -- A run of a definition, where there is this one to be started, or why there is none.
 abbrev pub IsRunAnswer : List DeviceDecl → Texts → (List ℕ → ModuleVerdict) → List ℕ → List ℕ → ℕ
     → Result CheckedDefinition Code → Reply → Type 0
-IsRunAnswer devices texts verdicts module_name name fuel (Ok started) reply =
-    (entry : CheckedEntry) × IsEntryOf devices texts verdicts module_name name started entry
-    × (reply ≡ run_told module_name name entry.authority (declared_run devices fuel entry))
-IsRunAnswer devices texts verdicts module_name name fuel (Err code) reply = reply ≡ RunRefused module_name name code
+IsRunAnswer devices texts verdicts module_name name fuel =
+    IsEntryAnswer devices texts verdicts module_name name
+    (λ entry. run_told module_name name entry.authority (declared_run devices fuel entry)) (RunRefused module_name name)
 
 -- a definition that is not to be run, by its names, with the reason
 pub record Unstarted : Type 0 where

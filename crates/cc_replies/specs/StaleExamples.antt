@@ -3,7 +3,9 @@ use Rattle.std.specs.Prelude.{◌≡◌, ℕ, List, [], ◌∷◌, codes}
 use Rattle.cc_base.specs.declared.device.DeviceDecl.{DeviceDecl}
 use Rattle.cc_judge.specs.Judgements.{Judgement}
 use Rattle.cc_meta_modules.specs.PresentTexts.{Texts}
-use Rattle.cc_replies.specs.Requests.{CheckModules, ShowSignature, PutText, DropModule, Ask, JobState, no_module}
+use Rattle.cc_policy.specs.declared.policy.Rule.{Rule}
+use Rattle.cc_replies.specs.Requests.{CheckModules, ShowSignature, AuditDefinition, GuardDefinition, PutText, DropModule}
+use Rattle.cc_replies.specs.Requests.{SetPolicy, VerifyText, Ask, JobState, no_module}
 use Rattle.cc_replies.specs.StaleModules.{FindsStale, AreStale}
 
 -- putting and removing a module finds none stale, and leaves the judgements as they were
@@ -16,6 +18,17 @@ abbrev pub DropsFindNoneStale : Type 0
 DropsFindNoneStale =
     (devices : List DeviceDecl) (state : JobState) (last : List Judgement) (name : List ℕ)
     → FindsStale devices state last (DropModule name) 0 last
+
+-- and so do policies and certificates
+abbrev pub PoliciesFindNoneStale : Type 0
+PoliciesFindNoneStale =
+    (devices : List DeviceDecl) (state : JobState) (last : List Judgement) (rules : List Rule)
+    → FindsStale devices state last (SetPolicy rules) 0 last
+
+abbrev pub CertificatesFindNoneStale : Type 0
+CertificatesFindNoneStale =
+    (devices : List DeviceDecl) (state : JobState) (last : List Judgement) (text : List ℕ)
+    → FindsStale devices state last (VerifyText text) 0 last
 
 abbrev pub m : List ℕ
 m = codes "m"
@@ -33,6 +46,13 @@ TwoOfFourChecks =
 abbrev pub PutAgainBeforeACheck : Type 0
 PutAgainBeforeACheck =
     AreStale [] no_module [] (PutText m [] ∷ Ask (ShowSignature m) ∷ DropModule m ∷ PutText m [] ∷ Ask CheckModules ∷ []) 1
+
+-- An audit checks, and so does a guard: the one behind the other finds nothing stale.
+abbrev pub AuditsAndGuardsCheck : Type 0
+AuditsAndGuardsCheck =
+    AreStale [] no_module []
+    (PutText m [] ∷ SetPolicy [] ∷ Ask (AuditDefinition m m) ∷ PutText m (codes " ") ∷ Ask (GuardDefinition m m 0)
+    ∷ Ask (AuditDefinition m m) ∷ []) 2
 
 -- one where a check stood between
 abbrev pub PutAgainBehindACheck : Type 0

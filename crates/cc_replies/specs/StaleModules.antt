@@ -4,7 +4,7 @@ use Rattle.cc_base.specs.declared.device.DeviceDecl.{DeviceDecl}
 use Rattle.cc_judge.specs.Judgements.{Judgement, judgements, stale_count}
 use Rattle.cc_meta_modules.specs.ModuleVerdicts.{ModuleVerdict}
 use Rattle.cc_meta_modules.specs.PresentTexts.{Texts, AreVerdicts}
-use Rattle.cc_replies.specs.Requests.{Request, PutText, DropModule, Ask, JobState}
+use Rattle.cc_replies.specs.Requests.{Request, PutText, DropModule, SetPolicy, VerifyText, Ask, JobState}
 use Rattle.cc_replies.specs.Replies.{after}
 
 -- A check of the present texts, where these were the judgements of the check before: so many modules are stale, and the
@@ -14,11 +14,12 @@ Checks devices texts last count next =
     (verdicts : List ℕ → ModuleVerdict) × AreVerdicts devices texts verdicts
     × (count ≡ stale_count last texts verdicts) × (next ≡ judgements texts verdicts)
 
--- How many modules a command's check finds stale, and the judgements after it. All but commands that put or remove a
--- module check.
+-- How many modules a command's check finds stale, and the judgements after it. Questions alone check.
 abbrev pub FindsStale : List DeviceDecl → JobState → List Judgement → Request → ℕ → List Judgement → Type 0
 FindsStale devices state last (PutText name text) count next = (count ≡ 0) × (next ≡ last)
 FindsStale devices state last (DropModule name) count next = (count ≡ 0) × (next ≡ last)
+FindsStale devices state last (SetPolicy rules) count next = (count ≡ 0) × (next ≡ last)
+FindsStale devices state last (VerifyText text) count next = (count ≡ 0) × (next ≡ last)
 FindsStale devices state last (Ask question) count next = Checks devices state.texts last count next
 
 -- how many modules all commands together find stale, in this state before the first

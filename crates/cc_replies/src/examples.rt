@@ -21,7 +21,10 @@ pub fn refusals()
 pub fn stale_modules()
     ensures puts { stale.PutsFindNoneStale }
     ensures drops { stale.DropsFindNoneStale }
+    ensures policies { stale.PoliciesFindNoneStale }
+    ensures certificates { stale.CertificatesFindNoneStale }
     ensures checks { stale.TwoOfFourChecks }
+    ensures audits { stale.AuditsAndGuardsCheck }
     ensures put_again { stale.PutAgainBeforeACheck }
     ensures put_later { stale.PutAgainBehindACheck }
 {}

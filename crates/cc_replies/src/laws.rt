@@ -8,6 +8,14 @@ pub fn commands_have_one_reply()
     ensures unique { law.RepliesAreUnique }
 {}
 
+/// What an audit tells of a device is what the rules decide. A definition is run where they permit it, and else refused.
+pub fn permitted_entries_are_run()
+    ensures decided { law.ToldDecisionsAreDecided }
+    ensures tested { law.PermissionIsTested }
+    ensures run { law.PermittedEntriesAreRun }
+    ensures refused { law.OtherEntriesAreNotRun }
+{}
+
 /// The commands of a job have one output.
 pub fn commands_have_one_output()
     ensures exist { law.OutputsExist }

@@ -1,10 +1,13 @@
-//! The text of replies to commands that put, remove and check modules, show signatures and certificates, and run definitions.
+//! The text of replies to commands that put, remove and check modules, show signatures and certificates, run definitions,
+//! and audit and guard them by a policy.
 #![tactic(auto)]
 
+pub mod certificates;
 pub mod derivations;
 pub mod examples;
 pub mod laws;
 pub mod modules;
+pub mod policies;
 pub mod runs;
 pub mod signatures;
 pub mod tasks;

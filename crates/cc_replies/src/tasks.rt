@@ -5,16 +5,18 @@ ghost use Rattle.std.specs.Fmt.{decimal};
 ghost use Rattle.std.specs.List.{flat_map, list_any};
 ghost use Rattle.std.specs.String.{string_bytes};
 ghost use Rattle.cc_replies.specs.ReplyTexts.{TasksRan, TasksRefused, inner_line, pair_text, reply_text, is_refusal, is_unfinished};
-ghost use Rattle.cc_replies.specs.RunTexts as plain;
+ghost use Rattle.cc_replies.specs.TaskTexts as plain;
+ghost use Rattle.cc_run_texts.specs.RunTexts.{authority_text};
 ghost use Rattle.cc_tasks.specs.Reports.{told_by, told_event, told_end};
 
-use crate::runs::{is_cut_short, put_authority, put_end, put_event};
+use crate::runs::is_cut_short;
 use cc_base::code::Code;
 use cc_base::name::Name;
 use cc_certificate::writing::put;
 use cc_device::{End, Event};
 use cc_entry::Entry;
 use cc_print::Names;
+use cc_run_texts::texts::{put_authority, put_end, put_event};
 use cc_tasks::TaskReport;
 use std::alloc::{AllocError, Global};
 
@@ -34,7 +36,7 @@ fn put_task_authority(
     task: usize,
     authority: &[u32],
 ) -> Result<(), AllocError>
-    ensures { OnOk result (string_bytes out.new ≡ string_bytes out.old ++ inner_line (plain.of_task task (plain.authority_text names.now.names.items authority.now))) }
+    ensures { OnOk result (string_bytes out.new ≡ string_bytes out.old ++ inner_line (plain.of_task task (authority_text names.now.names.items authority.now))) }
 {
     put_task(alloc, out, task)?;
     put_authority(alloc, out, names, authority)?;
@@ -48,7 +50,7 @@ fn put_authorities(
     names: &Names,
     entries: &[Entry],
 ) -> Result<(), AllocError>
-    ensures { OnOk result (string_bytes out.new ≡ string_bytes out.old ++ flat_map inner_line (plain.by_task 0 (map (plain.authority_text names.now.names.items) (map (λ entry. entry.authority.items) entries.now)))) }
+    ensures { OnOk result (string_bytes out.new ≡ string_bytes out.old ++ flat_map inner_line (plain.by_task 0 (map (authority_text names.now.names.items) (map (λ entry. entry.authority.items) entries.now)))) }
 {
     for (task, entry) in entries.iter().enumerate() {
         put_task_authority(alloc, out, names, task, &entry.authority)?;

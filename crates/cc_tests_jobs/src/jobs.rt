@@ -1,7 +1,9 @@
 // Jobs, as their devices and commands, and bytes that are none, as their bad lines.
 use cc_base::device::{DeviceDecl, Kind};
+use cc_base::name::Name;
 use cc_job::job::{Command, Job, JobError};
 use cc_job::read::read_job;
+use cc_policy::policy::{Policy, decide};
 use std::alloc::{AllocError, Global};
 use std::test::Fail;
 
@@ -15,6 +17,27 @@ fn shown_device(alloc: Global, device: &DeviceDecl) -> Result<String, AllocError
         }
         Kind::Counter => format!(in alloc; "{name} counter;"),
     }
+}
+
+// What a policy says of two modules and two devices.
+fn shown_policy(alloc: Global, policy: &Policy) -> Result<String, AllocError> {
+    let mut shown = String::new(alloc);
+    shown.push_str("policy")?;
+    for owner in ["m", "n"] {
+        for device in ["d", "e"] {
+            let (Ok(owner), Ok(device)) = (Name::read(alloc, owner), Name::read(alloc, device))
+            else {
+                return Err(AllocError);
+            };
+            let decision = decide(policy, &owner, &device);
+            let allow = decision.allow;
+            let rule = decision.rule.unwrap_or(0);
+            let one = format!(in alloc; " {allow} {rule}")?;
+            shown.push_str(&one)?;
+        }
+    }
+    shown.push_str(";")?;
+    Ok(shown)
 }
 
 fn shown_command(alloc: Global, command: &Command) -> Result<String, AllocError> {
@@ -33,6 +56,13 @@ fn shown_command(alloc: Global, command: &Command) -> Result<String, AllocError>
             let schedule = schedule.as_slice();
             format!(in alloc; "tasks {fuel} {schedule:?} {count};")
         }
+        Command::Verify(text) => {
+            let length = text.as_bytes().len();
+            format!(in alloc; "verify {length};")
+        }
+        Command::Policy(policy) => shown_policy(alloc, policy),
+        Command::Audit(owner, def) => format!(in alloc; "audit {owner} {def};"),
+        Command::Guard(owner, def, fuel) => format!(in alloc; "guard {owner} {def} {fuel};"),
     }
 }
 
@@ -110,6 +140,89 @@ fn jobs_and_bad_lines(rt: HostRuntime) -> Result<(), Fail> {
             "of {text:?}"
         );
     }
+    Ok(())
+}
+
+#[test]
+fn jobs_of_certificates_and_policies(rt: HostRuntime) -> Result<(), Fail> {
+    let cases: [(&str, &str); 33] = [
+        (
+            "capc 1\nverify 3\n\n a  b\ncheck\ncheck\nverify 0",
+            "verify 13;check;verify 0;",
+        ),
+        (
+            "capc 1\npolicy 3\nallow m d\ndeny * e\nallow n *\naudit m.f\nguard m.f 1000000",
+            "policy true 1 false 2 true 3 false 2;audit m f;guard m f 1000000;",
+        ),
+        (
+            "capc 1\npolicy 2\ndeny m *\nallow * *",
+            "policy false 1 false 1 true 2 true 2;",
+        ),
+        (
+            "capc 1\npolicy 0\n\npolicy 1\nallow m d\n\ncheck",
+            "policy false 0 false 0 false 0 false 0;policy true 1 false 0 false 0 false 0;check;",
+        ),
+        ("capc 1\nverify 1\na", "bad 4"),
+        ("capc 1\nverify 2\na\n", "bad 4"),
+        ("capc 1\nverify 4194305\n", "bad 2"),
+        ("capc 1\nverify 4194304\n", "bad 3"),
+        ("capc 1\nverify 01\na\n", "bad 2"),
+        ("capc 1\nverify\n", "bad 2"),
+        ("capc 1\nverify m 1\na\n", "bad 2"),
+        ("capc 1\npolicy 257\n", "bad 2"),
+        ("capc 1\npolicy 256\n", "bad 3"),
+        ("capc 1\npolicy 01\nallow m d\n", "bad 2"),
+        ("capc 1\npolicy 2\nallow m d\n", "bad 4"),
+        ("capc 1\npolicy 2\nallow m d", "bad 4"),
+        ("capc 1\npolicy 2\nallow m d\n\ndeny * *\n", "bad 4"),
+        (
+            "capc 1\npolicy 3\nallow  m d\ndeny m d\ndeny * *\n",
+            "bad 3",
+        ),
+        ("capc 1\ncheck\npolicy 3\nallow m d\ndeny m d x\n", "bad 5"),
+        ("capc 1\npolicy 3\nallow m d\ndeny m d\ndeny *\n", "bad 5"),
+        ("capc 1\npolicy 1\nAllow m d\n", "bad 3"),
+        ("capc 1\npolicy 1\nallow m d\r\n", "bad 3"),
+        ("capc 1\npolicy 1\nallow m d \n", "bad 3"),
+        ("capc 1\npolicy 1\nallow val d\n", "bad 3"),
+        ("capc 1\npolicy 1\nallow m *x\n", "bad 3"),
+        ("capc 1\npolicy 1\nallow ** d\n", "bad 3"),
+        ("capc 1\npolicy 1\ncheck\n", "bad 3"),
+        ("capc 1\npolicy 1\nallow m d\ndeny * *\n", "bad 4"),
+        ("capc 1\naudit m\n", "bad 2"),
+        ("capc 1\naudit m.f 1\n", "bad 2"),
+        ("capc 1\nguard m.f\n", "bad 2"),
+        ("capc 1\nguard m.f 1000001\n", "bad 2"),
+        ("capc 1\npolicy 1\nallow m d\ndevice d console\n", "bad 4"),
+    ];
+    for (text, want) in cases {
+        assert_eq!(rt;
+            shown(rt.alloc(), text.as_bytes())?.as_str(),
+            want,
+            "of {text:?}"
+        );
+    }
+    Ok(())
+}
+
+// A policy of so many rules.
+fn many_rules(alloc: Global, said: u32, count: u32) -> Result<String, AllocError> {
+    let mut text = format!(in alloc; "capc 1\npolicy {said}\n")?;
+    for _ in 0..count {
+        text.push_str("deny m d\n")?;
+    }
+    Ok(text)
+}
+
+#[test]
+fn as_many_rules_as_there_may_be(rt: HostRuntime) -> Result<(), Fail> {
+    let most = many_rules(rt.alloc(), 256, 256)?;
+    assert_eq!(rt;
+        shown(rt.alloc(), most.as_bytes())?.as_str(),
+        "policy false 1 false 0 false 0 false 0;"
+    );
+    let more = many_rules(rt.alloc(), 256, 257)?;
+    assert_eq!(rt; shown(rt.alloc(), more.as_bytes())?.as_str(), "bad 259");
     Ok(())
 }
 

@@ -1,4 +1,4 @@
--- Replies to runs and tasks where the present texts are given, by computation.
+-- Replies to runs, tasks, audits and guards where the present texts are given, by computation.
 use Rattle.std.proofs.Common.{◌≡◌, ◌∙◌, ℕ, Bool, List, [], ◌∷◌, length, map, Option, Some, None, Ok, Err, refl, sym, ap, subst, if◌then◌else◌}
 use Rattle.std.specs.Prelude.{Result}
 use Rattle.std.specs.Fmt.{digits}
@@ -24,10 +24,12 @@ use Rattle.cc_meta_modules.specs.Readings.{imports_in, imports_of}
 use Rattle.cc_mnf.specs.CoreModules.{device_names}
 use Rattle.cc_worked_texts.proofs.ComputedModules.{text_computing, text_verdict_in, text_verdict_in_steps}
 use Rattle.cc_worked_texts.proofs.QuickTokens.{quick_reading, same_reading}
-use Rattle.cc_replies.specs.ReplyTexts.{Reply, RunRefused, TasksRefused, line, reply_text, is_refusal}
-use Rattle.cc_replies.specs.Requests.{RunDefinition, RunTasks}
-use Rattle.cc_replies.specs.RunReplies.{declared_run, run_told, IsRunAnswer, Unstarted, unstarted_or, first_unstarted, HaveEntries, tasks_told, IsTasksAnswer}
-use Rattle.cc_worked_replies.specs.TextReplies.{RepliesWith}
+use Rattle.cc_policy.specs.declared.policy.Rule.{Rule}
+use Rattle.cc_replies.specs.PolicyReplies.{audit_told, guard_told}
+use Rattle.cc_replies.specs.ReplyTexts.{Reply, RunRefused, TasksRefused, AuditRefused, GuardRefused, line, reply_text, is_refusal}
+use Rattle.cc_replies.specs.Requests.{RunDefinition, RunTasks, AuditDefinition, GuardDefinition}
+use Rattle.cc_replies.specs.RunReplies.{declared_run, run_told, IsEntryAnswer, Unstarted, unstarted_or, first_unstarted, HaveEntries, tasks_told, IsTasksAnswer}
+use Rattle.cc_worked_replies.specs.TextReplies.{RepliesUnder, RepliesWith}
 use Rattle.cc_replies.proofs.WorkedTexts.{HasItsVerdict, are_verdicts}
 
 -- TEXTS
@@ -146,12 +148,25 @@ module _ (devices : List DeviceDecl) (texts : Texts) (verdicts : List ℕ → Mo
     authority = authority (length devices) started.accepted.signature.set;
   }
 
-  -- the reply to a run, by the definition that is started, or the reason why there is none
+  -- what is told of the entry of the definition that is started, or of the reason why there is none
+  abbrev pub answer_by : List ℕ → List ℕ → (CheckedEntry → Reply) → (Code → Reply) → Result CheckedDefinition Code → Reply
+  answer_by module_name name told refused (Ok started) = told (entry_by module_name name started)
+  answer_by module_name name told refused (Err code) = refused code
+
+  -- the reply to a run
   abbrev pub run_by : List ℕ → List ℕ → ℕ → Result CheckedDefinition Code → Reply
-  run_by module_name name fuel (Ok started) =
-      run_told module_name name (entry_by module_name name started).authority
-      (declared_run devices fuel (entry_by module_name name started))
-  run_by module_name name fuel (Err code) = RunRefused module_name name code
+  run_by module_name name fuel =
+      answer_by module_name name (λ entry. run_told module_name name entry.authority (declared_run devices fuel entry))
+      (RunRefused module_name name)
+
+  -- that to an audit, and to a run that is guarded
+  abbrev pub audit_by : List Rule → List ℕ → List ℕ → Result CheckedDefinition Code → Reply
+  audit_by rules module_name name =
+      answer_by module_name name (audit_told devices rules module_name name) (AuditRefused module_name name)
+
+  abbrev pub guard_by : List Rule → List ℕ → List ℕ → ℕ → Result CheckedDefinition Code → Reply
+  guard_by rules module_name name fuel =
+      answer_by module_name name (guard_told devices rules module_name name fuel) (GuardRefused module_name name)
 
   -- the entry before others, if there is a definition that is started
   abbrev with_entry : List ℕ → List ℕ → Result CheckedDefinition Code → List CheckedEntry → List CheckedEntry
@@ -178,12 +193,13 @@ module _ (devices : List DeviceDecl) (texts : Texts) (verdicts : List ℕ → Mo
         (subst O (sym judged.is_graph) judged.order) (entry_by module_name name started) refl
         (λ i. map (λ n. same_module n i) (filter (is_reached (sym judged.is_graph i) module_name) names)) refl refl refl
 
-    run_is : (module_name name : List ℕ) (fuel : ℕ) (found : Result CheckedDefinition Code)
-        → started_in texts verdicts module_name name ≡ found
-        → IsRunAnswer devices texts verdicts module_name name fuel found (run_by module_name name fuel found)
-    run_is module_name name fuel (Ok started) is =
+    answer_is : (module_name name : List ℕ) (told : CheckedEntry → Reply) (refused : Code → Reply)
+        (found : Result CheckedDefinition Code) → started_in texts verdicts module_name name ≡ found
+        → IsEntryAnswer devices texts verdicts module_name name told refused found
+        (answer_by module_name name told refused found)
+    answer_is module_name name told refused (Ok started) is =
         (entry_by module_name name started, entry_is module_name name started is, refl)
-    run_is module_name name fuel (Err code) is = refl
+    answer_is module_name name told refused (Err code) is = refl
 
     -- the reply to a run has the lines that are found
     pub run_replies : (module_name name : List ℕ) (fuel : ℕ) (lines : List (List ℕ)) (refused : Bool)
@@ -193,7 +209,48 @@ module _ (devices : List DeviceDecl) (texts : Texts) (verdicts : List ℕ → Mo
         → RepliesWith devices texts (RunDefinition module_name name fuel) lines refused
     run_replies module_name name fuel lines refused text tells = (
       run_by module_name name fuel (started_in texts verdicts module_name name),
-      (verdicts, judged.are, run_is module_name name fuel (started_in texts verdicts module_name name) refl),
+      (
+        verdicts,
+        judged.are,
+        answer_is module_name name (λ entry. run_told module_name name entry.authority (declared_run devices fuel entry))
+            (RunRefused module_name name) (started_in texts verdicts module_name name) refl,
+      ),
+      text,
+      tells,
+    )
+
+    -- so does the reply to an audit
+    pub audit_replies : (rules : List Rule) (module_name name : List ℕ) (lines : List (List ℕ)) (refused : Bool)
+        → reply_text (device_names devices) (audit_by rules module_name name (started_in texts verdicts module_name name))
+        ≡ flat_map line lines
+        → is_refusal (audit_by rules module_name name (started_in texts verdicts module_name name)) ≡ refused
+        → RepliesUnder rules devices texts (AuditDefinition module_name name) lines refused
+    audit_replies rules module_name name lines refused text tells = (
+      audit_by rules module_name name (started_in texts verdicts module_name name),
+      (
+        verdicts,
+        judged.are,
+        answer_is module_name name (audit_told devices rules module_name name) (AuditRefused module_name name)
+            (started_in texts verdicts module_name name) refl,
+      ),
+      text,
+      tells,
+    )
+
+    -- and that to a run that is guarded
+    pub guard_replies : (rules : List Rule) (module_name name : List ℕ) (fuel : ℕ) (lines : List (List ℕ)) (refused : Bool)
+        → reply_text (device_names devices)
+        (guard_by rules module_name name fuel (started_in texts verdicts module_name name)) ≡ flat_map line lines
+        → is_refusal (guard_by rules module_name name fuel (started_in texts verdicts module_name name)) ≡ refused
+        → RepliesUnder rules devices texts (GuardDefinition module_name name fuel) lines refused
+    guard_replies rules module_name name fuel lines refused text tells = (
+      guard_by rules module_name name fuel (started_in texts verdicts module_name name),
+      (
+        verdicts,
+        judged.are,
+        answer_is module_name name (guard_told devices rules module_name name fuel) (GuardRefused module_name name)
+            (started_in texts verdicts module_name name) refl,
+      ),
       text,
       tells,
     )

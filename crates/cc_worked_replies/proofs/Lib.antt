@@ -2,3 +2,5 @@ pub mod ComputedReplies
 pub mod WorkedRuns
 pub mod WorkedShownTexts
 pub mod WorkedTasks
+pub mod WorkedPolicies
+pub mod WorkedCertificates

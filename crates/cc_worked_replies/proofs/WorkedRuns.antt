@@ -110,7 +110,7 @@ imported_names_do_not_run =
     (codes "run app.title refused E33" ∷ []) true refl refl
 
 -- a text that is no module is not in the import graph
-refused_judged : AreJudged console example.refused_module (verdicts_of console example.refused_module) [] []
+pub refused_judged : AreJudged console example.refused_module (verdicts_of console example.refused_module) [] []
 unfolding reply_computing
 refused_judged =
     are_judged console 12 example.refused_module (verdicts_of console example.refused_module) [] [] (tt, tt) (tt, tt) refl (refl, tt)
@@ -156,7 +156,7 @@ file_and_counter_run =
     run_replies three_devices example.file_and_counter (verdicts_of three_devices example.file_and_counter) alone (m ∷ []) file_and_counter_judged m main 100
     (codes "run m.main" ∷ codes "  authority {hits, data}" ∷ codes "  data read 3" ∷ codes "  data read 5" ∷ codes "  data read 0" ∷ codes "  data write 3" ∷ codes "  data read 3" ∷ codes "  hits tick 1" ∷ codes "  done 1 after 17 steps" ∷ []) false refl refl
 
-values_judged : AreJudged console example.values (verdicts_of console example.values) alone (m ∷ [])
+pub values_judged : AreJudged console example.values (verdicts_of console example.values) alone (m ∷ [])
 unfolding reply_computing
 values_judged =
     are_judged console 12 example.values (verdicts_of console example.values) alone (m ∷ []) (tt, tt) (tt, tt) refl (refl, tt)

@@ -1,3 +1,5 @@
+pub mod CertificateExamples
+pub mod PolicyExamples
 pub mod RunExamples
 pub mod ShownTexts
 pub mod TaskExamples

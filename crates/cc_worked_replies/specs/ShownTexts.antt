@@ -6,8 +6,9 @@ use Rattle.cc_device.specs.Endings.{ShownLiteral, ShownFunction, ShownTypeFuncti
 use Rattle.cc_device.specs.Endings.{Done, OutOfFuel}
 use Rattle.cc_device.specs.Events.{Operated, Entered, Ended, Exited}
 use Rattle.cc_meta_runs.specs.Runs.{Ends, IsStopped}
-use Rattle.cc_replies.specs.RunTexts.{authority_text, event_text, shown_text, ending_text, end_text, of_task}
 use Rattle.cc_replies.specs.ReplyTexts.{is_unfinished}
+use Rattle.cc_replies.specs.TaskTexts.{of_task}
+use Rattle.cc_run_texts.specs.RunTexts.{authority_text, event_text, shown_text, ending_text, end_text}
 
 -- the names of the devices
 abbrev pub names : List (List ℕ)

@@ -7,14 +7,19 @@ use Rattle.cc_meta_modules.specs.PresentTexts.{Texts}
 use Rattle.cc_mnf.specs.CoreModules.{device_names}
 use Rattle.cc_replies.specs.Replies.{Replies}
 use Rattle.cc_replies.specs.ReplyTexts.{Reply, line, reply_text, is_refusal}
-use Rattle.cc_replies.specs.Requests.{Question, Ask, holding}
+use Rattle.cc_policy.specs.declared.policy.Rule.{Rule}
+use Rattle.cc_replies.specs.Requests.{Question, Ask, holding_under}
 
--- Beside the devices, where these texts are present, the reply to the question has these lines, and tells of a refusal
--- or of none.
-abbrev pub RepliesWith : List DeviceDecl → Texts → Question → List (List ℕ) → Bool → Type 0
-RepliesWith devices texts question lines refused =
-    (reply : Reply) × Replies devices (holding texts) (Ask question) reply
+-- Beside the devices, where these rules are in force and these texts are present, the reply to the question has these
+-- lines, and tells of a refusal or of none.
+abbrev pub RepliesUnder : List Rule → List DeviceDecl → Texts → Question → List (List ℕ) → Bool → Type 0
+RepliesUnder rules devices texts question lines refused =
+    (reply : Reply) × Replies devices (holding_under rules texts) (Ask question) reply
     × (reply_text (device_names devices) reply ≡ flat_map line lines) × (is_refusal reply ≡ refused)
+
+-- the same where no rule is in force
+abbrev pub RepliesWith : List DeviceDecl → Texts → Question → List (List ℕ) → Bool → Type 0
+RepliesWith = RepliesUnder []
 
 -- the console `out` alone
 abbrev pub console : List DeviceDecl

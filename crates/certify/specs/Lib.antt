@@ -1,4 +1,3 @@
-pub mod Answers
 pub mod Status
 pub mod Outcome
 pub mod StatusTable

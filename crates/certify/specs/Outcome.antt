@@ -1,15 +1,14 @@
 -- What a call of the program may do: what is read and written, for each status.
-use Rattle.std.specs.Prelude.{◌≡◌, ℕ, ◌+◌, ◌<◌, ◌≤◌, ◌⊎◌, List, ◌++◌, codes, length, Option}
+use Rattle.std.specs.Prelude.{◌≡◌, ℕ, ◌+◌, ◌<◌, ◌≤◌, ◌⊎◌, true, false, List, ◌++◌, codes, length, Option}
 use Rattle.std.specs.Io.KnownBytes.{Consumes, IsAtEnd, Keeps, Appends}
 use Rattle.cc_io.specs.Wholes.{TakesCount, AppendsFront}
-use Rattle.certify.specs.declared.answer.Answer.{Answer}
+use Rattle.cc_certificate_judging.specs.Answers.{Found, IsFound, found_text, is_valid}
 use Rattle.certify.specs.declared.status.Status.{Status}
 use Rattle.certify.specs.declared.status.Status.TheVariants.{Valid, Invalid, ReadFault, TooLong, NoMemory, WriteFault}
-use Rattle.certify.specs.Answers.{IsAnswered, IsPositive, answer_text}
 
 -- the greatest number of bytes of a certificate
 abbrev pub certificate_limit : ℕ
-certificate_limit = 268435456
+certificate_limit = 4194304
 
 -- the bytes that a source has left and those that a sink holds, where they tell them, and how often each failed
 pub record Ends : Type 0 where
@@ -36,29 +35,29 @@ pub record IsSilent (before after : Ends) : Type 0 where
   pub kept : Keeps before.written after.written
   pub no_fault : after.write_faults ≡ before.write_faults
 
--- the bytes are all that the source had, within the limit, and no read failed, and this is the answer for them
-pub record Answers (before after : Ends) (answer : Answer) : Type 0 where
+-- the bytes are all that the source had, within the limit, and no read failed, and this is found of them
+pub record Finds (before after : Ends) (found : Found) : Type 0 where
   pub bytes : List ℕ
   pub consumed : Consumes before.left after.left bytes
   pub ended : IsAtEnd after.left
   pub short : length bytes ≤ certificate_limit
   pub no_read_fault : after.read_faults ≡ before.read_faults
-  pub answered : IsAnswered bytes answer
+  pub is_found : IsFound bytes found
 
--- the line that is written of an answer
-abbrev pub answer_line : Answer → List ℕ
-answer_line answer = answer_text answer ++ codes "\n"
+-- the line that is written of what is found: the answer
+abbrev pub answer_line : Found → List ℕ
+answer_line found = found_text found ++ codes "\n"
 
 -- the source was read to its end, and the line of its answer was written whole
-pub record WritesAnswer (before after : Ends) (answer : Answer) : Type 0 where
-  pub answers : Answers before after answer
-  pub written : Appends before.written after.written (answer_line answer)
+pub record WritesAnswer (before after : Ends) (found : Found) : Type 0 where
+  pub finds : Finds before after found
+  pub written : Appends before.written after.written (answer_line found)
   pub no_write_fault : after.write_faults ≡ before.write_faults
 
 -- the source was read to its end, and a front of the line of its answer was written
-pub record IsCutOff (before after : Ends) (answer : Answer) : Type 0 where
-  pub answers : Answers before after answer
-  pub written : AppendsFront before.written after.written (answer_line answer)
+pub record IsCutOff (before after : Ends) (found : Found) : Type 0 where
+  pub finds : Finds before after found
+  pub written : AppendsFront before.written after.written (answer_line found)
 
 -- a read failed: no more than the limit had been taken, and nothing was written
 pub record FailsToRead (before after : Ends) : Type 0 where
@@ -69,8 +68,8 @@ pub record FailsToRead (before after : Ends) : Type 0 where
 -- a write failed: a front of the line of the answer was written
 pub record FailsToWrite (before after : Ends) : Type 0 where
   pub fault : before.write_faults < after.write_faults
-  pub answer : Answer
-  pub cut : IsCutOff before after answer
+  pub found : Found
+  pub cut : IsCutOff before after found
 
 -- memory lacked before there was an answer: no more than the limit had been taken, and nothing was written
 pub record LacksMemoryEarly (before after : Ends) : Type 0 where
@@ -79,14 +78,14 @@ pub record LacksMemoryEarly (before after : Ends) : Type 0 where
 
 -- memory lacked behind the answer: a front of its line was written, and no write failed
 pub record LacksMemoryLate (before after : Ends) : Type 0 where
-  pub answer : Answer
-  pub cut : IsCutOff before after answer
+  pub found : Found
+  pub cut : IsCutOff before after found
   pub no_write_fault : after.write_faults ≡ before.write_faults
 
 -- What was read and written, for each status.
 abbrev pub Outcome : Ends → Ends → Status → Type 0
-Outcome before after Valid = (answer : Answer) × IsPositive answer × WritesAnswer before after answer
-Outcome before after Invalid = (answer : Answer) × (IsPositive answer → ⊥) × WritesAnswer before after answer
+Outcome before after Valid = (found : Found) × (is_valid found ≡ true) × WritesAnswer before after found
+Outcome before after Invalid = (found : Found) × (is_valid found ≡ false) × WritesAnswer before after found
 Outcome before after ReadFault = FailsToRead before after
 Outcome before after TooLong = TakesMany (λ n. n ≡ certificate_limit + 1) before after × IsSilent before after
 Outcome before after NoMemory = LacksMemoryEarly before after ⊎ LacksMemoryLate before after

@@ -18,7 +18,7 @@ pub record StatusesShow : Type 0 where
   pub no_memory : Shows NoMemory 2 (Some (codes "certify: out of memory"))
   pub write_fault : Shows WriteFault 2 (Some (codes "certify: write fault"))
 
--- a certificate may have 268,435,456 bytes, and it is too long where one more was taken
+-- a certificate may have 4,194,304 bytes, and it is too long where one more was taken
 abbrev pub CertificatesHaveSoManyBytes : Type 0
-CertificatesHaveSoManyBytes = (certificate_limit ≡ 268435456)
-    × ((before after : Ends) → Outcome before after TooLong → TakesMany (λ n. n ≡ 268435457) before after)
+CertificatesHaveSoManyBytes = (certificate_limit ≡ 4194304)
+    × ((before after : Ends) → Outcome before after TooLong → TakesMany (λ n. n ≡ 4194305) before after)

@@ -5,7 +5,6 @@
 //! It stands for trying certificates by themselves. The command of a job that would answer so is not built.
 #![tactic(auto)]
 
-mod answer;
 pub mod laws;
 mod program;
 mod run;

@@ -2,13 +2,13 @@
 ghost use Rattle.std.specs.Prelude.{◌≡◌, ◌-◌, ◌^◌, ◌<◌};
 ghost use Rattle.certify.specs.Outcome.{Outcome, ends};
 
-use crate::answer::answer_to;
 use crate::status::Status;
+use cc_certificate_judging::answer_to;
 use cc_io::{ReadAll, Sink, Source, WriteAll, read_all, write_all};
 use std::alloc::{AllocError, Global};
 
 /// The greatest number of bytes of a certificate.
-const LIMIT: usize = 268_435_456;
+const LIMIT: usize = 4_194_304;
 
 /// Reads the certificate, judges it, and writes the line of the answer. Nothing is written before all is read.
 pub fn certify<S: Source, K: Sink>(alloc: Global, source: &mut S, sink: &mut K) -> Status

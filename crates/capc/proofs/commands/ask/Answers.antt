@@ -1,6 +1,6 @@
 use Rattle.std.proofs.Common.{Err}
 use Rattle.cc_io.specs.declared.whole.WriteAll.TheVariants as errors
-use Rattle.cc_replies.specs.Requests.{Ask, holding}
+use Rattle.cc_replies.specs.Requests.{Ask, holding_under}
 use Rattle.capc.specs.Requests.{request_of, question_in}
 use Rattle.capc.proofs.CommandFacts.{if_some, if_any, replied_before, replied_nothing, ask_changes, ask_judges, ask_judges_in_part}
 use Rattle.capc.proofs.commands.ask.Goals as goal
@@ -8,7 +8,7 @@ use Rattle.capc.proofs.commands.ask.Goals as goal
 pub returns-in-Ok-clause-replied : goal.returns-in-Ok-clause-replied
 returns-in-Ok-clause-replied g c =
     if_some (question_in (request_of c.args.command.now))
-    (λ question. replied_before c.args.session.now c.check.new.self c.check.ensures.texts.0 (Ask question) (g.K.Sink.written c.args.sink.now)
+    (λ question. replied_before c.args.session.now c.check.new.self c.check.ensures.texts.0 c.args.policy.now (Ask question) (g.K.Sink.written c.args.sink.now)
     (g.K.Sink.written c.answer_checked.new.sink) c.answer_checked.result c.check.ensures.texts.1) c.answer_checked.ensures.replied
 
 pub returns-in-Ok-clause-changes : goal.returns-in-Ok-clause-changes
@@ -25,7 +25,7 @@ returns-in-Ok-clause-judges g c =
 pub returns-in-Err-clause-replied : goal.returns-in-Err-clause-replied
 returns-in-Err-clause-replied g c =
     if_any (question_in (request_of c.args.command.now))
-    (λ question. replied_nothing c.args.session.now.devices (holding c.args.session.now.present) (Ask question) c.requires.differ c.requires.present
+    (λ question. replied_nothing c.args.session.now.devices (holding_under c.args.policy.now c.args.session.now.present) (Ask question) c.requires.differ c.requires.present
     (g.K.Sink.written c.args.sink.now))
 
 pub returns-in-Err-clause-changes : goal.returns-in-Err-clause-changes

@@ -10,7 +10,7 @@ use Rattle.cc_entry.specs.Entries.{entry_of}
 use Rattle.cc_replies.specs.ReplyTexts.{TasksRefused, reply_text}
 use Rattle.cc_replies.specs.RunReplies.{first_unstarted, HaveEntries}
 use Rattle.cc_meta_modules.proofs.PresentLaws.{present_verdicts_exist}
-use Rattle.cc_replies.specs.Requests.{RunTasks, Ask, holding}
+use Rattle.cc_replies.specs.Requests.{RunTasks, Ask, holding_under}
 use Rattle.capc.specs.Running.{AreStarted}
 use Rattle.capc.proofs.CommandFacts.{replied_nothing}
 use Rattle.capc.proofs.QuestionReplies.{tasks_shown, tasks_not_shown}
@@ -28,36 +28,36 @@ tasks_text-requires g c =
     (sym (ap declared_bases c.devices.ensures)) started.1)
 
 pub returns-in-Ok-clause-replied : goal.returns-in-Ok-clause-replied
-returns-in-Ok-clause-replied g c =
+returns-in-Ok-clause-replied g c = λ rules.
     let session = c.args.session.now in
     let some = present_verdicts_exist session.devices session.present c.requires.differ c.requires.present in
     let started = subst (AreStarted session.devices session.present some.0 c.args.tasks.now) c.in-Ok-All.field-0-is (c.in-Ok-All.ensures some.0 some.1) in
     let same = sym c.deref.ensures.value in
-    tasks_shown session.devices session.present some.0 some.1 (g.K.Sink.written c.args.sink.now) (g.K.Sink.written c.write_reply.new.sink) c.write_reply.result
+    tasks_shown session.devices rules session.present some.0 some.1 (g.K.Sink.written c.args.sink.now) (g.K.Sink.written c.write_reply.new.sink) c.write_reply.result
     (string_bytes c.in-Ok.text) c.in-Ok.refused c.write_reply.ensures.written c.write_reply.ensures.refused
     c.args.fuel c.args.schedule.now c.args.tasks.now c.args.names.now.names.items c.devices.result.now c.deref.result.now c.devices.ensures c.requires.names.0
     started.0 (subst (λ es. HaveEntries session.devices session.present some.0 c.args.tasks.now (map entry_of es)) same started.1)
     c.in-Ok.ensures.text c.in-Ok.ensures.refused
 
 pub returns-in-Ok-All-clause-replied : goal.returns-in-Ok-All-clause-replied
-returns-in-Ok-All-clause-replied g c =
-    replied_nothing c.args.session.now.devices (holding c.args.session.now.present) (Ask (RunTasks c.args.fuel c.args.schedule.now c.args.tasks.now))
+returns-in-Ok-All-clause-replied g c = λ rules.
+    replied_nothing c.args.session.now.devices (holding_under rules c.args.session.now.present) (Ask (RunTasks c.args.fuel c.args.schedule.now c.args.tasks.now))
     c.requires.differ c.requires.present (g.K.Sink.written c.args.sink.now)
 
 pub returns-clause-replied : goal.returns-clause-replied
-returns-clause-replied g c =
-    replied_nothing c.args.session.now.devices (holding c.args.session.now.present) (Ask (RunTasks c.args.fuel c.args.schedule.now c.args.tasks.now))
+returns-clause-replied g c = λ rules.
+    replied_nothing c.args.session.now.devices (holding_under rules c.args.session.now.present) (Ask (RunTasks c.args.fuel c.args.schedule.now c.args.tasks.now))
     c.requires.differ c.requires.present (g.K.Sink.written c.args.sink.now)
 
 pub returns-in-Some-clause-replied : goal.returns-in-Some-clause-replied
-returns-in-Some-clause-replied g c =
+returns-in-Some-clause-replied g c = λ rules.
     let session = c.args.session.now in
     let some = present_verdicts_exist session.devices session.present c.requires.differ c.requires.present in
     let (names, there, first) = subst (AreStarted session.devices session.present some.0 c.args.tasks.now) c.in-Ok-Refused.field-0-is (c.in-Ok-Refused.ensures some.0 some.1) in
     let code = c.in-Ok-Refused.code in
     let named : names ≡ c.in-Some.one.now =
     sym (get_or_from_slice_get c.args.tasks.now c.in-Ok-Refused.task names c.in-Some.one.now there) ∙ sym (c.in-Some.ensures.lookup.1) in
-    tasks_not_shown session.devices session.present some.0 some.1 (g.K.Sink.written c.args.sink.now) (g.K.Sink.written c.write_reply-in-Some.new.sink)
+    tasks_not_shown session.devices rules session.present some.0 some.1 (g.K.Sink.written c.args.sink.now) (g.K.Sink.written c.write_reply-in-Some.new.sink)
     c.write_reply-in-Some.result c.write_reply-in-Some.ensures.refused c.args.fuel c.args.schedule.now c.args.tasks.now code c.in-Some.one.now
     (subst (λ n. first_unstarted session.present some.0 c.args.tasks.now ≡ Some (record { module_name = n.0; name = n.1; code = code })) named first)
     (c.write_reply-in-Some.ensures.written (reply_text [] (TasksRefused code c.in-Some.one.now.0 c.in-Some.one.now.1)) c.tasks_refusal.ensures)

@@ -50,4 +50,4 @@ returns-clause-typed c =
     (sym (length-map c.in_ok-ctx.ctx bind_of)) refl
     (λ tree whole. c.in_ok-der.ensures tree (whole ∙ ap (map node_of) (sym c.as_slice-2.ensures.value)))
     c.answer_for.ensures in
-    has_type c.args.cert.now (map node_of c.args.cert.now.nodes.items) c.answer_for.result c.requires.fit judged
+    has_type c.args.cert.now c.answer_for.result c.requires.fit judged

@@ -1,4 +1,5 @@
 use Rattle.cc_job.proofs.WorkedLimits as worked
+use Rattle.cc_job.proofs.WorkedPolicies as policies
 use Rattle.cc_job.proofs.laws.worked_limits.Goals as goal
 
 pub returns-clause-schedule : goal.returns-clause-schedule
@@ -36,3 +37,27 @@ returns-clause-lines c = worked.text_line_limit
 
 pub returns-clause-counts : goal.returns-clause-counts
 returns-clause-counts c = worked.text_line_counts
+
+pub returns-clause-certificate_lines : goal.returns-clause-certificate_lines
+returns-clause-certificate_lines c = policies.certificate_line_limit
+
+pub returns-clause-certificate_counts : goal.returns-clause-certificate_counts
+returns-clause-certificate_counts c = policies.certificate_line_counts
+
+pub returns-clause-rules : goal.returns-clause-rules
+returns-clause-rules c = policies.rule_limit
+
+pub returns-clause-rule_counts : goal.returns-clause-rule_counts
+returns-clause-rule_counts c = policies.rule_counts
+
+pub returns-clause-rule_places : goal.returns-clause-rule_places
+returns-clause-rule_places c = policies.rule_places
+
+pub returns-clause-rule_forms : goal.returns-clause-rule_forms
+returns-clause-rule_forms c = policies.rule_forms
+
+pub returns-clause-fuel_of_guards : goal.returns-clause-fuel_of_guards
+returns-clause-fuel_of_guards c = policies.guard_fuel_limit
+
+pub returns-clause-forms_of_audits : goal.returns-clause-forms_of_audits
+returns-clause-forms_of_audits c = policies.audit_forms

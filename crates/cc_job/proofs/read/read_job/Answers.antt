@@ -6,7 +6,7 @@ use Rattle.cc_words.specs.Lines.{next_line}
 use Rattle.cc_job.specs.Reading.{IsStep, next_item}
 use Rattle.cc_job.proofs.Standing.{Stands, not_false, not_true}
 use Rattle.cc_words.proofs.LineLists.{lines-length}
-use Rattle.cc_job.proofs.JobLaws.{turn, bad, cut_short, all_read, more_lines, stands_low, first_bad, first_good}
+use Rattle.cc_job.proofs.JobLaws.{turn, bad, cut_short, all_read, more_lines, bad_low, stands_low, first_bad, first_good}
 use Rattle.cc_job.proofs.read.read_job.Goals as goal
 
 pub returns-then-ne : goal.returns-then-ne
@@ -43,8 +43,13 @@ loop-rest-preserved c = (turn c.args.bytes.now c.loop-rest.devices.items c.loop-
 pub overflow_add-result : goal.overflow_add-result
 overflow_add-result c = omega (arith, more_lines c.args.bytes.now c.loop-rest.devices.items c.loop-rest.commands.items c.loop-rest.number c.loop-rest.rest.now c.loop-rest.invariant (sym c.is_empty.ensures ∙ c.loop-rest-test.true))
 
+pub overflow_add-result-in-Ok-BadLine : goal.overflow_add-result-in-Ok-BadLine
+overflow_add-result-in-Ok-BadLine c =
+    let is = bad c.args.bytes.now c.loop-rest.devices.items c.loop-rest.commands.items c.loop-rest.number c.loop-rest.rest.now c.loop-rest.invariant (sym c.is_empty.ensures ∙ c.loop-rest-test.true) c.in-Ok-BadLine.place (subst (λ it. IsStep it c.next_item.new.devices.items c.next_item.new.commands.items (next_item c.loop-rest.rest.now c.loop-rest.devices.items c.loop-rest.commands.items)) c.in-Ok-BadLine.field-0-is c.in-Ok-BadLine.ensures) in
+    omega (arith, bad_low c.args.bytes.now (c.loop-rest.number + 1 + c.in-Ok-BadLine.place) is)
+
 pub returns-in-Ok-BadLine : goal.returns-in-Ok-BadLine
-returns-in-Ok-BadLine c = bad c.args.bytes.now c.loop-rest.devices.items c.loop-rest.commands.items c.loop-rest.number c.loop-rest.rest.now c.loop-rest.invariant (sym c.is_empty.ensures ∙ c.loop-rest-test.true) (subst (λ it. IsStep it c.next_item.new.devices.items c.next_item.new.commands.items (next_item c.loop-rest.rest.now c.loop-rest.devices.items c.loop-rest.commands.items)) c.in-Ok-BadLine.field-0-is c.in-Ok-BadLine.ensures)
+returns-in-Ok-BadLine c = bad c.args.bytes.now c.loop-rest.devices.items c.loop-rest.commands.items c.loop-rest.number c.loop-rest.rest.now c.loop-rest.invariant (sym c.is_empty.ensures ∙ c.loop-rest-test.true) c.in-Ok-BadLine.place (subst (λ it. IsStep it c.next_item.new.devices.items c.next_item.new.commands.items (next_item c.loop-rest.rest.now c.loop-rest.devices.items c.loop-rest.commands.items)) c.in-Ok-BadLine.field-0-is c.in-Ok-BadLine.ensures)
 
 pub overflow_add-result-in-Ok-CutShort : goal.overflow_add-result-in-Ok-CutShort
 overflow_add-result-in-Ok-CutShort c = omega (arith, c.line_count.ensures, lines-length c.args.bytes.now)

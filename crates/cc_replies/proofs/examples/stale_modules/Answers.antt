@@ -7,6 +7,15 @@ returns-clause-puts c = worked.puts_find_none_stale
 pub returns-clause-drops : goal.returns-clause-drops
 returns-clause-drops c = worked.drops_find_none_stale
 
+pub returns-clause-policies : goal.returns-clause-policies
+returns-clause-policies c = worked.policies_find_none_stale
+
+pub returns-clause-certificates : goal.returns-clause-certificates
+returns-clause-certificates c = worked.certificates_find_none_stale
+
+pub returns-clause-audits : goal.returns-clause-audits
+returns-clause-audits c = worked.audits_and_guards_check
+
 pub returns-clause-checks : goal.returns-clause-checks
 returns-clause-checks c = worked.two_of_four_checks
 

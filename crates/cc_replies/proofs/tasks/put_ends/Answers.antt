@@ -1,5 +1,5 @@
 use Rattle.cc_replies.specs.ReplyTexts.{inner_line}
-use Rattle.cc_replies.specs.RunTexts.{task_end_text}
+use Rattle.cc_replies.specs.TaskTexts.{task_end_text}
 use Rattle.cc_tasks.specs.Reports.{told_end}
 use Rattle.cc_replies.proofs.TaskLines.{lines_more, lines_whole}
 use Rattle.cc_replies.proofs.tasks.put_ends.Goals as goal

@@ -1,7 +1,7 @@
 use Rattle.std.proofs.Common.{◌≡◌, ◌++◌, take, map, flat_map}
 use Rattle.std.specs.String.{string_bytes}
 use Rattle.cc_replies.specs.ReplyTexts.{inner_line}
-use Rattle.cc_replies.specs.RunTexts.{by_task, task_end_text}
+use Rattle.cc_replies.specs.TaskTexts.{by_task, task_end_text}
 use Rattle.cc_tasks.specs.Reports.{told_end}
 use Rattle.cc_replies.proofs.tasks.put_ends.Given as goal
 

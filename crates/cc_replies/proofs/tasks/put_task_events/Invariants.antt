@@ -1,7 +1,7 @@
 use Rattle.std.proofs.Common.{◌≡◌, ◌++◌, take, flat_map}
 use Rattle.std.specs.String.{string_bytes}
 use Rattle.cc_replies.specs.ReplyTexts.{inner_line}
-use Rattle.cc_replies.specs.RunTexts.{task_event_text}
+use Rattle.cc_replies.specs.TaskTexts.{task_event_text}
 use Rattle.cc_tasks.specs.Reports.{told_event}
 use Rattle.cc_replies.proofs.tasks.put_task_events.Given as goal
 

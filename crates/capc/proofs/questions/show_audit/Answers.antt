@@ -1,0 +1,28 @@
+use Rattle.std.proofs.Common.{false, [], Err, refl, ap, ◌∙◌, subst}
+use Rattle.cc_meta_modules.proofs.PresentLaws.{present_verdicts_exist}
+use Rattle.cc_replies.specs.PolicyReplies.{decisions}
+use Rattle.cc_replies.specs.Requests.{AuditDefinition, Ask, holding_under}
+use Rattle.cc_replies.specs.ReplyTexts.{Audited, AuditRefused, reply_text}
+use Rattle.cc_session.specs.EntryAnswers.{IsAnswered}
+use Rattle.capc.proofs.CommandFacts.{replied, replied_nothing}
+use Rattle.capc.proofs.QuestionReplies.{audit_shown, audit_not_shown}
+use Rattle.capc.proofs.questions.show_audit.Goals as goal
+
+pub returns-in-Ok-clause-replied : goal.returns-in-Ok-clause-replied
+returns-in-Ok-clause-replied g c = ?
+
+pub returns-in-Err-Refused-clause-replied : goal.returns-in-Err-Refused-clause-replied
+returns-in-Err-Refused-clause-replied g c =
+    let session = c.args.session.now in
+    let some = present_verdicts_exist session.devices session.present c.requires.differ c.requires.present in
+    audit_not_shown session.devices c.args.policy.now session.present some.0 some.1 (g.K.Sink.written c.args.sink.now) (g.K.Sink.written c.write_reply-in-Err-Refused.new.sink)
+    c.write_reply-in-Err-Refused.result c.write_reply-in-Err-Refused.ensures.refused c.args.module.now c.args.def.now
+    c.in-Err-Refused.refused.code
+    (subst (λ e. IsAnswered session.devices session.present some.0 c.args.module.now c.args.def.now (Err e)) c.in-Err-Refused.field-0-is
+    (c.in-Err-Refused.ensures some.0 some.1))
+    (c.write_reply-in-Err-Refused.ensures.written (reply_text [] (AuditRefused c.args.module.now c.args.def.now c.in-Err-Refused.refused.code)) c.audit_refusal.ensures)
+
+pub returns-clause-replied : goal.returns-clause-replied
+returns-clause-replied g c =
+    replied_nothing c.args.session.now.devices (holding_under c.args.policy.now c.args.session.now.present) (Ask (AuditDefinition c.args.module.now c.args.def.now))
+    c.requires.differ c.requires.present (g.K.Sink.written c.args.sink.now)
