@@ -91,6 +91,42 @@ def functions_in_bodies(count):
     return '\n'.join(lines) + '\n'
 
 
+def sum_of(count):
+    """What is derived of a function that adds its argument up so many times, a power of two, by sums of equal sums."""
+    nodes = []
+
+    def node(rule, premises, claim):
+        nodes.append('%d %s [%s] %s' % (len(nodes) + 1, rule, ' '.join(map(str, premises)), claim))
+        return len(nodes)
+
+    def operand(local):
+        variable, type = '{_%d}' % local, 'Int^{_%d}' % local
+        name = node('t-var', [], ': ' + type)
+        below = node('set', [node('elem', [], variable + ' <: ' + variable)], variable + ' <: ' + variable)
+        types = node('capt', [below, node('refl', [], 'Int <: Int')], type + ' <: ' + type)
+        return node('t-sub', [name, types], ': ' + type)
+
+    def added(left, right):
+        return node('t-prim', [operand(left), operand(right)], ': Int')
+
+    def derived(size, local):
+        if size == 2:
+            return added(0, 0)
+        left = derived(size // 2, local)
+        right = derived(size // 2, local + 1)
+        inner = node('t-let', [right, added(local, local + 1)], ': Int')
+        return node('t-let', [left, inner], ': Int')
+
+    def written(size, local):
+        if size == 2:
+            return '_0 + _0'
+        return 'let _%d = %s in let _%d = %s in _%d + _%d' % (
+            local, written(size // 2, local), local + 1, written(size // 2, local + 1), local, local + 1)
+
+    node('t-abs', [derived(count, 1)], ': (_0: Int) -> Int')
+    return '\n'.join(['cert 1', 'term fun (_0: Int) => ' + written(count, 1)] + nodes) + '\n'
+
+
 def measured(text, wanted):
     """The time and the memory for a certificate, which has to get the answer."""
     global failed
@@ -125,6 +161,7 @@ shown('4 MiB of binds', many_binds, 226000, always('valid Unit'), 1000)
 shown('a set of 40,000 names', one_set, 40000, always('valid Unit'), 300)
 shown('40,000 names in four sets', unboxed, 40000, lambda count: 'valid Unit^' + all_of(count), 300)
 shown('40,000 names below nothing', set_without_premises, 40000, always('bad node 1'), 300)
+shown('57,330 nodes, a sum of 4,096', sum_of, 4096, always('valid (_0: Int) -> Int'), 200)
 # What follows grows with the square of its size or faster. The bars are about twice what was measured.
 shown('20,000 local names far apart', names_apart, 20000, always('bad node 1'), 350)
 shown('sets under 4,900 binders', sets_under_binders, 4900, always('valid Unit'), 300)
