@@ -1,0 +1,6 @@
+pub mod Targets
+pub mod Chains
+pub mod Paths
+pub mod Steps
+pub mod Laws
+pub mod Examples
