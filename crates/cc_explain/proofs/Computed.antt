@@ -7,7 +7,8 @@ use Rattle.std.proofs.lemmas.List.Elements.{Contains-append_right, Contains-appe
 use Rattle.cc_explain.proofs.FirstPaths.{in_head, head_or_tail}
 use Rattle.cc_explain.proofs.Orders.{chain_from_path}
 use Rattle.cc_explain.proofs.Targets.{in_none, in_front, link_falls, same_target-true, same_target-false}
-use Rattle.cc_explain.specs.Chains.{Entries, targets_of, NamesEarlier, LeadsAlong, StandsBefore, LeadsBefore, IsChain, IsFirstShortest}
+use Rattle.cc_explain.specs.Chains.{LeadsAlong, StandsBefore, LeadsBefore, IsChain, IsFirstShortest}
+use Rattle.cc_explain.specs.Entries.{Entries, targets_of, NamesEarlier}
 use Rattle.cc_explain.specs.Laws.{FirstChainsExist, ChainsAreBounded, FirstChainsAreComputed}
 use Rattle.cc_explain.specs.Paths.{IsFirstPath, through, first_through, path_of, sooner, path_from}
 use Rattle.cc_explain.specs.Targets.{same_target, rank}
@@ -16,16 +17,16 @@ use Rattle.cc_explain.specs.declared.target.Target.TheVariants.{Definition}
 
 -- the first path of so many steps
 pub record IsPathOf (links : Entries) (to : Target) (steps : ℕ) (from : Target) (path : List Target) : Type 0 where
-  pub leads : LeadsAlong links from path to
+  pub leads : LeadsAlong (targets_of links) from path to
   pub long : length path ≡ steps
-  pub first : (other : List Target) → LeadsAlong links from other to → length other ≡ steps
-      → LeadsBefore links from other path
+  pub first : (other : List Target) → LeadsAlong (targets_of links) from other to → length other ≡ steps
+      → LeadsBefore (targets_of links) from other path
       → ⊥
 
 -- the first one, if there is one
 abbrev pub IsSomePathOf : Entries → Target → ℕ → Target → Option (List Target) → Type 0
 IsSomePathOf links to steps from None =
-    (other : List Target) → LeadsAlong links from other to → length other ≡ steps → ⊥
+    (other : List Target) → LeadsAlong (targets_of links) from other to → length other ≡ steps → ⊥
 IsSomePathOf links to steps from (Some path) = IsPathOf links to steps from path
 
 at_once :
@@ -34,14 +35,14 @@ at_once :
 at_once links to from true holds =
     record { leads = same_target-true from to holds; long = refl; first = none_before }
   where
-    none_before : (other : List Target) → LeadsAlong links from other to → length other ≡ 0
-        → LeadsBefore links from other []
+    none_before : (other : List Target) → LeadsAlong (targets_of links) from other to → length other ≡ 0
+        → LeadsBefore (targets_of links) from other []
         → ⊥
     none_before [] leads same before = before
     none_before (next ∷ other) leads same before = before
 at_once links to from false fails = none_there
   where
-    none_there : (other : List Target) → LeadsAlong links from other to → length other ≡ 0 → ⊥
+    none_there : (other : List Target) → LeadsAlong (targets_of links) from other to → length other ≡ 0 → ⊥
     none_there [] leads same = same_target-false from to fails leads
     none_there (next ∷ other) leads same = omega arith
 
@@ -50,13 +51,13 @@ module _ (links : Entries) (to from : Target) (steps : ℕ) (paths : Target → 
   -- from no target of the list is there a path
   abbrev NoneFrom : List Target → Type 0
   NoneFrom front =
-      (target : Target) → Contains front target → (other : List Target) → LeadsAlong links target other to
+      (target : Target) → Contains front target → (other : List Target) → LeadsAlong (targets_of links) target other to
       → length other ≡ steps
       → ⊥
 
   none_more :
       (front : List Target) (next : Target) → NoneFrom front
-      → ((other : List Target) → LeadsAlong links next other to → length other ≡ steps → ⊥)
+      → ((other : List Target) → LeadsAlong (targets_of links) next other to → length other ≡ steps → ⊥)
       → NoneFrom (front ++ next ∷ [])
   none_more front next none here target among =
       elim (Contains-append_cases front (next ∷ []) target among) [
@@ -64,7 +65,7 @@ module _ (links : Entries) (to from : Target) (steps : ℕ) (paths : Target → 
         | inr last ↦
             elim (head_or_tail next [] target last) [
               | inl same ↦
-                  subst (λ t. (other : List Target) → LeadsAlong links t other to → length other ≡ steps → ⊥) same here
+                  subst (λ t. (other : List Target) → LeadsAlong (targets_of links) t other to → length other ≡ steps → ⊥) same here
               | inr nowhere ↦ in_none target nowhere
             ]
       ]
@@ -84,8 +85,8 @@ module _ (links : Entries) (to from : Target) (steps : ℕ) (paths : Target → 
         first = none_before;
       }
     where
-      none_before : (other : List Target) → LeadsAlong links from other to → length other ≡ suc steps
-          → LeadsBefore links from other (next ∷ path)
+      none_before : (other : List Target) → LeadsAlong (targets_of links) from other to → length other ≡ suc steps
+          → LeadsBefore (targets_of links) from other (next ∷ path)
           → ⊥
       none_before [] leads same before = before
       none_before (target ∷ other) leads same (inl before) =
@@ -93,11 +94,11 @@ module _ (links : Entries) (to from : Target) (steps : ℕ) (paths : Target → 
           (in_front front next others target (subst (λ s. StandsBefore s target next) stands before)) other leads.1
           (omega arith)
       none_before (target ∷ other) leads same (inr (is_next, before)) =
-          is.first other (subst (λ t. LeadsAlong links t other to) is_next leads.1) (omega arith)
-          (subst (λ t. LeadsBefore links t other path) is_next before)
+          is.first other (subst (λ t. LeadsAlong (targets_of links) t other to) is_next leads.1) (omega arith)
+          (subst (λ t. LeadsBefore (targets_of links) t other path) is_next before)
 
   none_at_all :
-      NoneFrom (targets_of links from) → (other : List Target) → LeadsAlong links from other to
+      NoneFrom (targets_of links from) → (other : List Target) → LeadsAlong (targets_of links) from other to
       → length other ≡ suc steps
       → ⊥
   none_at_all none [] leads same = omega arith
@@ -134,16 +135,16 @@ path_of_is links to (suc steps) from =
 
 -- the first of the shortest paths, if one has fewer steps than so many
 abbrev pub IsPathBelow : Entries → Target → Target → ℕ → Option (List Target) → Type 0
-IsPathBelow links to from high None = (other : List Target) → LeadsAlong links from other to → high ≤ length other
+IsPathBelow links to from high None = (other : List Target) → LeadsAlong (targets_of links) from other to → high ≤ length other
 IsPathBelow links to from high (Some path) = IsFirstPath links from to path
 
 -- no path has fewer steps
 abbrev NoneBelow : Entries → Target → Target → ℕ → Type 0
-NoneBelow links to from low = (other : List Target) → LeadsAlong links from other to → low ≤ length other
+NoneBelow links to from low = (other : List Target) → LeadsAlong (targets_of links) from other to → low ≤ length other
 
 one_longer :
     (links : Entries) (to from : Target) (low : ℕ) → NoneBelow links to from low
-    → ((other : List Target) → LeadsAlong links from other to → length other ≡ low → ⊥)
+    → ((other : List Target) → LeadsAlong (targets_of links) from other to → length other ≡ low → ⊥)
     → NoneBelow links to from (suc low)
 one_longer links to from low none here other leads =
     let below = none other leads in
@@ -188,8 +189,8 @@ path_below links to from tries = path_from_is links to from 0 tries (λ other le
 some_chain :
     (links : Entries) (from : ℕ) (to : Target) (found : Option (List Target)) (path : List Target)
     → IsPathBelow links to (Definition from) (0 + (length path + 1)) found
-    → LeadsAlong links (Definition from) path to
-    → (first : List Target) × IsFirstShortest links from to first
+    → LeadsAlong (targets_of links) (Definition from) path to
+    → (first : List Target) × IsFirstShortest (targets_of links) (Definition from) to first
 some_chain links from to None path is leads = let low = is path leads in absurd (omega arith)
 some_chain links from to (Some first) path is leads = (Definition from ∷ first, chain_from_path links from to first is)
 
@@ -198,11 +199,11 @@ first_chains_exist links from to [] is = absurd is
 first_chains_exist links from to (first ∷ path) is =
     some_chain links from to (path_from links to (Definition from) 0 (length path + 1)) path
     (path_below links to (Definition from) (length path + 1))
-    (subst (λ t. LeadsAlong links t path to) is.0 is.1)
+    (subst (λ t. LeadsAlong (targets_of links) t path to) is.0 is.1)
 
 -- a path has no more steps than there are entries up to that of its first definition
 pub path_bounded :
-    (links : Entries) → NamesEarlier links → (to from : Target) (path : List Target) → LeadsAlong links from path to
+    (links : Entries) → NamesEarlier links → (to from : Target) (path : List Target) → LeadsAlong (targets_of links) from path to
     → length path ≤ rank from
 path_bounded links earlier to from [] leads = omega arith
 path_bounded links earlier to from (next ∷ path) leads =
@@ -214,21 +215,21 @@ pub chains_are_bounded : ChainsAreBounded
 chains_are_bounded links from to [] earlier is = absurd is
 chains_are_bounded links from to (first ∷ path) earlier is =
     let low : length path ≤ rank (Definition from) =
-    path_bounded links earlier to (Definition from) path (subst (λ t. LeadsAlong links t path to) is.0 is.1) in
+    path_bounded links earlier to (Definition from) path (subst (λ t. LeadsAlong (targets_of links) t path to) is.0 is.1) in
     omega arith
 
 no_chain :
     (links : Entries) (from : ℕ) (to : Target)
-    → ((path : List Target) → LeadsAlong links (Definition from) path to → ⊥)
-    → (chain : List Target) → IsChain links from to chain → ⊥
+    → ((path : List Target) → LeadsAlong (targets_of links) (Definition from) path to → ⊥)
+    → (chain : List Target) → IsChain (targets_of links) (Definition from) to chain → ⊥
 no_chain links from to none [] is = is
-no_chain links from to none (first ∷ path) is = none path (subst (λ t. LeadsAlong links t path to) is.0 is.1)
+no_chain links from to none (first ∷ path) is = none path (subst (λ t. LeadsAlong (targets_of links) t path to) is.0 is.1)
 
 -- The chain of the first shortest path, if there is a path.
 pub chain_found :
     (links : Entries) (from : ℕ) (to : Target) (high : ℕ) (found : Option (List Target))
     → NamesEarlier links → from + 1 < high → IsPathBelow links to (Definition from) high found
-    → MatchOption (option_map (λ path. Definition from ∷ path) found) ((chain : List Target) → IsChain links from to chain → ⊥) (λ chain. IsFirstShortest links from to chain)
+    → MatchOption (option_map (λ path. Definition from ∷ path) found) ((chain : List Target) → IsChain (targets_of links) (Definition from) to chain → ⊥) (λ chain. IsFirstShortest (targets_of links) (Definition from) to chain)
 chain_found links from to high None earlier low is =
     no_chain links from to
     (λ path leads.

@@ -3,7 +3,8 @@ use Rattle.std.proofs.Common.{◌≡◌, ◌⊎◌, zero, suc, ◌<◌, ◌≤�
 use Rattle.std.specs.List.{Contains}
 use Rattle.std.proofs.lemmas.List.Elements.{Contains-append_right, Contains-append_cases}
 use Rattle.cc_explain.proofs.Targets.{in_front, in_none}
-use Rattle.cc_explain.specs.Chains.{Entries, targets_of, LeadsAlong, StandsBefore, LeadsBefore}
+use Rattle.cc_explain.specs.Chains.{LeadsAlong, StandsBefore, LeadsBefore}
+use Rattle.cc_explain.specs.Entries.{Entries, targets_of}
 use Rattle.cc_explain.specs.Paths.{IsFirstPath}
 use Rattle.cc_explain.specs.declared.target.Target.{Target}
 
@@ -27,8 +28,8 @@ at_end links to =
       first = none_before;
     }
   where
-    none_before : (other : List Target) → LeadsAlong links to other to → length other ≡ length {A = Target} []
-        → LeadsBefore links to other []
+    none_before : (other : List Target) → LeadsAlong (targets_of links) to other to → length other ≡ length {A = Target} []
+        → LeadsBefore (targets_of links) to other []
         → ⊥
     none_before [] leads same before = before
     none_before (next ∷ other) leads same before = before
@@ -39,9 +40,9 @@ pub record IsNearest (links : Entries) (to from next : Target) (path : List Targ
   pub behind : List Target
   pub stands : targets_of links from ≡ front ++ next ∷ behind
   pub path_is : IsFirstPath links next to path
-  pub longer : (target : Target) → Contains front target → (other : List Target) → LeadsAlong links target other to
+  pub longer : (target : Target) → Contains front target → (other : List Target) → LeadsAlong (targets_of links) target other to
       → length path < length other
-  pub as_long : (target : Target) → Contains behind target → (other : List Target) → LeadsAlong links target other to
+  pub as_long : (target : Target) → Contains behind target → (other : List Target) → LeadsAlong (targets_of links) target other to
       → length path ≤ length other
 
 module _ (links : Entries) (to from next : Target) (path : List Target) (is : IsNearest links to from next path) where
@@ -52,26 +53,26 @@ module _ (links : Entries) (to from next : Target) (path : List Target) (is : Is
 
   no_shorter :
       (target : Target) → Contains (targets_of links from) target → (other : List Target)
-      → LeadsAlong links target other to → length path ≤ length other
+      → LeadsAlong (targets_of links) target other to → length path ≤ length other
   no_shorter target among other leads =
       elim (Contains-append_cases is.front (next ∷ is.behind) target (subst (λ entry. Contains entry target) is.stands among)) [
         | inl front ↦ let low = is.longer target front other leads in omega arith
         | inr rest ↦
             elim (head_or_tail next is.behind target rest) [
-              | inl same ↦ is.path_is.shortest other (subst (λ t. LeadsAlong links t other to) (sym same) leads)
+              | inl same ↦ is.path_is.shortest other (subst (λ t. LeadsAlong (targets_of links) t other to) (sym same) leads)
               | inr behind ↦ is.as_long target behind other leads
             ]
       ]
 
   each_as_long :
-      (from ≡ to → ⊥) → (other : List Target) → LeadsAlong links from other to → length (next ∷ path) ≤ length other
+      (from ≡ to → ⊥) → (other : List Target) → LeadsAlong (targets_of links) from other to → length (next ∷ path) ≤ length other
   each_as_long differ [] leads = absurd (differ leads)
   each_as_long differ (target ∷ other) (among, leads) =
       let low = no_shorter target among other leads in omega arith
 
   none_before :
-      (other : List Target) → LeadsAlong links from other to → length other ≡ length (next ∷ path)
-      → LeadsBefore links from other (next ∷ path)
+      (other : List Target) → LeadsAlong (targets_of links) from other to → length other ≡ length (next ∷ path)
+      → LeadsBefore (targets_of links) from other (next ∷ path)
       → ⊥
   none_before [] leads same before = before
   none_before (target ∷ other) (among, leads) same (inl stands) =
@@ -79,8 +80,8 @@ module _ (links : Entries) (to from next : Target) (path : List Target) (is : Is
       let low = is.longer target front other leads in
       omega arith
   none_before (target ∷ other) (among, leads) same (inr (is_next, before)) =
-      is.path_is.first other (subst (λ t. LeadsAlong links t other to) is_next leads) (omega arith)
-      (subst (λ t. LeadsBefore links t other path) is_next before)
+      is.path_is.first other (subst (λ t. LeadsAlong (targets_of links) t other to) is_next leads) (omega arith)
+      (subst (λ t. LeadsBefore (targets_of links) t other path) is_next before)
 
   pub path_through : (from ≡ to → ⊥) → IsFirstPath links from to (next ∷ path)
   path_through differ =
@@ -103,7 +104,7 @@ path_behind links to from next path is =
 -- no path leads on from a target without targets, but to itself
 pub no_path :
     (links : Entries) (to from : Target) → targets_of links from ≡ [] → (from ≡ to → ⊥)
-    → (path : List Target) → LeadsAlong links from path to
+    → (path : List Target) → LeadsAlong (targets_of links) from path to
     → ⊥
 no_path links to from none differ [] leads = differ leads
 no_path links to from none differ (next ∷ path) (among, leads) =

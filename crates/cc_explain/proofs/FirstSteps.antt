@@ -9,7 +9,8 @@ use Rattle.std.proofs.Math.ListN.{get_or-append}
 use Rattle.std.proofs.Math.Seq.{get_or-append_seam}
 use Rattle.cc_explain.proofs.FirstPaths.{at_end, in_head, in_tail, head_or_tail, IsNearest, path_through, no_path}
 use Rattle.cc_explain.proofs.Targets.{in_none, rank_falls, same_target-true, same_target-false}
-use Rattle.cc_explain.specs.Chains.{Entries, targets_of, LeadsAlong}
+use Rattle.cc_explain.specs.Chains.{LeadsAlong}
+use Rattle.cc_explain.specs.Entries.{Entries, targets_of}
 use Rattle.cc_explain.specs.Paths.{IsFirstPath}
 use Rattle.cc_explain.specs.Steps.{known_length, length_from, next_of, nearer, nearest_from, StepsAlong, IsFirstStep, AreFirstSteps}
 use Rattle.cc_explain.specs.Targets.{IsElement, same_target, rank}
@@ -149,7 +150,7 @@ module _ (lengths : Target → Option ℕ) where
 
 -- how many steps lead on from a target, if any do
 abbrev pub IsLengthFrom : Entries → Target → Target → Option ℕ → Type 0
-IsLengthFrom links to target None = (path : List Target) → LeadsAlong links target path to → ⊥
+IsLengthFrom links to target None = (path : List Target) → LeadsAlong (targets_of links) target path to → ⊥
 IsLengthFrom links to target (Some number) =
     (path : List Target) × IsFirstPath links target to path × (number ≡ length path) × (number ≤ rank target)
 
@@ -195,7 +196,7 @@ no_definition number to is same = subst IsElement (sym same) is
 no_shorter :
     (links : Entries) (to target : Target) (low : ℕ) (found : Option ℕ) → IsLengthFrom links to target found
     → ((n : ℕ) → found ≡ Some n → low ≤ n)
-    → (other : List Target) → LeadsAlong links target other to → low ≤ length other
+    → (other : List Target) → LeadsAlong (targets_of links) target other to → low ≤ length other
 no_shorter links to target low None none far other leads = absurd (none other leads)
 no_shorter links to target low (Some n) (path, is, n_is, within) far other leads =
     let here = far n refl in
@@ -209,7 +210,7 @@ module _ (links : Entries) (to : Target) (number : ℕ) (lengths : Target → Op
     → named < number) where
   nowhere :
       ((target : Target) → Contains (targets_of links (Definition number)) target → lengths target ≡ None)
-      → (path : List Target) → LeadsAlong links (Definition number) path to → ⊥
+      → (path : List Target) → LeadsAlong (targets_of links) (Definition number) path to → ⊥
   nowhere none [] leads = differ leads
   nowhere none (next ∷ path) (among, leads) =
       subst (IsLengthFrom links to next) (none next among) (are next among) path leads
@@ -347,7 +348,7 @@ no_end next h = cc
 -- where there is no first step nothing leads on to an element
 end_of :
     (links : Entries) (to from : Target) (first : Option Step) (path : List Target) → IsFirstStep links from to first
-    → option_map (λ step. step.next) first ≡ None → LeadsAlong links from path to
+    → option_map (λ step. step.next) first ≡ None → LeadsAlong (targets_of links) from path to
     → ⊥
 end_of links to from None path is h leads = is path leads
 end_of links to from (Some step) path is h leads = no_end step.next h
@@ -355,7 +356,7 @@ end_of links to from (Some step) path is h leads = no_end step.next h
 pub no_next :
     (links : Entries) (to : Target) (steps : List (Option Step)) → AreFirstSteps links to steps
     → (from : Target) → rank from ≤ length steps → next_of steps from ≡ None
-    → (path : List Target) → LeadsAlong links from path to → path ≡ []
+    → (path : List Target) → LeadsAlong (targets_of links) from path to → path ≡ []
 no_next links to steps are (Definition number) low none path leads =
     absurd (end_of links to (Definition number) (slice_index_or steps number None) path (are number (omega arith)) none leads)
 no_next links to steps are (Device number) low none [] leads = refl

@@ -1,7 +1,8 @@
 -- The order of paths of one length: of two that differ one comes before the other. So there is one first shortest chain.
 use Rattle.std.proofs.Common.{◌≡◌, ◌⊎◌, ℕ, suc, ◌≤◌, List, [], ◌∷◌, length, inl, inr, refl, sym, ap, subst, ◌∙◌, arith}
 use Rattle.cc_explain.proofs.Targets.{compared}
-use Rattle.cc_explain.specs.Chains.{Entries, targets_of, LeadsAlong, LeadsBefore, IsChain, ComesBefore, IsFirstShortest}
+use Rattle.cc_explain.specs.Chains.{LeadsAlong, LeadsBefore, IsChain, ComesBefore, IsFirstShortest}
+use Rattle.cc_explain.specs.Entries.{Entries, targets_of}
 use Rattle.cc_explain.specs.Laws.{FirstChainsAreUnique}
 use Rattle.cc_explain.specs.Paths.{IsFirstPath}
 use Rattle.cc_explain.specs.declared.target.Target.{Target}
@@ -10,7 +11,7 @@ use Rattle.cc_explain.specs.declared.target.Target.TheVariants.{Definition}
 -- two lists in order, one way or the other, or one list
 abbrev pub InSomeOrder : Entries → Target → List Target → List Target → Type 0
 InSomeOrder links from left right =
-    (left ≡ right) ⊎ (LeadsBefore links from left right ⊎ LeadsBefore links from right left)
+    (left ≡ right) ⊎ (LeadsBefore (targets_of links) from left right ⊎ LeadsBefore (targets_of links) from right left)
 
 behind_one :
     (links : Entries) (from next other : Target) (left right : List Target)
@@ -18,11 +19,11 @@ behind_one :
 behind_one links from next other left right same (inl is) = inl (λ i. same i ∷ is i)
 behind_one links from next other left right same (inr (inl before)) = inr (inl (inr (same, before)))
 behind_one links from next other left right same (inr (inr before)) =
-    inr (inr (inr (sym same, subst (λ t. LeadsBefore links t right left) same before)))
+    inr (inr (inr (sym same, subst (λ t. LeadsBefore (targets_of links) t right left) same before)))
 
 pub some_order :
     (links : Entries) (to from : Target) (left right : List Target)
-    → LeadsAlong links from left to → LeadsAlong links from right to → length left ≡ length right
+    → LeadsAlong (targets_of links) from left to → LeadsAlong (targets_of links) from right to → length left ≡ length right
     → InSomeOrder links from left right
 some_order links to from [] [] l r same = inl refl
 some_order links to from [] (other ∷ right) l r same = absurd (omega arith)
@@ -31,7 +32,7 @@ some_order links to from (next ∷ left) (other ∷ right) l r same =
     elim (compared (targets_of links from) next other l.0 r.0) [
       | inl is ↦
           behind_one links from next other left right is
-          (some_order links to next left right l.1 (subst (λ t. LeadsAlong links t right to) (sym is) r.1) (omega arith))
+          (some_order links to next left right l.1 (subst (λ t. LeadsAlong (targets_of links) t right to) (sym is) r.1) (omega arith))
       | inr (inl before) ↦ inr (inl (inl before))
       | inr (inr before) ↦ inr (inr (inl before))
     ]
@@ -53,29 +54,29 @@ one_path links to from path other p q =
 -- a first shortest path makes a first shortest chain
 others_length :
     (links : Entries) (from : ℕ) (to : Target) (path : List Target)
-    → ((other : List Target) → LeadsAlong links (Definition from) other to → length path ≤ length other)
-    → (chain : List Target) → IsChain links from to chain → length (Definition from ∷ path) ≤ length chain
+    → ((other : List Target) → LeadsAlong (targets_of links) (Definition from) other to → length path ≤ length other)
+    → (chain : List Target) → IsChain (targets_of links) (Definition from) to chain → length (Definition from ∷ path) ≤ length chain
 others_length links from to path shortest [] is = absurd is
 others_length links from to path shortest (first ∷ others) (same, leads) =
-    let low = shortest others (subst (λ t. LeadsAlong links t others to) same leads) in
+    let low = shortest others (subst (λ t. LeadsAlong (targets_of links) t others to) same leads) in
     omega arith
 
 others_order :
     (links : Entries) (from : ℕ) (to : Target) (path : List Target)
-    → ((other : List Target) → LeadsAlong links (Definition from) other to → length other ≡ length path
-    → LeadsBefore links (Definition from) other path
+    → ((other : List Target) → LeadsAlong (targets_of links) (Definition from) other to → length other ≡ length path
+    → LeadsBefore (targets_of links) (Definition from) other path
     → ⊥)
-    → (chain : List Target) → IsChain links from to chain → length chain ≡ length (Definition from ∷ path)
-    → ComesBefore links chain (Definition from ∷ path)
+    → (chain : List Target) → IsChain (targets_of links) (Definition from) to chain → length chain ≡ length (Definition from ∷ path)
+    → ComesBefore (targets_of links) chain (Definition from ∷ path)
     → ⊥
 others_order links from to path first [] is same before = before
 others_order links from to path first (other ∷ others) (begins, leads) same (is, before) =
-    first others (subst (λ t. LeadsAlong links t others to) begins leads) (omega arith)
-    (subst (λ t. LeadsBefore links t others path) begins before)
+    first others (subst (λ t. LeadsAlong (targets_of links) t others to) begins leads) (omega arith)
+    (subst (λ t. LeadsBefore (targets_of links) t others path) begins before)
 
 pub chain_from_path :
     (links : Entries) (from : ℕ) (to : Target) (path : List Target) → IsFirstPath links (Definition from) to path
-    → IsFirstShortest links from to (Definition from ∷ path)
+    → IsFirstShortest (targets_of links) (Definition from) to (Definition from ∷ path)
 chain_from_path links from to path is =
     record {
       leads = (refl, is.leads);
@@ -84,13 +85,13 @@ chain_from_path links from to path is =
     }
 
 path_shape :
-    (links : Entries) (from : ℕ) (to : Target) (chain : List Target) → IsFirstShortest links from to chain
+    (links : Entries) (from : ℕ) (to : Target) (chain : List Target) → IsFirstShortest (targets_of links) (Definition from) to chain
     → (path : List Target) × (chain ≡ Definition from ∷ path) × IsFirstPath links (Definition from) to path
 path_shape links from to [] is = absurd is.leads
 path_shape links from to (first ∷ path) is =
     let same : first ≡ Definition from = is.leads.0 in
-    let it : IsFirstShortest links from to (Definition from ∷ path) =
-    subst (λ t. IsFirstShortest links from to (t ∷ path)) same is in (
+    let it : IsFirstShortest (targets_of links) (Definition from) to (Definition from ∷ path) =
+    subst (λ t. IsFirstShortest (targets_of links) (Definition from) to (t ∷ path)) same is in (
       path,
       ap (λ t. t ∷ path) same,
       record {

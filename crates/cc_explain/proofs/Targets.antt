@@ -4,7 +4,8 @@ use Rattle.std.specs.List.{Contains}
 use Rattle.std.proofs.lemmas.Bool.{cases_Bool, cases_lt, eq-eqb, eqb-true}
 use Rattle.std.proofs.lemmas.List.{get_or-map, length-map}
 use Rattle.std.proofs.lemmas.Option.{slice_get-get_or, slice_get_within, get_or_from_slice_get}
-use Rattle.cc_explain.specs.Chains.{Entries, targets_of, NamesEarlier, IsPlace, StandsBefore}
+use Rattle.cc_explain.specs.Chains.{IsPlace, StandsBefore}
+use Rattle.cc_explain.specs.Entries.{Entries, targets_of, NamesEarlier}
 use Rattle.cc_explain.specs.Targets.{same_target, rank}
 use Rattle.cc_explain.specs.declared.target.Target.{Target}
 use Rattle.cc_explain.specs.declared.target.Target.TheVariants.{Definition, Device, Cap}

@@ -4,7 +4,8 @@ use Rattle.std.proofs.lemmas.List.{append-nil}
 use Rattle.cc_explain.proofs.FirstPaths.{path_behind}
 use Rattle.cc_explain.proofs.FirstSteps.{goes_on, no_next}
 use Rattle.cc_explain.proofs.Orders.{chain_from_path, one_path}
-use Rattle.cc_explain.specs.Chains.{Entries, LeadsAlong, IsChain, IsFirstShortest}
+use Rattle.cc_explain.specs.Chains.{LeadsAlong, IsChain, IsFirstShortest}
+use Rattle.cc_explain.specs.Entries.{Entries, targets_of}
 use Rattle.cc_explain.specs.Paths.{IsFirstPath}
 use Rattle.cc_explain.specs.Steps.{next_of, AreFirstSteps}
 use Rattle.cc_explain.specs.Targets.{IsElement, rank}
@@ -17,7 +18,7 @@ pub record StandsAt (links : Entries) (from : ℕ) (to : Target) (count : ℕ) (
   pub within : rank at ≤ count
   pub rest : List Target
   pub path : IsFirstPath links at to rest
-  pub whole : IsFirstShortest links from to (written ++ rest)
+  pub whole : IsFirstShortest (targets_of links) (Definition from) to (written ++ rest)
 
 pub begins :
     (links : Entries) (from : ℕ) (to : Target) (steps : List (Option Step)) (next : Target)
@@ -48,30 +49,30 @@ walks links from to steps at next written are stands is =
       within = omega arith;
       rest = on.rest;
       path = path_behind links to at next on.rest on.path;
-      whole = subst (IsFirstShortest links from to)
+      whole = subst (IsFirstShortest (targets_of links) (Definition from) to)
           (ap (λ rest. written ++ rest) same ∙ sym (append_assoc written (next ∷ []) on.rest)) stands.whole;
     }
 
 pub ends :
     (links : Entries) (from : ℕ) (to : Target) (steps : List (Option Step)) (at : Target) (written : List Target)
     → AreFirstSteps links to steps → StandsAt links from to (length steps) at written → next_of steps at ≡ None
-    → IsFirstShortest links from to written
+    → IsFirstShortest (targets_of links) (Definition from) to written
 ends links from to steps at written are stands none =
     let nothing : stands.rest ≡ [] = no_next links to steps are at stands.within none stands.rest stands.path.leads in
-    subst (IsFirstShortest links from to) (ap (λ rest. written ++ rest) nothing ∙ append-nil written) stands.whole
+    subst (IsFirstShortest (targets_of links) (Definition from) to) (ap (λ rest. written ++ rest) nothing ∙ append-nil written) stands.whole
 
 no_definition_left :
     (links : Entries) (from : ℕ) (to : Target) (path : List Target) → IsElement to
-    → LeadsAlong links (Definition from) path to → path ≡ [] → ⊥
+    → LeadsAlong (targets_of links) (Definition from) path to → path ≡ [] → ⊥
 no_definition_left links from to [] element leads is = subst IsElement (sym leads) element
 no_definition_left links from to (next ∷ path) element leads is = cc
 
 pub no_chains :
     (links : Entries) (from : ℕ) (to : Target) (steps : List (Option Step))
     → length steps ≡ from + 1 → IsElement to → AreFirstSteps links to steps → next_of steps (Definition from) ≡ None
-    → (chain : List Target) → IsChain links from to chain → ⊥
+    → (chain : List Target) → IsChain (targets_of links) (Definition from) to chain → ⊥
 no_chains links from to steps count element are none [] is = is
 no_chains links from to steps count element are none (first ∷ path) is =
-    let leads : LeadsAlong links (Definition from) path to = subst (λ t. LeadsAlong links t path to) is.0 is.1 in
+    let leads : LeadsAlong (targets_of links) (Definition from) path to = subst (λ t. LeadsAlong (targets_of links) t path to) is.0 is.1 in
     no_definition_left links from to path element leads
     (no_next links to steps are (Definition from) (omega arith) none path leads)

@@ -6,7 +6,8 @@ use Rattle.cc_explain.proofs.Computed.{IsPathBelow, path_below, path_bounded}
 use Rattle.cc_explain.proofs.FirstPaths.{head_or_tail}
 use Rattle.cc_explain.proofs.Orders.{chain_from_path}
 use Rattle.cc_explain.proofs.Targets.{in_none}
-use Rattle.cc_explain.specs.Chains.{Entries, NamesEarlier, LeadsAlong, IsChain, IsFirstShortest}
+use Rattle.cc_explain.specs.Chains.{LeadsAlong, IsChain, IsFirstShortest}
+use Rattle.cc_explain.specs.Entries.{Entries, NamesEarlier, targets_of}
 use Rattle.cc_explain.specs.Examples as example
 use Rattle.cc_explain.specs.Paths.{path_of, path_from}
 use Rattle.cc_explain.specs.Targets.{rank}
@@ -16,7 +17,7 @@ use Rattle.cc_explain.specs.declared.target.Target.TheVariants.{Definition, Devi
 -- a chain that is computed
 found :
     (links : Entries) (from : ℕ) (to : Target) (path : List Target)
-    → path_from links to (Definition from) 0 9 ≡ Some path → IsFirstShortest links from to (Definition from ∷ path)
+    → path_from links to (Definition from) 0 9 ≡ Some path → IsFirstShortest (targets_of links) (Definition from) to (Definition from ∷ path)
 found links from to path is =
     chain_from_path links from to path
     (subst (IsPathBelow links to (Definition from) (0 + 9)) is (path_below links to (Definition from) 9))
@@ -65,10 +66,10 @@ entries_below-true number (entry ∷ others) holds (suc k) named among =
 none_found :
     (links : Entries) (from : ℕ) (to : Target) → entries_below 0 links ≡ true → from < 8
     → path_from links to (Definition from) 0 9 ≡ None
-    → (chain : List Target) → IsChain links from to chain → ⊥
+    → (chain : List Target) → IsChain (targets_of links) (Definition from) to chain → ⊥
 none_found links from to earlier few none [] is = is
 none_found links from to earlier few none (first ∷ path) is =
-    let leads : LeadsAlong links (Definition from) path to = subst (λ t. LeadsAlong links t path to) is.0 is.1 in
+    let leads : LeadsAlong (targets_of links) (Definition from) path to = subst (λ t. LeadsAlong (targets_of links) t path to) is.0 is.1 in
     let names : NamesEarlier links = λ number named among.
     let low = entries_below-true 0 links earlier number named among in omega arith in
     let near : length path ≤ rank (Definition from) = path_bounded links names to (Definition from) path leads in

@@ -1,6 +1,7 @@
 -- Worked chains.
 use Rattle.std.specs.Prelude.{List, [], ◌∷◌}
-use Rattle.cc_explain.specs.Chains.{Entries, IsChain, IsFirstShortest}
+use Rattle.cc_explain.specs.Chains.{IsChain, IsFirstShortest}
+use Rattle.cc_explain.specs.Entries.{Entries, targets_of}
 use Rattle.cc_explain.specs.declared.target.Target.{Target}
 use Rattle.cc_explain.specs.declared.target.Target.TheVariants.{Definition, Device, Cap}
 
@@ -17,16 +18,16 @@ two_devices = (out ∷ []) ∷ (hits ∷ []) ∷ (Definition 0 ∷ Definition 1 
 
 abbrev pub ThroughTheOneThatHasIt : Type 0
 ThroughTheOneThatHasIt =
-    IsFirstShortest two_devices 2 out (Definition 2 ∷ Definition 0 ∷ out ∷ [])
-    × IsFirstShortest two_devices 2 hits (Definition 2 ∷ Definition 1 ∷ hits ∷ [])
-    × IsFirstShortest two_devices 0 out (Definition 0 ∷ out ∷ [])
+    IsFirstShortest (targets_of two_devices) (Definition 2) out (Definition 2 ∷ Definition 0 ∷ out ∷ [])
+    × IsFirstShortest (targets_of two_devices) (Definition 2) hits (Definition 2 ∷ Definition 1 ∷ hits ∷ [])
+    × IsFirstShortest (targets_of two_devices) (Definition 0) out (Definition 0 ∷ out ∷ [])
 
 -- one through another, each named by the next
 abbrev pub in_turn : Entries
 in_turn = (out ∷ []) ∷ (Definition 0 ∷ []) ∷ (Definition 1 ∷ []) ∷ (Definition 2 ∷ []) ∷ []
 
 abbrev pub InTurn : Type 0
-InTurn = IsFirstShortest in_turn 3 out (Definition 3 ∷ Definition 2 ∷ Definition 1 ∷ Definition 0 ∷ out ∷ [])
+InTurn = IsFirstShortest (targets_of in_turn) (Definition 3) out (Definition 3 ∷ Definition 2 ∷ Definition 1 ∷ Definition 0 ∷ out ∷ [])
 
 -- What is named first may lead a longer way. A device of its own entry is nearest.
 abbrev pub longer_first : Entries
@@ -35,8 +36,8 @@ longer_first =
 
 abbrev pub LeastLength : Type 0
 LeastLength =
-    IsFirstShortest longer_first 2 out (Definition 2 ∷ Definition 0 ∷ out ∷ [])
-    × IsFirstShortest longer_first 3 out (Definition 3 ∷ out ∷ [])
+    IsFirstShortest (targets_of longer_first) (Definition 2) out (Definition 2 ∷ Definition 0 ∷ out ∷ [])
+    × IsFirstShortest (targets_of longer_first) (Definition 3) out (Definition 3 ∷ out ∷ [])
 
 -- Of ways as long the one whose target stands first in the entry is taken, whichever its number; a second place of a
 -- target counts for nothing.
@@ -52,10 +53,10 @@ as_long =
 
 abbrev pub FirstOfAsLong : Type 0
 FirstOfAsLong =
-    IsFirstShortest as_long 2 out (Definition 2 ∷ Definition 1 ∷ out ∷ [])
-    × IsFirstShortest as_long 3 out (Definition 3 ∷ Definition 0 ∷ out ∷ [])
-    × IsFirstShortest as_long 4 out (Definition 4 ∷ Definition 3 ∷ Definition 0 ∷ out ∷ [])
-    × IsFirstShortest as_long 5 out (Definition 5 ∷ Definition 2 ∷ Definition 1 ∷ out ∷ [])
+    IsFirstShortest (targets_of as_long) (Definition 2) out (Definition 2 ∷ Definition 1 ∷ out ∷ [])
+    × IsFirstShortest (targets_of as_long) (Definition 3) out (Definition 3 ∷ Definition 0 ∷ out ∷ [])
+    × IsFirstShortest (targets_of as_long) (Definition 4) out (Definition 4 ∷ Definition 3 ∷ Definition 0 ∷ out ∷ [])
+    × IsFirstShortest (targets_of as_long) (Definition 5) out (Definition 5 ∷ Definition 2 ∷ Definition 1 ∷ out ∷ [])
 
 -- the universal capability, and a device that is not reached
 abbrev pub universal : Entries
@@ -63,11 +64,11 @@ universal = (Cap ∷ []) ∷ (out ∷ Definition 0 ∷ []) ∷ [] ∷ (Definitio
 
 abbrev pub UniversalCapability : Type 0
 UniversalCapability =
-    IsFirstShortest universal 1 Cap (Definition 1 ∷ Definition 0 ∷ Cap ∷ [])
-    × IsFirstShortest universal 1 out (Definition 1 ∷ out ∷ [])
+    IsFirstShortest (targets_of universal) (Definition 1) Cap (Definition 1 ∷ Definition 0 ∷ Cap ∷ [])
+    × IsFirstShortest (targets_of universal) (Definition 1) out (Definition 1 ∷ out ∷ [])
 
 abbrev pub NoChain : Type 0
 NoChain =
-    ((chain : List Target) → IsChain universal 0 out chain → ⊥)
-    × ((chain : List Target) → IsChain universal 1 hits chain → ⊥)
-    × ((chain : List Target) → IsChain universal 3 Cap chain → ⊥)
+    ((chain : List Target) → IsChain (targets_of universal) (Definition 0) out chain → ⊥)
+    × ((chain : List Target) → IsChain (targets_of universal) (Definition 1) hits chain → ⊥)
+    × ((chain : List Target) → IsChain (targets_of universal) (Definition 3) Cap chain → ⊥)

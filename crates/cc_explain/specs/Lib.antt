@@ -1,5 +1,6 @@
 pub mod Targets
 pub mod Chains
+pub mod Entries
 pub mod Paths
 pub mod Steps
 pub mod Laws

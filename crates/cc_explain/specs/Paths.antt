@@ -1,16 +1,17 @@
 -- Paths of links: what leads on from a target to another. The first of the shortest ones, and how it is computed.
 use Rattle.std.specs.Prelude.{◌≡◌, ℕ, zero, suc, ◌+◌, ◌≤◌, if◌then◌else◌, List, [], ◌∷◌, length, Option, Some, None, option_map}
-use Rattle.cc_explain.specs.Chains.{Entries, targets_of, LeadsAlong, LeadsBefore}
+use Rattle.cc_explain.specs.Chains.{LeadsAlong, LeadsBefore}
+use Rattle.cc_explain.specs.Entries.{Entries, targets_of}
 use Rattle.cc_explain.specs.Targets.{same_target}
 use Rattle.cc_explain.specs.declared.target.Target.{Target}
 use Rattle.cc_explain.specs.declared.target.Target.TheVariants.{Definition}
 
 -- The first of the shortest paths from a target to another.
 pub record IsFirstPath (links : Entries) (from to : Target) (path : List Target) : Type 0 where
-  pub leads : LeadsAlong links from path to
-  pub shortest : (other : List Target) → LeadsAlong links from other to → length path ≤ length other
-  pub first : (other : List Target) → LeadsAlong links from other to → length other ≡ length path
-      → LeadsBefore links from other path
+  pub leads : LeadsAlong (targets_of links) from path to
+  pub shortest : (other : List Target) → LeadsAlong (targets_of links) from other to → length path ≤ length other
+  pub first : (other : List Target) → LeadsAlong (targets_of links) from other to → length other ≡ length path
+      → LeadsBefore (targets_of links) from other path
       → ⊥
 
 -- a path through the next target, where one leads on from there, and else another

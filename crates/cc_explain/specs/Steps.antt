@@ -1,7 +1,8 @@
 -- The first steps of the shortest paths, as the code finds them: from each definition in turn.
 use Rattle.std.specs.Prelude.{◌≡◌, ℕ, ◌+◌, ◌<◌, ◌≤◌, nat_le, if◌then◌else◌, List, [], ◌∷◌, length, slice_index_or}
 use Rattle.std.specs.Prelude.{Option, Some, None, option_map}
-use Rattle.cc_explain.specs.Chains.{Entries, LeadsAlong}
+use Rattle.cc_explain.specs.Chains.{LeadsAlong}
+use Rattle.cc_explain.specs.Entries.{Entries, targets_of}
 use Rattle.cc_explain.specs.Paths.{IsFirstPath}
 use Rattle.cc_explain.specs.Targets.{rank, same_target}
 use Rattle.cc_explain.specs.declared.step.Step.{Step}
@@ -50,7 +51,7 @@ pub record StepsAlong (links : Entries) (from to : Target) (step : Step) : Type 
 
 -- The first step from a target; there is none where no path leads to the other target.
 abbrev pub IsFirstStep : Entries → Target → Target → Option Step → Type 0
-IsFirstStep links from to None = (path : List Target) → LeadsAlong links from path to → ⊥
+IsFirstStep links from to None = (path : List Target) → LeadsAlong (targets_of links) from path to → ⊥
 IsFirstStep links from to (Some step) = StepsAlong links from to step
 
 -- each definition has its first step

@@ -4,6 +4,7 @@ ghost use Rattle.std.specs.Prelude.{◌≡◌, ◌<◌, List, length, IfOk, Matc
 ghost use Rattle.cc_explain.specs.declared.target.Target.{Target as AnyTarget};
 ghost use Rattle.cc_explain.specs.Targets.{IsElement};
 ghost use Rattle.cc_explain.specs.Chains.{IsChain, IsFirstShortest};
+ghost use Rattle.cc_explain.specs.Entries.{targets_of};
 
 use crate::links::Links;
 use crate::steps::{first_steps, next_of};
@@ -22,7 +23,7 @@ pub fn chain(
 ) -> Result<Option<Vec<Target>>, AllocError>
     requires from { from < length links.now }
     requires to { IsElement to }
-    ensures { IfOk result (λ answer. MatchOption answer ((chain : List AnyTarget) → IsChain links.now from to chain → ⊥) (λ found. IsFirstShortest links.now from to found.items)) }
+    ensures { IfOk result (λ answer. MatchOption answer ((chain : List AnyTarget) → IsChain (targets_of links.now) (Target.Definition from) to chain → ⊥) (λ found. IsFirstShortest (targets_of links.now) (Target.Definition from) to found.items)) }
 {
     let steps = first_steps(alloc, links, from, to)?;
     let mut target = Target::Definition(from);

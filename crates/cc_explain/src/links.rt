@@ -2,7 +2,7 @@
 
 ghost use Rattle.std.specs.Prelude.{◌≡◌, ℕ, ◌<◌, length, map};
 ghost use Rattle.std.specs.List.{Contains};
-ghost use Rattle.cc_explain.specs.Chains.{targets_of, NamesEarlier};
+ghost use Rattle.cc_explain.specs.Entries.{targets_of, NamesEarlier};
 
 use crate::target::Target;
 use std::marker::Model;
@@ -17,7 +17,7 @@ pub struct Links {
 impl Model for Links {
     ghost use Rattle.std.specs.Prelude.{List, map};
     ghost use Rattle.cc_explain.specs.declared.target.Target.{Target as AnyTarget};
-    ghost use Rattle.cc_explain.specs.Chains.{NamesEarlier};
+    ghost use Rattle.cc_explain.specs.Entries.{NamesEarlier};
 
     ghost Value = { List (List AnyTarget) };
 
