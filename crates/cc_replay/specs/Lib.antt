@@ -1,2 +1,4 @@
+pub mod AnsweredRuns
 pub mod Examples
+pub mod ReplayLaws
 pub mod Replays

@@ -2,6 +2,7 @@
 #![tactic(auto)]
 
 pub mod examples;
+pub mod laws;
 pub mod replaying;
 
 pub use replaying::Replayed;
