@@ -2,6 +2,7 @@ pub mod AgreeingReplays
 pub mod AlikeReplays
 pub mod AnswersInLines
 pub mod Comparisons
+pub mod LineByLine
 pub mod QuestionsTaken
 pub mod ReplayedRuns
 pub mod SafeTraces

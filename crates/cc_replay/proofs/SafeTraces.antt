@@ -1,5 +1,6 @@
 -- Runs from sound configurations are safe, whatever their devices are answered.
 use Rattle.std.proofs.Common.{◌≡◌, ◌≢◌, ℕ, List, [], ◌∷◌, map, length, Option, Some, None, inl, inr, ◌⊎◌, refl, sym, ap, ◌∙◌, subst, true}
+use Rattle.std.proofs.Math.Logic.{∥∥₁_elim}
 use Rattle.std.specs.Prelude.{pos, IsTrue}
 use Rattle.std.specs.List.{list_all}
 use Rattle.cc_base.specs.declared.literal.Base.{Base}
@@ -30,8 +31,9 @@ use Rattle.cc_meta_runs.proofs.ShownAnswers.{shown_from}
 use Rattle.cc_meta_runs.proofs.StepTheorem.{steps_are_sound}
 use Rattle.cc_replay.specs.AnsweredRuns.{GoesTo, by_itself, by_answer, GoesOnTo, AnsweredRun, ending_after}
 use Rattle.cc_replay.specs.AnsweredRuns as answered
-use Rattle.cc_replay.specs.ReplayLaws.{IsSafeFrom, AgreeingTracesAreSafe, AgreeingTracesKeepTheAuthority}
-use Rattle.cc_replay.specs.Replays.{ending_in}
+use Rattle.cc_replay.specs.ReplayLaws.{IsSafeFrom, IsSafelyTraced, AgreeingTracesAreSafe, AgreeingTracesKeepTheAuthority}
+use Rattle.cc_replay.specs.Replays.{ending_in, replay}
+use Rattle.cc_replay.specs.declared.replaying.Replayed.TheVariants.{Agrees}
 use Rattle.cc_replay.proofs.AgreeingReplays.{agreeing_lines_are_traces}
 use Rattle.cc_words.proofs.Steps.{both}
 
@@ -160,3 +162,8 @@ agreeing_traces_keep_the_authority entry is names fuel lines agrees =
       (scopes_of found.0.last.stack, safe.scopes),
       safe.not_stopped,
     )
+
+-- the same, where it is only known that the start is sound
+pub safely_traced : (names : List (List ℕ)) (fuel : ℕ) (start : Configuration) (lines : List (List ℕ)) → ∥ IsSound start ∥₁ → replay names fuel start lines ≡ Agrees
+    → IsSafelyTraced names fuel start lines
+safely_traced names fuel start lines sound agrees = ∥∥₁_elim sound (hlevel) (λ s. ∣ agreeing_traces_are_safe names fuel start lines s agrees ∣₁)

@@ -37,12 +37,20 @@ pub record IsSafeFrom (start : Configuration) {fuel : ℕ} (it : AnsweredRun fue
       → SetReaches start.store (captured_set start) (DeviceCell device (base_operated operation))
   pub scopes : FollowsAll (scopes_of start.stack) it.events (scopes_of it.last.stack)
 
--- So it is with each run whose trace a replay agrees with.
+-- the lines are the trace of such a run
+abbrev pub IsSafeTrace : List (List ℕ) → ℕ → Configuration → List (List ℕ) → Type 0
+IsSafeTrace names fuel start lines =
+    (it : AnsweredRun fuel start) × (lines ≡ trace_of names it) × IsSafeFrom start it
+
+-- that they are one, without saying which run it is
+abbrev pub IsSafelyTraced : List (List ℕ) → ℕ → Configuration → List (List ℕ) → Type 0
+IsSafelyTraced names fuel start lines = ∥ IsSafeTrace names fuel start lines ∥₁
+
+-- So it is with the lines that a replay from a sound configuration agrees with.
 abbrev pub AgreeingTracesAreSafe : Type 0
 AgreeingTracesAreSafe =
     (names : List (List ℕ)) (fuel : ℕ) (start : Configuration) (lines : List (List ℕ)) → IsSound start
-    → replay names fuel start lines ≡ Agrees
-    → (it : AnsweredRun fuel start) × (lines ≡ trace_of names it) × IsSafeFrom start it
+    → replay names fuel start lines ≡ Agrees → IsSafeTrace names fuel start lines
 
 -- Where a replay of an entry's program agrees, the trace is that of a run that operates devices of the entry's
 -- authority alone, whose events are well scoped, and that does not stop before its end.

@@ -5,4 +5,4 @@ pub mod examples;
 pub mod laws;
 pub mod replaying;
 
-pub use replaying::Replayed;
+pub use replaying::{Replayed, replay};
