@@ -7,3 +7,4 @@ pub mod Dependencies
 pub mod Plans
 pub mod Found
 pub mod Carrying
+pub mod SyntaxCodes

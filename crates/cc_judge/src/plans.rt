@@ -21,7 +21,6 @@ use cc_base::name::Name;
 use cc_base::steps::Steps;
 use cc_module::finding::Finding;
 use cc_module::judgement::ModuleVerdict;
-use cc_module::judging::check_module;
 use std::alloc::{AllocError, Global};
 use std::sync::ledger::Ledger;
 
@@ -81,7 +80,7 @@ fn judge<L: Ledger>(
     ensures tick { steps.new ≡ steps.old + 1 }
     ensures plan { IfOk result (λ plan. (last : List Judgement) → IsPlanFor devices.now last name.now text.now (map finding_of findings.items) plan) }
 {
-    let verdict = check_module(alloc, text.as_bytes(), devices, findings.as_slice(), steps)?;
+    let verdict = text.check(alloc, devices, findings.as_slice(), steps)?;
     let key = name.clone()?;
     let text = text.share()?;
     Ok(Plan::Judge(

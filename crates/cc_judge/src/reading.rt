@@ -1,23 +1,84 @@
-//! Texts that were read: each is kept with what it imports, so that it is not read again.
+//! Texts that were read: each is kept with what it imports, and until it is judged with its tree, so that it is not read
+//! again.
 
-ghost use Rattle.std.specs.Prelude.{◌≡◌, IfOk, option_map};
+ghost use Rattle.std.specs.Prelude.{◌≡◌, ◌+◌, map, IfOk, option_map};
+ghost use Rattle.std.specs.Coded.{codes};
 ghost use Rattle.std.specs.Str.{bytes_eq};
-ghost use Rattle.cc_meta_modules.specs.Readings.{imports_of};
+ghost use Rattle.cc_base.specs.contracts.code.Code as code;
+ghost use Rattle.cc_base.specs.contracts.literal.Base as base;
+ghost use Rattle.cc_base.specs.contracts.literal.Op as operation;
+ghost use Rattle.cc_base.specs.contracts.literal.Operator as operator;
+ghost use Rattle.cc_base.specs.contracts.place.Place as place;
+ghost use Rattle.cc_meta_modules.specs.ModuleLaws.{AreFit, NamesOfDevicesDiffer};
+ghost use Rattle.cc_meta_modules.specs.ModuleVerdicts.{HasModuleVerdict};
+ghost use Rattle.cc_meta_modules.specs.Readings.{imports_of, reading_of_text};
+ghost use Rattle.cc_module.specs.Findings.{finding_of};
+ghost use Rattle.cc_module.specs.Judgements.{module_verdict_of, IsSoundIfAccepted};
+ghost use Rattle.cc_module.specs.TextReadings.{text_reading_of};
 ghost use Rattle.cc_parse.specs.Trees.{imports_syntax};
+ghost use Rattle.cc_judge.specs.SyntaxCodes.{reading_code};
 
 use crate::grounds::SharedText;
+use cc_base::device::DeviceDecl;
 use cc_base::literal::Import;
-use cc_module::imports::imports_of;
+use cc_base::steps::Steps;
+use cc_module::finding::Finding;
+use cc_module::imports::imports_read;
+use cc_module::judgement::ModuleVerdict;
+use cc_module::judging::{check_module, check_read};
+use cc_module::reading::{TextReading, read};
 use std::alloc::{AllocError, Global};
+use std::cell::Cell;
 use std::marker::Model;
 use std::rc::Rc;
+use std::sync::ledger::Ledger;
 
-// A text with its imports, if it is a module.
+// A text that was not judged yet, with what it was read as.
+#[derive(Drop)]
+struct Unjudged {
+    text: SharedText,
+    reading: TextReading,
+    ghost is: { text_reading_of reading ≡ reading_of_text text } by { Prim.hlevel (codes, reading_code (record { base = base.the_row.coded; operator = operator.the_row.coded; operation = operation.the_row.coded; code = code.the_row.coded; place = place.the_row.coded })) },
+}
+
+// A text with its imports, if it is a module. What it was read as is there until it is judged.
 #[derive(Drop)]
 struct Reading {
     text: SharedText,
     imports: Option<Vec<Import>>,
+    unjudged: Cell<Option<Unjudged>>,
     ghost are: { option_map imports_syntax imports ≡ imports_of text },
+}
+
+// The text with what it was read as.
+fn to_be_judged(text: &SharedText, reading: TextReading) -> Result<Unjudged, AllocError>
+    requires { text_reading_of reading ≡ reading_of_text text.now }
+{
+    let text = text.share()?;
+    Ok(Unjudged { text, reading })
+}
+
+// The verdict of the text, which is not read again where it was read as this.
+fn check_unjudged<L: Ledger>(
+    alloc: Global,
+    text: &SharedText,
+    unjudged: &Unjudged,
+    devices: &[DeviceDecl],
+    findings: &[Finding],
+    steps: &mut Steps<L>,
+) -> Result<ModuleVerdict, AllocError>
+    requires names { NamesOfDevicesDiffer devices.now }
+    requires fit { AreFit devices.now text.now (map finding_of findings.now) }
+    ensures tick { steps.new ≡ steps.old + 1 }
+    ensures verdict { IfOk result (λ v. HasModuleVerdict devices.now text.now (map finding_of findings.now) (module_verdict_of v)) }
+    ensures sound { IfOk result (λ v. IsSoundIfAccepted devices.now (map finding_of findings.now) (module_verdict_of v)) }
+{
+    let bytes = text.as_bytes();
+    if unjudged.text.is(text) {
+        check_read(alloc, bytes, &unjudged.reading, devices, findings, steps)
+    } else {
+        check_module(alloc, bytes, devices, findings, steps)
+    }
 }
 
 /// A text that was read, shared, with its imports. Contracts see its bytes.
@@ -39,10 +100,40 @@ impl ReadText {
     pub fn read(alloc: Global, text: &SharedText) -> Result<ReadText, AllocError>
         ensures { IfOk result (λ read. read ≡ text.now) }
     {
-        let imports = imports_of(alloc, text.as_bytes())?;
+        let reading = read(alloc, text.as_bytes())?;
+        let imports = imports_read(alloc, &reading)?;
+        let unjudged = Cell::new(Some(to_be_judged(text, reading)?));
         let text = text.share()?;
-        let reading = Rc::new(alloc, Reading { text, imports })?;
+        let reading = Rc::new(
+            alloc,
+            Reading {
+                text,
+                imports,
+                unjudged,
+            },
+        )?;
         Ok(ReadText { reading })
+    }
+
+    /// The verdict of the text, as `check_module` gives it. What the text was read as is given up then.
+    pub(crate) fn check<L: Ledger>(
+        &self,
+        alloc: Global,
+        devices: &[DeviceDecl],
+        findings: &[Finding],
+        steps: &mut Steps<L>,
+    ) -> Result<ModuleVerdict, AllocError>
+        requires names { NamesOfDevicesDiffer devices.now }
+        requires fit { AreFit devices.now self.now (map finding_of findings.now) }
+        ensures tick { steps.new ≡ steps.old + 1 }
+        ensures verdict { IfOk result (λ v. HasModuleVerdict devices.now self.now (map finding_of findings.now) (module_verdict_of v)) }
+        ensures sound { IfOk result (λ v. IsSoundIfAccepted devices.now (map finding_of findings.now) (module_verdict_of v)) }
+    {
+        let text = &self.reading.text;
+        match self.reading.unjudged.take() {
+            Some(unjudged) => check_unjudged(alloc, text, &unjudged, devices, findings, steps),
+            None => check_module(alloc, text.as_bytes(), devices, findings, steps),
+        }
     }
 
     /// The same text, shared. Fails only for want of memory.

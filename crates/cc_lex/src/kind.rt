@@ -7,6 +7,7 @@ ghost use Rattle.cc_lex.specs.Cutting.{number_of, inside, word_of, word_or_name,
 
 use crate::error::LexError;
 use crate::form::Form;
+use crate::known::Known;
 use crate::token::TokenKind;
 use crate::words::word_of;
 use cc_base::code::{Code, Diag};
@@ -61,8 +62,27 @@ pub fn no_token(place: Place) -> Diag
     }
 }
 
+// The same, which is remembered: letters that come again are not gone over again.
+fn known_kind(alloc: Global, text: &str, known: &mut Known) -> Result<TokenKind, AllocError>
+    requires { IsWord (chars text.now) }
+    ensures { IfOk result (λ kind. lexeme_of kind ≡ word_or_name (chars text.now) (word_of (chars text.now))) }
+{
+    if let Some(kind) = known.kind(text)? {
+        return Ok(kind);
+    }
+    let kind = word_kind(alloc, text)?;
+    known.remember(alloc, text, &kind)?;
+    Ok(kind)
+}
+
 /// The kind of the token that a text of this form is. A number that is too great is refused at the place.
-pub fn kind_of(alloc: Global, form: Form, text: &str, at: Place) -> Result<TokenKind, LexError>
+pub fn kind_of(
+    alloc: Global,
+    form: Form,
+    text: &str,
+    at: Place,
+    known: &mut Known,
+) -> Result<TokenKind, LexError>
     requires { IsOfForm form (chars text.now) }
     ensures { Finds lexeme_of at result (spelled_by form (chars text.now)) }
 {
@@ -71,7 +91,7 @@ pub fn kind_of(alloc: Global, form: Form, text: &str, at: Place) -> Result<Token
             Some(number) => Ok(TokenKind::Number(number)),
             None => Err(LexError::Refused(no_token(at))),
         },
-        Form::Word => Ok(word_kind(alloc, text)?),
+        Form::Word => Ok(known_kind(alloc, text, known)?),
         Form::Text => Ok(text_kind(alloc, text)?),
         Form::Symbol(symbol) => Ok(TokenKind::Symbol(symbol)),
     }

@@ -7,6 +7,7 @@ ghost use Rattle.cc_lex.specs.Cutting.{token_of, spanned_front, size_of, columns
 use crate::error::LexError;
 use crate::form::{blank_of, front_of, is_white};
 use crate::kind::{kind_of, no_token};
+use crate::known::Known;
 use crate::size::{Class, Size, first_and_rest, size_in};
 use crate::token::{Token, Tokens};
 use cc_base::code::{Code, Diag};
@@ -63,6 +64,7 @@ fn token_of(
     after: &str,
     at: Place,
     start: u32,
+    known: &mut Known,
 ) -> Result<(Token, Size), LexError>
     requires { text.now ≡ encode_utf8 first ++ after.now }
     ensures found { Finds spanned_front at result (token_of at start first (chars after.now)) }
@@ -72,7 +74,7 @@ fn token_of(
         return Err(LexError::Refused(no_token(at)));
     };
     let end = offset_past(start, first, more.bytes)?;
-    match kind_of(alloc, form, &text[..(end - start) as usize], at) {
+    match kind_of(alloc, form, &text[..(end - start) as usize], at, known) {
         Ok(kind) => {
             let token = Token {
                 kind,
@@ -95,6 +97,7 @@ fn find_front(
     after: &str,
     at: Place,
     start: u32,
+    known: &mut Known,
 ) -> Result<Size, LexError>
     requires { text.now ≡ encode_utf8 first ++ after.now }
     ensures { FindsFront at start first (chars after.now) (map spanned_of tokens.old.items) result (map spanned_of tokens.new.items) }
@@ -105,7 +108,7 @@ fn find_front(
     if let Some(more) = blank_of(first, after) {
         return Ok(more);
     }
-    match token_of(alloc, text, first, after, at, start) {
+    match token_of(alloc, text, first, after, at, start, known) {
         Ok(front) => {
             let (token, more) = front;
             tokens.push(token)?;
@@ -120,11 +123,21 @@ fn cut(alloc: Global, text: &str) -> Result<Tokens, LexError>
     ensures end { IfOk result (λ tokens. tokens.end ≡ place_past start (chars text.now)) }
 {
     let mut tokens = Vec::new(alloc);
+    let mut known = Known::new(alloc, text.len())?;
     let mut place = Place { line: 1, col: 1 };
     let mut offset: u32 = 0;
     let mut rest = text;
     while let Some((first, after)) = first_and_rest(rest) {
-        let more = match find_front(alloc, &mut tokens, rest, first, after, place, offset) {
+        let more = match find_front(
+            alloc,
+            &mut tokens,
+            rest,
+            first,
+            after,
+            place,
+            offset,
+            &mut known,
+        ) {
             Ok(more) => more,
             Err(error) => return Err(error),
         };

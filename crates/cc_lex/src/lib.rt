@@ -4,6 +4,7 @@
 pub mod error;
 mod form;
 mod kind;
+mod known;
 pub mod laws;
 pub mod lexer;
 mod size;

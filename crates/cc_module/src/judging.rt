@@ -10,10 +10,11 @@ ghost use Rattle.cc_meta_modules.specs.ModuleLaws.{AreFit, FitsDevices, NamesOfD
 ghost use Rattle.cc_meta_modules.specs.ModuleVerdicts as plain;
 ghost use Rattle.cc_meta_modules.specs.ModuleVerdicts.{AreJudged, HasModuleVerdict, to_be_checked};
 ghost use Rattle.cc_meta_modules.specs.ReadyDefinitions.{AreReady};
-ghost use Rattle.cc_meta_modules.specs.Readings.{HasReading, IsTree};
+ghost use Rattle.cc_meta_modules.specs.Readings.{HasReading, IsTree, reading_of_text};
 ghost use Rattle.cc_mnf.specs.CoreModules.{definition_of};
 ghost use Rattle.cc_module.specs.Findings.{finding_of};
 ghost use Rattle.cc_module.specs.Judgements.{module_verdict_of, refusal_of, JudgesAll, JudgesOne, IsSoundIfAccepted};
+ghost use Rattle.cc_module.specs.TextReadings.{text_reading_of};
 ghost use Rattle.cc_parse.specs.Trees.{import_syntax, module_syntax};
 
 use crate::contexts::{declared_context, with_findings, with_signature};
@@ -176,21 +177,45 @@ fn judge_tree(
     }
 }
 
-// The verdict of a text.
+// The verdict of a text that was read.
 fn judge(
     alloc: Global,
     text: &[u8],
+    reading: &TextReading,
     devices: &[DeviceDecl],
     findings: &[Finding],
 ) -> Result<ModuleVerdict, AllocError>
     requires names { NamesOfDevicesDiffer devices.now }
     requires fit { AreFit devices.now text.now (map finding_of findings.now) }
+    requires read { text_reading_of reading.now ≡ reading_of_text text.now }
     ensures { IfOk result (λ v. HasModuleVerdict devices.now text.now (map finding_of findings.now) (module_verdict_of v)) }
 {
-    match read(alloc, text)? {
-        TextReading::Tree(tree) => judge_tree(alloc, &tree, devices, findings),
-        TextReading::NoModule(diag) => Ok(refused(diag)),
+    match reading {
+        TextReading::Tree(tree) => judge_tree(alloc, tree, devices, findings),
+        TextReading::NoModule(diag) => Ok(refused(*diag)),
     }
+}
+
+/// The verdict of a module's text that was read, as `check_module` gives it.
+///
+/// It counts one step, also where it fails. Fails only for want of memory, as which a number past 2^32 - 1 counts.
+pub fn check_read<L: Ledger>(
+    alloc: Global,
+    text: &[u8],
+    reading: &TextReading,
+    devices: &[DeviceDecl],
+    findings: &[Finding],
+    steps: &mut Steps<L>,
+) -> Result<ModuleVerdict, AllocError>
+    requires names { NamesOfDevicesDiffer devices.now }
+    requires fit { AreFit devices.now text.now (map finding_of findings.now) }
+    requires read { text_reading_of reading.now ≡ reading_of_text text.now }
+    ensures tick { steps.new ≡ steps.old + 1 }
+    ensures verdict { IfOk result (λ v. HasModuleVerdict devices.now text.now (map finding_of findings.now) (module_verdict_of v)) }
+    ensures sound { IfOk result (λ v. IsSoundIfAccepted devices.now (map finding_of findings.now) (module_verdict_of v)) }
+{
+    steps.tick();
+    judge(alloc, text, reading, devices, findings)
 }
 
 /// The verdict of a module's text beside the devices, whose names differ, with what is found for its imports, in order:
@@ -212,5 +237,6 @@ pub fn check_module<L: Ledger>(
     ensures sound { IfOk result (λ v. IsSoundIfAccepted devices.now (map finding_of findings.now) (module_verdict_of v)) }
 {
     steps.tick();
-    judge(alloc, text, devices, findings)
+    let reading = read(alloc, text)?;
+    judge(alloc, text, &reading, devices, findings)
 }

@@ -7,5 +7,5 @@ pub mod finding;
 pub mod imports;
 pub mod judgement;
 pub mod judging;
-mod reading;
+pub mod reading;
 pub mod standing;

@@ -15,10 +15,12 @@ use cc_parse::parser::parse;
 use cc_parse::tree::Module;
 use std::alloc::{AllocError, Global};
 
-/// A module with its tree, or no module, with its refusal.
+/// What a text is.
 #[derive(Drop)]
-pub(crate) enum TextReading {
+pub enum TextReading {
+    /// A module, with its tree.
     Tree(Module),
+    /// No module, with its refusal.
     NoModule(Diag),
 }
 
@@ -34,7 +36,7 @@ fn read_tokens(alloc: Global, tokens: &Tokens) -> Result<TextReading, AllocError
 }
 
 /// What the text is. Fails only for want of memory, as which a place or an offset past 2^32 - 1 counts.
-pub(crate) fn read(alloc: Global, text: &[u8]) -> Result<TextReading, AllocError>
+pub fn read(alloc: Global, text: &[u8]) -> Result<TextReading, AllocError>
     ensures { IfOk result (λ r. text_reading_of r ≡ reading_of_text text.now) }
 {
     match lex(alloc, text) {

@@ -19,6 +19,7 @@ pub mod KnownSets
 pub mod LoggedDemands
 pub mod LostDemands
 pub mod NewestVariables
+pub mod OneShape
 pub mod RememberedInstances
 pub mod RememberedPairs
 pub mod RepeatedDemands

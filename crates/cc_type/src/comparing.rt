@@ -9,15 +9,16 @@ ghost use Rattle.cc_type.specs.Logs.{Meets, after};
 ghost use Rattle.cc_type.specs.Rows.{comparing};
 
 use crate::known::Known;
-use crate::log::Log;
+use crate::log::{Log, keep_below};
 use crate::stop::{Stop, refused};
 use crate::walking::{keep_shapes, keep_types};
 use cc_base::code::Code;
 use cc_base::place::Place;
+use cc_core::same::same_shape;
 use cc_core::{Ctx, Shape, Ty};
 use std::alloc::Global;
 
-/// The left type has to be below the right one.
+/// The left type has to be below the right one. Where the shapes are one the sets alone are compared.
 pub fn below(
     alloc: Global,
     ctx: &Ctx,
@@ -31,6 +32,10 @@ pub fn below(
     requires right { IsWellFormedType (context_of ctx.now) (type_of right.now) }
     ensures { Meets (λ u. u) result (asked_of log.new.demands) (after (asked_of log.old.demands) (plain.below comparing at (context_of ctx.now) (type_of left.now) (type_of right.now))) }
 {
+    if same_shape(&left.shape, &right.shape) {
+        keep_below(alloc, ctx, &left.set, &right.set, at, log)?;
+        return Ok(());
+    }
     log.known = Known::new(alloc, ctx.clone()?);
     if keep_types(alloc, ctx, left, right, at, log, u32::MAX)? {
         Ok(())
@@ -39,7 +44,7 @@ pub fn below(
     }
 }
 
-/// The left shape has to be below the right one, and sets do not count.
+/// The left shape has to be below the right one, and sets do not count. Two that are one are not gone through.
 pub(crate) fn against(
     alloc: Global,
     ctx: &Ctx,
@@ -53,6 +58,9 @@ pub(crate) fn against(
     requires right { IsWellFormedShape (context_of ctx.now) (shape_of right.now) }
     ensures { Meets (λ u. u) result (asked_of log.new.demands) (after (asked_of log.old.demands) (plain.against comparing at (context_of ctx.now) (shape_of left.now) (shape_of right.now))) }
 {
+    if same_shape(left, right) {
+        return Ok(());
+    }
     log.known = Known::new(alloc, ctx.clone()?);
     if keep_shapes(alloc, ctx, left, right, at, log, u32::MAX)? {
         Ok(())

@@ -24,7 +24,7 @@ returns-clause-plan g c =
       planned = refl;
       judged = record {
         deserved = subst F (ap (map finding_of) c.as_slice.ensures.value ∙ sym same_found)
-            (subst T (c.as_bytes.ensures ∙ sym same_text) c.in_ok-verdict.ensures.verdict);
+            (subst T (sym same_text) c.in_ok-verdict.ensures.verdict);
         fit = subst V (sym same_found) (subst U (sym same_text) c.requires.fit);
       };
       same_name = c.in_ok-key.ensures.cases;

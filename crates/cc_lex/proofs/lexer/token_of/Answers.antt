@@ -7,7 +7,7 @@ use Rattle.cc_lex.proofs.FoundTokens.{front-form, finds-token, finds-error}
 use Rattle.cc_lex.proofs.Sizes.{sized-some, sized-none}
 use Rattle.cc_lex.proofs.TextFronts.{IsFrontSlice, front-slice}
 use Rattle.cc_lex.proofs.lexer.token_of.Goals as goal
-use Rattle.cc_lex.proofs.lexer.token_of.Goals.{In_ok-end, After-range}
+use Rattle.cc_lex.proofs.lexer.token_of.Goals.{In_ok-end, After-kind_of-arg-1}
 
 pub returns-in_default-clause-found : goal.returns-in_default-clause-found
 returns-in_default-clause-found c =
@@ -28,7 +28,7 @@ overflow_sub-end c = omega (arith, (slice c).ordered)
 pub range-requires-clause-end_boundary : goal.range-requires-clause-end_boundary
 range-requires-clause-end_boundary c = (slice c).boundary
 
-spelled : (c : goal.After-range) → chars c.range.result.now ≡ c.args.first ∷ take c.in-Some.more.characters (chars c.args.after.now)
+spelled : (c : goal.After-kind_of-arg-1) → chars c.range.result.now ≡ c.args.first ∷ take c.in-Some.more.characters (chars c.args.after.now)
 spelled c =
     let from = c.args.start in
     let to = (goal.at.kind_of-requires c).In_ok-end.in_ok-end.end in
@@ -42,7 +42,7 @@ kind_of-requires c =
 pub returns-in-Ok-clause-found : goal.returns-in-Ok-clause-found
 returns-in-Ok-clause-found c =
     let at = goal.at.returns-in-Ok-clause-found c in
-    finds-token c.args.at c.args.start c.args.first (chars c.args.after.now) (chars c.range.result.now) c.in-Some.form c.in-Some.more.characters c.in_ok-end.end (lexeme_of c.in-Ok.kind) (found at.In_ok-end).0 (spelled at.After-range)
+    finds-token c.args.at c.args.start c.args.first (chars c.args.after.now) (chars c.range.result.now) c.in-Some.form c.in-Some.more.characters c.in_ok-end.end (lexeme_of c.in-Ok.kind) (found at.In_ok-end).0 (spelled at.After-kind_of-arg-1)
     (slice at.In_ok-end).count c.in-Ok.ensures
 
 pub returns-in-Ok-clause-size : goal.returns-in-Ok-clause-size
@@ -51,4 +51,4 @@ returns-in-Ok-clause-size c = (found (goal.at.returns-in-Ok-clause-size c).In_ok
 pub returns-in-Err-clause-found : goal.returns-in-Err-clause-found
 returns-in-Err-clause-found c =
     let at = goal.at.returns-in-Err-clause-found c in
-    finds-error c.args.at c.args.start c.args.first (chars c.args.after.now) (chars c.range.result.now) c.in-Some.form c.in-Some.more.characters c.in-Err.error (found at.In_ok-end).0 (spelled at.After-range) c.in-Err.ensures
+    finds-error c.args.at c.args.start c.args.first (chars c.args.after.now) (chars c.range.result.now) c.in-Some.form c.in-Some.more.characters c.in-Err.error (found at.In_ok-end).0 (spelled at.After-kind_of-arg-1) c.in-Err.ensures

@@ -1,4 +1,4 @@
-use Rattle.std.proofs.Common.{true, false, subst}
+use Rattle.std.proofs.Common.{true, false, subst, sym, ◌∙◌, arith}
 use Rattle.cc_core.specs.Views.{shape_of, context_of}
 use Rattle.cc_sets.specs.Comparison.{comparison}
 use Rattle.cc_sets.specs.Inference as plain
@@ -9,6 +9,7 @@ use Rattle.cc_type.specs.KeptWalks.{Keeps}
 use Rattle.cc_type.specs.Logs.{after}
 use Rattle.cc_type.specs.Rows.{comparing}
 use Rattle.cc_type.proofs.KeptWalks.{matched_after, apart_after, refused_met, shapes_root}
+use Rattle.cc_type.proofs.OneShape.{one_shape}
 use Rattle.cc_type.proofs.WalkedParts.{shape_standing}
 use Rattle.cc_type.proofs.comparing.against.Goals as goal
 
@@ -46,3 +47,8 @@ returns-else-branch c =
     (shapes_root c.args.at most_steps g left right false was.settled now.settled log more c.requires.left c.requires.right
     (subst (λ m. Keeps c.args.at (comparison most_steps g (shape_in g left) (shape_in g right)) m was.settled
     now.settled log more) c.if-branch.false c.in_ok-keep_shapes.ensures.kept)))
+
+pub returns-then-same_shape : goal.returns-then-same_shape
+returns-then-same_shape c =
+    one_shape c.args.at most_steps (context_of c.args.ctx.now) (shape_of c.args.left.now) (shape_of c.args.right.now)
+    (asked_of c.args.log.now.demands) (λ e. omega (arith, e)) (sym c.same_shape.ensures ∙ c.if-same_shape.true)

@@ -1,14 +1,16 @@
-use Rattle.std.proofs.Common.{true, false, subst}
-use Rattle.cc_core.specs.Views.{type_of, context_of}
+use Rattle.std.proofs.Common.{true, false, subst, sym, ap, ◌∙◌, arith}
+use Rattle.cc_core.specs.Comparison.{same_shape}
+use Rattle.cc_core.specs.Views.{shape_of, type_of, context_of}
 use Rattle.cc_sets.specs.Comparison.{type_comparison}
 use Rattle.cc_sets.specs.Inference as plain
 use Rattle.cc_sets.specs.Inference.{type_in}
 use Rattle.cc_subty.specs.Comparing.{most_steps}
 use Rattle.cc_subty.specs.Demands.{asked_of}
 use Rattle.cc_type.specs.KeptWalks.{Keeps}
-use Rattle.cc_type.specs.Logs.{after}
+use Rattle.cc_type.specs.Logs.{Got, after}
 use Rattle.cc_type.specs.Rows.{comparing}
 use Rattle.cc_type.proofs.KeptWalks.{matched_after, apart_after, refused_met, types_root}
+use Rattle.cc_type.proofs.OneShape.{formed_set, sets_alone}
 use Rattle.cc_type.proofs.WalkedParts.{type_standing}
 use Rattle.cc_type.proofs.comparing.below.Goals as goal
 
@@ -46,3 +48,14 @@ returns-else-branch c =
     (types_root c.args.at most_steps g left right false was.settled now.settled log more c.requires.left c.requires.right
     (subst (λ m. Keeps c.args.at (type_comparison most_steps g (type_in g left) (type_in g right)) m was.settled
     now.settled log more) c.if-branch.false c.in_ok-keep_types.ensures.kept)))
+
+pub keep_below-requires-clause-left : goal.keep_below-requires-clause-left
+keep_below-requires-clause-left c = formed_set (context_of c.args.ctx.now) (type_of c.args.left.now) c.requires.left
+
+pub returns-then-same_shape : goal.returns-then-same_shape
+returns-then-same_shape c =
+    sets_alone c.args.at most_steps (context_of c.args.ctx.now) (type_of c.args.left.now) (type_of c.args.right.now)
+    (asked_of c.args.log.now.demands) (λ e. omega (arith, e))
+    ((λ i. same_shape (shape_of (sym c.deref.ensures i)) (shape_of (sym c.deref-2.ensures i)))
+    ∙ sym c.same_shape.ensures ∙ c.if-same_shape.true)
+    ∙ ap (Got tt) (sym c.in_ok-keep_below.ensures.kept)
