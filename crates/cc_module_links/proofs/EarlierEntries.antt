@@ -1,7 +1,7 @@
 -- The entries of modules name earlier entries alone.
-use Rattle.std.proofs.Common.{◌≡◌, ℕ, zero, suc, ◌+◌, ◌-◌, ◌<◌, ◌≤◌, Bool, true, false, List, [], ◌∷◌, ◌++◌, map, length, get_or, Option, Some, None, option_map, inl, inr, refl, sym, ap, subst, ◌∙◌, length-append, arith}
+use Rattle.std.proofs.Common.{◌≡◌, ℕ, zero, suc, ◌+◌, ◌-◌, ◌<◌, List, [], ◌∷◌, map, length, get_or, Option, Some, None, option_map, inl, inr, refl, ap, subst, ◌∙◌, arith}
 use Rattle.std.specs.Prelude.{reverse}
-use Rattle.std.specs.List.{Contains, filter_map}
+use Rattle.std.specs.List.{Contains}
 use Rattle.std.specs.Option.{unwrap_or}
 use Rattle.std.specs.Str.{bytes_eq}
 use Rattle.std.proofs.lemmas.Bool.{cases_Bool, cases_lt}
@@ -59,11 +59,11 @@ imports_below find number low positions [] below = below
 imports_below find number low positions (one ∷ rest) below =
     imports_below find number low (imported_target find one ∷ positions) rest
     (λ position named is.
-        elim (lookup-cases (imported_target find one) positions position (Some (targets.Definition named)) is) [
-          | inl (at, same) ↦
-              imported_below number (find one.source one.name) (low one.source one.name) named same
-          | inr there ↦ below position named there
-        ])
+    elim (lookup-cases (imported_target find one) positions position (Some (targets.Definition named)) is) [
+      | inl (at, same) ↦
+          imported_below number (find one.source one.name) (low one.source one.name) named same
+      | inr there ↦ below position named there
+    ])
 
 among_below : (before : ℕ) (name : List ℕ) (definitions : List Definition) (k : ℕ)
     → position_among before name definitions ≡ Some k → k < before + length definitions

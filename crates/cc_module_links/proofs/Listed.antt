@@ -1,7 +1,7 @@
 -- Positions and entries, one after the other.
-use Rattle.std.proofs.Common.{◌≡◌, ℕ, suc, ◌+◌, ◌<◌, ◌≤◌, List, [], ◌∷◌, ◌++◌, map, take, drop, get_or, length, Option, Some, None, refl, sym, ap, subst, ◌∙◌, append_assoc, append-nil, drop-cons, length-append, if◌then◌else◌, arith}
+use Rattle.std.proofs.Common.{◌≡◌, ℕ, suc, ◌+◌, ◌<◌, ◌≤◌, List, [], ◌∷◌, ◌++◌, map, take, drop, get_or, length, Option, Some, None, refl, sym, ap, subst, ◌∙◌, append_assoc, append-nil, drop-cons, if◌then◌else◌, arith}
 use Rattle.std.specs.Prelude.{reverse}
-use Rattle.std.specs.List.{filter_map, cons_option}
+use Rattle.std.specs.List.{cons_option}
 use Rattle.std.specs.Option.{option_to_list}
 use Rattle.std.specs.Str.{bytes_eq}
 use Rattle.cc_base.specs.declared.literal.Import.{Import}
@@ -21,9 +21,7 @@ use Rattle.cc_link.specs.Linking.{definition_of, module_in_program}
 use Rattle.cc_link.specs.Tables.{Finds, definition_position, module_position}
 use Rattle.cc_link.proofs.LinkedEntries.{definitions_listed}
 use Rattle.cc_link.proofs.Placements.{turned_more, items_more}
-use Rattle.cc_meta_entries.specs.PresentEntries.{CheckedModule, program_module}
-use Rattle.cc_meta_modules.specs.ModuleVerdicts.{CheckedDefinition}
-use Rattle.cc_meta_runs.specs.Links.{count_definitions, position_among, position_in}
+use Rattle.cc_meta_runs.specs.Links.{count_definitions, position_among}
 use Rattle.cc_module.specs.declared.judgement.CheckedDef.{CheckedDef}
 use Rattle.cc_module.specs.Judgements.{checked_definition_of}
 use Rattle.cc_module_links.proofs.EarlierEntries.{count_more}

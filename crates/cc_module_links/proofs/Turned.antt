@@ -1,13 +1,12 @@
 -- Positions in a list that is turned round.
-use Rattle.std.proofs.Common.{◌≡◌, ℕ, zero, suc, ◌+◌, ◌<◌, ◌≤◌, List, [], ◌∷◌, ◌++◌, length, get_or, Option, Some, None, inl, inr, refl, sym, ap, ◌∙◌, length-append, arith}
+use Rattle.std.proofs.Common.{◌≡◌, ℕ, zero, suc, ◌<◌, ◌≤◌, List, [], ◌∷◌, ◌++◌, length, get_or, Some, None, inl, inr, refl, sym, ap, ◌∙◌, length-append, arith}
 use Rattle.std.specs.Prelude.{reverse}
 use Rattle.std.specs.Option.{unwrap_or}
 use Rattle.std.proofs.lemmas.Bool.{cases_eq}
 use Rattle.std.proofs.lemmas.List.{reverse-append, length-reverse}
-use Rattle.cc_capture.specs.declared.var.Var.TheVariants.{Bound, Free}
+use Rattle.cc_capture.specs.declared.var.Var.TheVariants.{Free}
 use Rattle.cc_core.specs.Contexts.{lookup}
 use Rattle.cc_core.proofs.Lookups.{lookup-newest, lookup-other, lookup-older}
-use Rattle.cc_explain.specs.declared.target.Target.{Target}
 use Rattle.cc_module_links.specs.ModuleLinks.{Positions, variable_target}
 
 first_position : {A : Type 0} (ys : List A) (x : A) → lookup (ys ++ x ∷ []) zero ≡ Some x
