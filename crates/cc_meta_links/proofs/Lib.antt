@@ -1,5 +1,5 @@
-mod CheckedInGlobals
-mod Linked
-mod Positions
-mod Reached
-mod Worked
+pub mod CheckedInGlobals
+pub mod Linked
+pub mod Positions
+pub mod Reached
+pub mod Worked
