@@ -3,7 +3,9 @@ pub mod AlikeReplays
 pub mod AnswersInLines
 pub mod Comparisons
 pub mod LineByLine
+pub mod LineSteps
 pub mod QuestionsTaken
 pub mod ReplayedRuns
 pub mod SafeTraces
 pub mod WorkedReplays
+pub mod WrittenRuns

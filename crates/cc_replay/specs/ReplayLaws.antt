@@ -1,8 +1,10 @@
 -- What replays say.
-use Rattle.std.specs.Prelude.{◌≡◌, ◌≢◌, ℕ, ℤ, List, IsTrue}
+use Rattle.std.specs.Prelude.{◌≡◌, ◌≢◌, ℕ, ℤ, List, [], ◌∷◌, ◌++◌, IsTrue, encode_utf8_all}
+use Rattle.std.specs.List.{AllByRecursion, flat_map}
 use Rattle.cc_base.specs.Literals.{Literal, NumberLiteral}
 use Rattle.cc_base.specs.declared.literal.Base.TheVariants as bases
 use Rattle.cc_base.specs.declared.literal.Op.{Op}
+use Rattle.cc_certificate.specs.Laws.{IsOneLine}
 use Rattle.cc_core.specs.Programs.{Entry, IsEntry}
 use Rattle.cc_core.specs.Stores.{DeviceCell}
 use Rattle.cc_core.specs.Typing.{base_operated, base_answered}
@@ -15,8 +17,10 @@ use Rattle.cc_meta_runs.specs.Runs.{State, IsStopped, Run, run}
 use Rattle.cc_meta_runs.specs.Soundness.{scopes_of, IsListed, IsSound}
 use Rattle.cc_meta_runs.specs.SoundRuns.{IsSoundState, IsAmong}
 use Rattle.cc_replay.specs.AnsweredRuns.{GoesOnTo, AnsweredRun, ending_after, trace_lines, trace_of}
+use Rattle.cc_replay.specs.LineLiterals.{IsLineState}
 use Rattle.cc_replay.specs.Replays.{replay}
 use Rattle.cc_replay.specs.declared.replaying.Replayed.TheVariants.{Agrees}
+use Rattle.cc_words.specs.Lines.{lines_of}
 use Rattle.cc_words.specs.Words.{has_64_bits}
 
 -- A replay agrees exactly where the lines are the trace of a run whose devices are answered from outside.
@@ -79,6 +83,18 @@ RunsAreReplayed =
     (names : List (List ℕ)) (fuel : ℕ) (start : State) → IsSoundState start
     → HasAnswersOf64Bits (run fuel start).events
     → replay names fuel start.configuration (lines_of_run names (run fuel start)) ≡ Agrees
+
+-- the lines, each with a line feed behind it
+abbrev pub written_lines : List (List ℕ) → List ℕ
+written_lines lines = flat_map (λ line. line ++ 10 ∷ []) lines
+
+-- So it is with the text of these lines, where the names of the devices have no line feed, and where each number is one
+-- of 64 bits at the start and no text has a line feed.
+abbrev pub WrittenRunsAreReplayed : Type 0
+WrittenRunsAreReplayed =
+    (names : List (List ℕ)) (fuel : ℕ) (start : State) → IsSoundState start → IsLineState start
+    → AllByRecursion (λ name. IsOneLine (encode_utf8_all name)) names
+    → replay names fuel start.configuration (lines_of (written_lines (lines_of_run names (run fuel start)))) ≡ Agrees
 
 -- Types and shapes that are written decide no replay.
 abbrev pub AlikeReplayAlike : Type 0

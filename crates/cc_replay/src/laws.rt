@@ -23,6 +23,11 @@ pub fn runs_are_replayed()
     ensures { law.RunsAreReplayed }
 {}
 
+/// So does the text of these lines, where no name and no text has a line feed, and each number has 64 bits.
+pub fn written_runs_are_replayed()
+    ensures { law.WrittenRunsAreReplayed }
+{}
+
 /// Types and shapes that are written decide no replay.
 pub fn alike_replay_alike()
     ensures { law.AlikeReplayAlike }
