@@ -2,6 +2,7 @@ pub mod AgreeingReplays
 pub mod AlikeReplays
 pub mod AnswersInLines
 pub mod Comparisons
+pub mod FirstDifferences
 pub mod LineByLine
 pub mod LineSteps
 pub mod QuestionsTaken
