@@ -92,7 +92,8 @@ fn given_traces(rt: HostRuntime) {
 }
 
 // Nine steps for each call, three of which tell of an operation.
-const EVENTS: &str = "def main = fun (u: Unit) => val f = fun (i: Int) => val a = hits.tick(); val b = out.print(a); data.write(i); repeat(200000, f)";
+const EVENTS: &str =
+    "def main = fun (u: Unit) => val f = fun (i: Int) => val a = hits.tick(); val b = out.print(a); data.write(i); repeat(200000, f)";
 
 const SOME_OF_ALL: &str =
     "def main = fun (u: Unit) => val a = out.say(\"a b\"); boundary [Int] e => val b = data.read(); val c = data.write(b); val d = hits.tick(); val f = out.print(d); exit [Int] (e, b)";
@@ -108,6 +109,9 @@ fn traces_of_runs(rt: HostRuntime) {
         (EVENTS, 1000),
         (EVENTS, 1000000),
     ] {
-        assert!(rt; replayed_run(rt.alloc(), text, fuel) == Some(Replayed::Agrees), "{text}");
+        assert!(rt;
+            replayed_run(rt.alloc(), text, fuel) == Some(Replayed::Agrees),
+            "{text}"
+        );
     }
 }
