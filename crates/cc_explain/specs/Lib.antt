@@ -1,0 +1,7 @@
+pub mod Targets
+pub mod Chains
+pub mod Entries
+pub mod Paths
+pub mod Steps
+pub mod Laws
+pub mod Examples

@@ -1,0 +1,5 @@
+mod CheckedInGlobals
+mod Linked
+mod Positions
+mod Reached
+mod Worked

@@ -1,0 +1,3 @@
+pub mod PresentLinks
+pub mod Laws
+pub mod Examples
