@@ -1,0 +1,9 @@
+pub mod AgreeingReplays
+pub mod AlikeReplays
+pub mod AnswersInLines
+pub mod Comparisons
+pub mod LineByLine
+pub mod QuestionsTaken
+pub mod ReplayedRuns
+pub mod SafeTraces
+pub mod WorkedReplays

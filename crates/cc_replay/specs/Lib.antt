@@ -1,0 +1,5 @@
+pub mod AnsweredRuns
+pub mod Comparing
+pub mod Examples
+pub mod ReplayLaws
+pub mod Replays
