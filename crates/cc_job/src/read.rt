@@ -22,6 +22,7 @@ fn text_size(head: &Head) -> u32
         Head::Put(_, count) => *count,
         Head::Verify(count) => *count,
         Head::Policy(_) => 0,
+        Head::Replay(_, _, _, count) => *count,
         Head::Command(_) => 0,
     }
 }
@@ -35,6 +36,7 @@ fn rule_count(head: &Head) -> u32
         Head::Put(_, _) => 0,
         Head::Verify(_) => 0,
         Head::Policy(count) => *count,
+        Head::Replay(_, _, _, _) => 0,
         Head::Command(_) => 0,
     }
 }
@@ -48,6 +50,7 @@ fn lines_behind(head: &Head) -> u32
         Head::Put(_, count) => *count,
         Head::Verify(count) => *count,
         Head::Policy(count) => *count,
+        Head::Replay(_, _, _, count) => *count,
         Head::Command(_) => 0,
     }
 }
@@ -75,6 +78,7 @@ fn is_admitted(devices: &[DeviceDecl], commands: &[Command], head: &Head) -> boo
         Head::Put(_, _) => true,
         Head::Verify(_) => true,
         Head::Policy(_) => true,
+        Head::Replay(_, _, _, _) => true,
         Head::Command(_) => true,
     }
 }
@@ -102,6 +106,10 @@ fn add(
             commands.push(Command::Verify(text))?;
         }
         Head::Policy(_) => commands.push(Command::Policy(policy))?,
+        Head::Replay(module, definition, fuel, _) => {
+            let text = Text::new(Vec::from_slice(alloc, text)?);
+            commands.push(Command::Replay(module, definition, fuel, text))?;
+        }
         Head::Command(command) => commands.push(command)?,
     }
     Ok(())
