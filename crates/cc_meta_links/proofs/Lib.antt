@@ -1,5 +1,5 @@
 mod CheckedInGlobals
-mod Linked
+pub mod Linked
 mod Positions
 mod Reached
 mod Worked
