@@ -19,10 +19,11 @@ use Rattle.cc_mnf.specs.CoreModules.{device_names}
 use Rattle.cc_replies.specs.DerivationTexts.{shown_derivation}
 use Rattle.cc_replies.specs.Replies.{Replies, derivation_size, derivation_told, derivation_reply}
 use Rattle.cc_meta_entries.specs.PresentEntries.{CheckedEntry}
-use Rattle.cc_replies.specs.ReplyTexts.{Reply, RunRefused, TasksRefused, Audited, AuditRefused, GuardRefused, Derived, DerivationRefused, reply_text, is_refusal, is_unfinished}
+use Rattle.cc_replies.specs.ReplyTexts.{Reply, RunRefused, TasksRefused, Audited, AuditRefused, GuardRefused, ReplayRefused, Derived, DerivationRefused, reply_text, is_refusal, is_unfinished}
 use Rattle.cc_policy.specs.declared.policy.Rule.{Rule}
 use Rattle.cc_replies.specs.PolicyReplies.{decisions, audit_told, guard_told}
-use Rattle.cc_replies.specs.Requests.{Request, ShowDerivation, RunDefinition, RunTasks, AuditDefinition, GuardDefinition, Ask, holding_under}
+use Rattle.cc_replies.specs.ReplayReplies.{replay_told}
+use Rattle.cc_replies.specs.Requests.{Request, ShowDerivation, RunDefinition, RunTasks, AuditDefinition, GuardDefinition, ReplayDefinition, Ask, holding_under}
 use Rattle.cc_replies.specs.RunReplies.{declared_run, run_told, tasks_told, first_unstarted, HaveEntries, IsEntryAnswer, IsTasksAnswer}
 use Rattle.cc_sets.specs.Verdicts.{Accepted}
 use Rattle.cc_session.specs.EntryAnswers.{IsAnswered}
@@ -100,6 +101,18 @@ module _ (devices : List DeviceDecl) (rules : List Rule) (texts : Texts) (verdic
         (said ∙ (λ i. reply_text (names_are i) (guard_told (devices_are i) rules module_name name fuel (entry_of entry))))
         (tells ∙ (λ i. is_refusal (guard_told (devices_are i) rules module_name name fuel (entry_of entry))))
 
+    pub replay_shown : (fuel : ℕ) (lines : List ℕ) (names : List (List ℕ)) (entry : DeclaredEntry) → names ≡ device_names devices
+        → IsAnswered devices texts verdicts module_name name (Ok entry)
+        → text ≡ reply_text [] (replay_told names module_name name fuel lines (entry_of entry))
+        → refused ≡ is_refusal (replay_told names module_name name fuel lines (entry_of entry))
+        → IsReplied devices (holding_under rules texts) (Ask (ReplayDefinition module_name name fuel lines)) old new result
+    replay_shown fuel lines names entry names_are answered said tells =
+        let told : CheckedEntry → Reply = replay_told (device_names devices) module_name name fuel lines in
+        shown (Ask (ReplayDefinition module_name name fuel lines)) (told (entry_of entry))
+        (verdicts, are, started_answer told (ReplayRefused module_name name) entry answered)
+        (said ∙ (λ i. reply_text [] (replay_told (names_are i) module_name name fuel lines (entry_of entry))))
+        (tells ∙ (λ i. is_refusal (replay_told (names_are i) module_name name fuel lines (entry_of entry))))
+
     module _ (it : Standing) (found : standing_in texts verdicts module_name name ≡ Ok it) (names : List (List ℕ)) (context : Context) (accepted : Accepted)
         (names_are : names ≡ standing_names devices it) (context_is : context ≡ standing_context devices it)
         (accepted_is : accepted ≡ it.definition.accepted) where
@@ -164,6 +177,14 @@ module _ (devices : List DeviceDecl) (rules : List Rule) (texts : Texts) (verdic
     guard_not_shown fuel code is written =
         replied devices (holding_under rules texts) (Ask (GuardDefinition module_name name fuel)) (GuardRefused module_name name code)
         (verdicts, are, refused_answer (guard_told devices rules module_name name fuel) (GuardRefused module_name name) code is)
+        old new result written told
+
+    pub replay_not_shown : (fuel : ℕ) (lines : List ℕ) (code : Code) → started_in texts verdicts module_name name ≡ Err code
+        → WritesWhole old new result (reply_text [] (ReplayRefused module_name name code))
+        → IsReplied devices (holding_under rules texts) (Ask (ReplayDefinition module_name name fuel lines)) old new result
+    replay_not_shown fuel lines code is written =
+        replied devices (holding_under rules texts) (Ask (ReplayDefinition module_name name fuel lines)) (ReplayRefused module_name name code)
+        (verdicts, are, refused_answer (replay_told (device_names devices) module_name name fuel lines) (ReplayRefused module_name name) code is)
         old new result written told
 
     pub derivation_too_large : (it : Standing) → standing_in texts verdicts module_name name ≡ Ok it

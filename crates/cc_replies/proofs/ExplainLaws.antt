@@ -1,8 +1,8 @@
 -- The elements of the outermost set of a signature have explanations, and one each.
-use Rattle.std.proofs.Common.{◌≡◌, ◌⊎◌, ℕ, suc, true, false, eqb, List, [], ◌∷◌, length, Some, None, Result, Ok, Err, inl, inr, refl, sym, ap, subst, ◌∙◌, arith}
+use Rattle.std.proofs.Common.{◌≡◌, ℕ, suc, Bool, true, false, ◌&&◌, ◌==◌, List, [], ◌∷◌, length, Some, None, Result, Ok, Err, refl, sym, ap, subst, ◌∙◌, arith}
 use Rattle.std.specs.List.{Contains}
 use Rattle.std.specs.Str.{bytes_eq}
-use Rattle.std.proofs.lemmas.Bool.{cases_Bool, eq-eqb, eqb-true}
+use Rattle.std.proofs.lemmas.Bool.{eq-eqb, eqb-true}
 use Rattle.std.proofs.lemmas.Slice.Eq.{bytes_eq-Decides}
 use Rattle.cc_base.specs.declared.code.Code.{Code}
 use Rattle.cc_base.specs.declared.device.DeviceDecl.{DeviceDecl}
@@ -20,52 +20,42 @@ use Rattle.cc_replies.specs.ExplainReplies.{Explains, AreExplained, IsExplainAns
 use Rattle.cc_replies.specs.ReplyTexts.{Reply, Explanation, Explained, ExplainRefused}
 
 -- TARGETS ARE TOLD APART
+-- whether two targets are the same
+abbrev pub same_target : Target → Target → Bool
+same_target (DefinitionOf m n) (DefinitionOf o p) = bytes_eq m o && bytes_eq n p
+same_target (DefinitionOf m n) (DeviceAt b) = false
+same_target (DefinitionOf m n) Universal = false
+same_target (DeviceAt a) (DefinitionOf o p) = false
+same_target (DeviceAt a) (DeviceAt b) = a == b
+same_target (DeviceAt a) Universal = false
+same_target Universal (DefinitionOf o p) = false
+same_target Universal (DeviceAt b) = false
+same_target Universal Universal = true
 
-bytes_decided : (a b : List ℕ) → (a ≡ b) ⊎ (a ≡ b → ⊥)
-bytes_decided a b =
-    elim (cases_Bool (bytes_eq a b)) [
-      | inl same ↦ inl ((bytes_eq-Decides a b).0 same)
-      | inr differ ↦ inr (λ same. let is = (bytes_eq-Decides a b).1 same in cc)
-    ]
+both : (a b : Bool) → (a && b) ≡ true → (a ≡ true) × (b ≡ true)
+both true true h = (refl, refl)
+both true false h = cc
+both false b h = cc
 
-same_modules : (m n o p : List ℕ) → DefinitionOf m n ≡ DefinitionOf o p → m ≡ o
-same_modules m n o p h = cc
+pub same_target-true : (a b : Target) → same_target a b ≡ true → a ≡ b
+same_target-true (DefinitionOf m n) (DefinitionOf o p) h =
+    let parts = both (bytes_eq m o) (bytes_eq n p) h in
+    let modules = (bytes_eq-Decides m o).0 parts.0 in
+    let names = (bytes_eq-Decides n p).0 parts.1 in
+    λ i. DefinitionOf (modules i) (names i)
+same_target-true (DefinitionOf m n) (DeviceAt b) h = cc
+same_target-true (DefinitionOf m n) Universal h = cc
+same_target-true (DeviceAt a) (DefinitionOf o p) h = cc
+same_target-true (DeviceAt a) (DeviceAt b) h = ap (λ n. DeviceAt n) (eqb-true a b h)
+same_target-true (DeviceAt a) Universal h = cc
+same_target-true Universal (DefinitionOf o p) h = cc
+same_target-true Universal (DeviceAt b) h = cc
+same_target-true Universal Universal h = refl
 
-same_names : (m n o p : List ℕ) → DefinitionOf m n ≡ DefinitionOf o p → n ≡ p
-same_names m n o p h = cc
-
-same_numbers : (a b : ℕ) → DeviceAt a ≡ DeviceAt b → a ≡ b
-same_numbers a b h = cc
-
-numbers_decided : (a b : ℕ) → (a ≡ b) ⊎ (a ≡ b → ⊥)
-numbers_decided a b =
-    elim (cases_Bool (eqb a b)) [
-      | inl same ↦ inl (eqb-true a b same)
-      | inr differ ↦ inr (λ same. let is = eq-eqb a b same in cc)
-    ]
-
-targets_decided : (a b : Target) → (a ≡ b) ⊎ (a ≡ b → ⊥)
-targets_decided (DefinitionOf m n) (DefinitionOf o p) =
-    elim (bytes_decided m o) [
-      | inl same ↦
-          elim (bytes_decided n p) [
-            | inl too ↦ inl (λ i. DefinitionOf (same i) (too i))
-            | inr differ ↦ inr (λ h. differ (same_names m n o p h))
-          ]
-      | inr differ ↦ inr (λ h. differ (same_modules m n o p h))
-    ]
-targets_decided (DefinitionOf m n) (DeviceAt b) = inr (λ h. cc)
-targets_decided (DefinitionOf m n) Universal = inr (λ h. cc)
-targets_decided (DeviceAt a) (DefinitionOf o p) = inr (λ h. cc)
-targets_decided (DeviceAt a) (DeviceAt b) =
-    elim (numbers_decided a b) [
-      | inl same ↦ inl (ap (λ n. DeviceAt n) same)
-      | inr differ ↦ inr (λ h. differ (same_numbers a b h))
-    ]
-targets_decided (DeviceAt a) Universal = inr (λ h. cc)
-targets_decided Universal (DefinitionOf o p) = inr (λ h. cc)
-targets_decided Universal (DeviceAt b) = inr (λ h. cc)
-targets_decided Universal Universal = inl refl
+pub same_target-itself : (a : Target) → same_target a a ≡ true
+same_target-itself (DefinitionOf m n) = rw ((bytes_eq-Decides m m).1 refl, (bytes_eq-Decides n n).1 refl) refl
+same_target-itself (DeviceAt a) = eq-eqb a a refl
+same_target-itself Universal = refl
 
 -- ONE EXPLANATION
 
@@ -88,7 +78,7 @@ explained_once entry from [] one other x y = x ∙ sym y
 explained_once entry from (element ∷ elements) one other (it, later, explains, are, is) (it', later', explains', are', is') =
     let target : it.target ≡ it'.target = one_element it.target it'.target element explains.is_element explains'.is_element in
     let chain : it.chain ≡ it'.chain =
-    first_chains_are_one Target targets_decided entry from it.target it.chain it'.chain explains.has_chain
+    first_chains_are_one Target same_target same_target-true same_target-itself entry from it.target it.chain it'.chain explains.has_chain
     (subst (λ t. IsFirstShortest entry from t it'.chain) (sym target) explains'.has_chain) in
     let rest = explained_once entry from elements later later' are are' in
     is ∙ (λ i. record { target = target i; chain = chain i } ∷ rest i) ∙ sym is'
@@ -151,7 +141,7 @@ explain_answer devices texts verdicts differ sorted are module_name name (Ok it)
     let set = it.definition.accepted.signature.set in
     let (explanations, is) = explained_all entry from set.list (λ element among.
       let linked = (elements_are_linked devices texts verdicts differ sorted are module_name name it stands element).0 ((Member-list element set).1 among) in
-      let (chain, first) = first_chains_exist Target targets_decided entry linked.0 from linked.1 linked.3 in
+      let (chain, first) = first_chains_exist Target same_target same_target-true same_target-itself entry linked.0 from linked.1 linked.3 in
       (record { target = linked.0; chain = chain }, record { is_element = linked.2; has_chain = first })) in
     (Explained module_name name explanations, (explanations, is, refl))
 explain_answer devices texts verdicts differ sorted are module_name name (Err code) stands = (ExplainRefused module_name name code, refl)

@@ -1,8 +1,8 @@
--- Where targets can be told apart, the first of the shortest chains from one to another is one, and there is one where
--- there is a chain.
-use Rattle.std.proofs.Common.{◌≡◌, ◌⊎◌, ℕ, zero, suc, ◌+◌, ◌<◌, ◌≤◌, List, [], ◌∷◌, ◌++◌, length, slice_get, Some, inl, inr, refl, sym, ap, subst, ◌∙◌, append_assoc, arith}
+-- Where a test tells targets apart, the first of the shortest chains from one to another is one, and there is one where
+-- there is a chain. It is computed by trying lengths in turn.
+use Rattle.std.proofs.Common.{◌≡◌, ◌⊎◌, ℕ, zero, suc, ◌+◌, ◌<◌, ◌≤◌, Bool, true, false, if◌then◌else◌, List, [], ◌∷◌, ◌++◌, length, slice_get, Option, Some, None, inl, inr, refl, sym, ap, subst, ◌∙◌, append_assoc, arith}
 use Rattle.std.specs.List.{Contains}
-use Rattle.std.proofs.lemmas.Bool.{cases_lt}
+use Rattle.std.proofs.lemmas.Bool.{cases_Bool, cases_lt}
 use Rattle.std.proofs.lemmas.List.{append-nil}
 use Rattle.std.proofs.lemmas.List.Elements.{Contains-append_right, Contains-append_cases}
 use Rattle.std.proofs.lemmas.Option.{slice_get-get_or, slice_get_within, get_or_from_slice_get}
@@ -53,7 +53,39 @@ first_later : {T : Type 0} (y : T) (ys : List T) (x : T) (place : ℕ) → (y �
 first_later y ys x place differ rest zero h = absurd (differ (some_same y x h))
 first_later y ys x place differ rest (suc other) h = let low = rest.first other h in omega arith
 
-module _ (T : Type 0) (decided : (a b : T) → (a ≡ b) ⊎ (a ≡ b → ⊥)) where
+-- a path through the next target, where one leads on from there, and else another
+abbrev pub through : {T : Type 0} → T → Option (List T) → Option (List T) → Option (List T)
+through next None other = other
+through next (Some path) other = Some (next ∷ path)
+
+-- a path through the first of the targets from which there is one
+abbrev pub first_through : {T : Type 0} → (T → Option (List T)) → List T → Option (List T)
+first_through paths [] = None
+first_through paths (next ∷ others) = through next (paths next) (first_through paths others)
+
+-- the first path there is of two
+abbrev pub sooner : {T : Type 0} → Option (List T) → Option (List T) → Option (List T)
+sooner None other = other
+sooner (Some path) other = Some path
+
+-- the first path of so many steps
+unfoldable pub path_of : (T : Type 0) (same : T → T → Bool) (entry : T → List T) (to : T) → ℕ → T → Option (List T)
+path_of T same entry to zero from = if same from to then Some [] else None
+path_of T same entry to (suc steps) from = first_through (path_of T same entry to steps) (entry from)
+
+-- the first of the shortest paths of so many steps at least, where so many lengths are tried
+unfoldable pub path_from : (T : Type 0) (same : T → T → Bool) (entry : T → List T) (to from : T) → ℕ → ℕ → Option (List T)
+path_from T same entry to from steps zero = None
+path_from T same entry to from steps (suc tries) =
+    sooner (path_of T same entry to steps from) (path_from T same entry to from (suc steps) tries)
+
+module _ (T : Type 0) (same : T → T → Bool) (equal : (a b : T) → same a b ≡ true → a ≡ b) (itself : (a : T) → same a a ≡ true) where
+  not_equal : (a b : T) → same a b ≡ false → a ≡ b → ⊥
+  not_equal a b differ is = let holds : same a b ≡ true = subst (λ t. same a t ≡ true) is (itself a) in cc
+
+  decided : (a b : T) → (a ≡ b) ⊎ (a ≡ b → ⊥)
+  decided a b = elim (cases_Bool (same a b)) [ inl is ↦ inl (equal a b is) | inr differ ↦ inr (not_equal a b differ) ]
+
   -- a target that stands in an entry has its place there
   has_place : (xs : List T) (x : T) (at : ℕ) → slice_get xs at ≡ Some x → (place : ℕ) × IsPlace xs x place
   has_place [] x at is = none_there x at is
@@ -138,26 +170,26 @@ module _ (T : Type 0) (decided : (a b : T) → (a ≡ b) ⊎ (a ≡ b → ⊥)) 
       abbrev HasNoPathOf : ℕ → T → Type 0
       HasNoPathOf steps from = (other : List T) → LeadsAlong entry from other to → length other ≡ steps → ⊥
 
-      abbrev HasPathOrNone : ℕ → T → Type 0
-      HasPathOrNone steps from = ((path : List T) × IsPathOf steps from path) ⊎ HasNoPathOf steps from
+      -- the first one, if there is one
+      abbrev IsSomePathOf : ℕ → T → Option (List T) → Type 0
+      IsSomePathOf steps from None = HasNoPathOf steps from
+      IsSomePathOf steps from (Some path) = IsPathOf steps from path
 
       nothing_before : (from : T) (other : List T) → LeadsBefore entry from other [] → ⊥
       nothing_before from [] before = before
       nothing_before from (next ∷ other) before = before
 
       not_at_once : (from : T) → (from ≡ to → ⊥) → HasNoPathOf 0 from
-      not_at_once from differ [] leads same = differ leads
-      not_at_once from differ (next ∷ other) leads same = omega arith
+      not_at_once from differ [] leads long = differ leads
+      not_at_once from differ (next ∷ other) leads long = omega arith
 
-      at_once : (from : T) → HasPathOrNone 0 from
-      at_once from =
-          elim (decided from to) [
-            | inl same ↦ inl ([], record { leads = same; long = refl; first = λ other leads long before. nothing_before from other before })
-            | inr differ ↦ inr (not_at_once from differ)
-          ]
+      at_once : (from : T) (test : Bool) → same from to ≡ test → IsSomePathOf 0 from (if test then Some [] else None)
+      at_once from true holds =
+          record { leads = equal from to holds; long = refl; first = λ other leads long before. nothing_before from other before }
+      at_once from false fails = not_at_once from (not_equal from to fails)
 
       -- with one step more, by the targets of the entry in turn
-      module _ (steps : ℕ) (found : (target : T) → HasPathOrNone steps target) (from : T) where
+      module _ (steps : ℕ) (paths : T → Option (List T)) (are : (target : T) → IsSomePathOf steps target (paths target)) (from : T) where
         abbrev NoneFrom : List T → Type 0
         NoneFrom front = (target : T) → Contains front target → HasNoPathOf steps target
 
@@ -171,10 +203,10 @@ module _ (T : Type 0) (decided : (a b : T) → (a ≡ b) ⊎ (a ≡ b → ⊥)) 
         none_before : (front : List T) (next : T) (others path : List T) → entry from ≡ front ++ next ∷ others → NoneFrom front
             → IsPathOf steps next path → (other : List T) → LeadsAlong entry from other to → length other ≡ suc steps
             → LeadsBefore entry from other (next ∷ path) → ⊥
-        none_before front next others path stands none is [] leads same before = before
-        none_before front next others path stands none is (target ∷ other) leads same (inl before) =
+        none_before front next others path stands none is [] leads long before = before
+        none_before front next others path stands none is (target ∷ other) leads long (inl before) =
             none target (in_front front next others target (subst (λ s. StandsBefore s target next) stands before)) other leads.1 (omega arith)
-        none_before front next others path stands none is (target ∷ other) leads same (inr (is_next, before)) =
+        none_before front next others path stands none is (target ∷ other) leads long (inr (is_next, before)) =
             is.first other (subst (λ t. LeadsAlong entry t other to) is_next leads.1) (omega arith)
             (subst (λ t. LeadsBefore entry t other path) is_next before)
 
@@ -190,27 +222,36 @@ module _ (T : Type 0) (decided : (a b : T) → (a ≡ b) ⊎ (a ≡ b → ⊥)) 
         }
 
         none_at_all : NoneFrom (entry from) → HasNoPathOf (suc steps) from
-        none_at_all none [] leads same = omega arith
-        none_at_all none (target ∷ other) leads same = none target leads.0 other leads.1 (omega arith)
+        none_at_all none [] leads long = omega arith
+        none_at_all none (target ∷ other) leads long = none target leads.0 other leads.1 (omega arith)
 
-        one_step_more : (front others : List T) → entry from ≡ front ++ others → NoneFrom front → HasPathOrNone (suc steps) from
-        one_step_more front [] stands none = inr (none_at_all (subst NoneFrom (sym (stands ∙ append-nil front)) none))
-        one_step_more front (next ∷ others) stands none =
-            elim (found next) [
-              | inl (path, is) ↦ inl (next ∷ path, through_next front next others path stands none is)
-              | inr here ↦
-                  one_step_more (front ++ next ∷ []) others (stands ∙ sym (append_assoc front (next ∷ []) others))
-                  (none_more front next none here)
-            ]
+        next_one : (front : List T) (next : T) (others : List T) (found rest : Option (List T)) → entry from ≡ front ++ next ∷ others
+            → NoneFrom front → IsSomePathOf steps next found → (NoneFrom (front ++ next ∷ []) → IsSomePathOf (suc steps) from rest)
+            → IsSomePathOf (suc steps) from (through next found rest)
+        next_one front next others None rest stands none here behind = behind (none_more front next none here)
+        next_one front next others (Some path) rest stands none here behind = through_next front next others path stands none here
 
-      path_or_none : (steps : ℕ) (from : T) → HasPathOrNone steps from
-      path_or_none zero from = at_once from
-      path_or_none (suc steps) from =
-          one_step_more steps (path_or_none steps) from [] (entry from) refl (λ target among. in_none target among)
+        first_through_is : (front others : List T) → entry from ≡ front ++ others → NoneFrom front
+            → IsSomePathOf (suc steps) from (first_through paths others)
+        first_through_is front [] stands none = none_at_all (subst NoneFrom (sym (stands ∙ append-nil front)) none)
+        first_through_is front (next ∷ others) stands none =
+            next_one front next others (paths next) (first_through paths others) stands none (are next)
+            (first_through_is (front ++ next ∷ []) others (stands ∙ sym (append_assoc front (next ∷ []) others)))
 
-      -- the shortest ones, where shorter ones are looked for first
+      path_of_is : (steps : ℕ) (from : T) → IsSomePathOf steps from (path_of T same entry to steps from)
+      unfolding path_of
+      path_of_is zero from = at_once from (same from to) refl
+      path_of_is (suc steps) from =
+          first_through_is steps (path_of T same entry to steps) (path_of_is steps) from [] (entry from) refl (λ target among. in_none target among)
+
+      -- no path has fewer steps
       abbrev NoneBelow : T → ℕ → Type 0
       NoneBelow from low = (other : List T) → LeadsAlong entry from other to → low ≤ length other
+
+      -- the first of the shortest paths makes a chain, if one has fewer steps than so many
+      abbrev IsPathBelow : T → ℕ → Option (List T) → Type 0
+      IsPathBelow from high None = NoneBelow from high
+      IsPathBelow from high (Some path) = IsFirstShortest entry from to (from ∷ path)
 
       one_longer : (from : T) (low : ℕ) → NoneBelow from low → HasNoPathOf low from → NoneBelow from (suc low)
       one_longer from low none here other leads =
@@ -223,39 +264,59 @@ module _ (T : Type 0) (decided : (a b : T) → (a ≡ b) ⊎ (a ≡ b → ⊥)) 
       none_shorter : (from : T) (low : ℕ) (path : List T) → NoneBelow from low → IsPathOf low from path
           → (chain : List T) → IsChain entry from to chain → length (from ∷ path) ≤ length chain
       none_shorter from low path none is [] leads = absurd leads
-      none_shorter from low path none is (first ∷ others) (same, leads) =
-          let below = none others (subst (λ t. LeadsAlong entry t others to) same leads) in
+      none_shorter from low path none is (first ∷ others) (begins, leads) =
+          let below = none others (subst (λ t. LeadsAlong entry t others to) begins leads) in
           let long = is.long in
           omega arith
 
       none_sooner : (from : T) (low : ℕ) (path : List T) → IsPathOf low from path
           → (chain : List T) → IsChain entry from to chain → length chain ≡ length (from ∷ path) → ComesBefore entry chain (from ∷ path) → ⊥
-      none_sooner from low path is [] leads same before = leads
-      none_sooner from low path is (first ∷ others) (begins, leads) same (again, before) =
-          let long = is.long in
+      none_sooner from low path is [] leads long before = leads
+      none_sooner from low path is (first ∷ others) (begins, leads) long (again, before) =
+          let short = is.long in
           is.first others (subst (λ t. LeadsAlong entry t others to) begins leads) (omega arith)
           (subst (λ t. LeadsBefore entry t others path) begins before)
 
-      soonest : (from : T) (low tries : ℕ) (path : List T) → LeadsAlong entry from path to → length path < low + tries
-          → NoneBelow from low → (first : List T) × IsFirstShortest entry from to first
-      soonest from low zero path leads bound none = let below = none path leads in absurd (omega arith)
-      soonest from low (suc tries) path leads bound none =
-          elim (path_or_none low from) [
-            | inl (first, is) ↦ (
-              from ∷ first,
-              record {
-                leads = (refl, is.leads);
-                shortest = none_shorter from low first none is;
-                first = none_sooner from low first is;
-              },
-            )
-            | inr here ↦ soonest from (suc low) tries path leads (omega arith) (one_longer from low none here)
-          ]
+      soonest : (from : T) (low high : ℕ) (found rest : Option (List T)) → NoneBelow from low → IsSomePathOf low from found
+          → (NoneBelow from (suc low) → IsPathBelow from high rest) → IsPathBelow from high (sooner found rest)
+      soonest from low high None rest none here behind = behind (one_longer from low none here)
+      soonest from low high (Some path) rest none is behind = record {
+        leads = (refl, is.leads);
+        shortest = none_shorter from low path none is;
+        first = none_sooner from low path is;
+      }
+
+      moved : (a b : ℕ) → suc a + b ≡ a + suc b
+      moved a b = omega arith
+
+      path_from_is : (from : T) (low tries : ℕ) → NoneBelow from low
+          → IsPathBelow from (low + tries) (path_from T same entry to from low tries)
+      unfolding path_from
+      path_from_is from low zero none = λ other leads. let below = none other leads in omega arith
+      path_from_is from low (suc tries) none =
+          soonest from low (low + suc tries) (path_of T same entry to low from) (path_from T same entry to from (suc low) tries)
+          none (path_of_is low from)
+          (λ more.
+          subst (λ high. IsPathBelow from high (path_from T same entry to from (suc low) tries)) (moved low tries)
+          (path_from_is from (suc low) tries more))
+
+      path_below : (from : T) (tries : ℕ) → IsPathBelow from (0 + tries) (path_from T same entry to from 0 tries)
+      path_below from tries = path_from_is from 0 tries (λ other leads. omega arith)
+
+      some_chain : (from : T) (found : Option (List T)) (path : List T) → IsPathBelow from (0 + (length path + 1)) found
+          → LeadsAlong entry from path to → (first : List T) × IsFirstShortest entry from to first
+      some_chain from None path is leads = let low = is path leads in absurd (omega arith)
+      some_chain from (Some first) path is leads = (from ∷ first, is)
 
       -- where there is a chain there is a first shortest one
       pub first_chains_exist : (from : T) (chain : List T) → IsChain entry from to chain
           → (first : List T) × IsFirstShortest entry from to first
       first_chains_exist from [] leads = absurd leads
-      first_chains_exist from (first ∷ path) (same, leads) =
-          soonest from 0 (length path + 1) path (subst (λ t. LeadsAlong entry t path to) same leads) (omega arith)
-          (λ other is. omega arith)
+      first_chains_exist from (first ∷ path) (begins, leads) =
+          some_chain from (path_from T same entry to from 0 (length path + 1)) path (path_below from (length path + 1))
+          (subst (λ t. LeadsAlong entry t path to) begins leads)
+
+      -- a path that is found where so many lengths are tried makes one
+      pub first_chain_found : (from : T) (tries : ℕ) (path : List T) → path_from T same entry to from 0 tries ≡ Some path
+          → IsFirstShortest entry from to (from ∷ path)
+      first_chain_found from tries path found = subst (IsPathBelow from (0 + tries)) found (path_below from tries)

@@ -1,5 +1,5 @@
 pub mod ExplainLaws
-mod FirstChains
+pub mod FirstChains
 pub mod Mapped
 pub mod OutputLaws
 pub mod PresentAfter

@@ -16,6 +16,7 @@ use Rattle.cc_meta_modules.specs.PresentTexts.{Texts, ArePresent, text_of, AreVe
 use Rattle.cc_meta_modules.specs.StandingDefinitions.{standing_in}
 use Rattle.cc_meta_modules.proofs.PresentLaws.{present_verdicts_exist, present_verdicts_are_unique}
 use Rattle.cc_meta_modules.proofs.FoundStanding.{found_by_texts}
+use Rattle.cc_mnf.specs.CoreModules.{device_names}
 use Rattle.cc_policy.specs.declared.policy.Rule.{Rule}
 use Rattle.cc_certificate_judging.proofs.BytesFound.{something_is_found, one_thing_is_found}
 use Rattle.cc_replies.specs.PolicyReplies.{audit_told, guard_told}
@@ -103,7 +104,7 @@ module _ (devices : List DeviceDecl) (rules : List Rule) (texts : Texts) (verdic
   answers_exist (ExplainDefinition module_name name) =
       explain_answer devices texts verdicts differ sorted are module_name name (standing_in texts verdicts module_name name) refl
   answers_exist (ReplayDefinition module_name name fuel text) =
-      entry_answer module_name name (replay_told devices module_name name fuel text) (ReplayRefused module_name name)
+      entry_answer module_name name (replay_told (device_names devices) module_name name fuel text) (ReplayRefused module_name name)
       (started_in texts verdicts module_name name) refl
 
 pub replies_exist : RepliesExist
@@ -200,7 +201,7 @@ module _ (devices : List DeviceDecl) (rules : List Rule) (texts : Texts) (first 
       (standing_in texts first module_name name) (standing_in texts second module_name name) one other
       (found_by_texts devices texts first second sorted a b module_name name) x y
   answers_alike (ReplayDefinition module_name name fuel text) one other x y =
-      answer_alike module_name name (replay_told devices module_name name fuel text) (ReplayRefused module_name name) one other x y
+      answer_alike module_name name (replay_told (device_names devices) module_name name fuel text) (ReplayRefused module_name name) one other x y
 
 pub replies_are_unique : RepliesAreUnique
 replies_are_unique devices state (PutText name text) first second sorted a b = a ∙ sym b

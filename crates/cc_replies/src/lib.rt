@@ -1,5 +1,5 @@
 //! The text of replies to commands that put, remove and check modules, show signatures and certificates, run definitions,
-//! and audit and guard them by a policy.
+//! audit and guard them by a policy, and compare lines with runs of them.
 #![tactic(auto)]
 
 pub mod certificates;
@@ -8,6 +8,7 @@ pub mod examples;
 pub mod laws;
 pub mod modules;
 pub mod policies;
+pub mod replays;
 pub mod runs;
 pub mod signatures;
 pub mod tasks;
