@@ -10,6 +10,8 @@ mod WorkedStatuses
 mod RunFacts
 mod SoundJobs
 mod GuardedRuns
+mod CarriedChains
+mod ReplayedRuns
 mod VerifiedTexts
 mod StartedTasks
 mod AllOf

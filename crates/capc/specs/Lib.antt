@@ -4,6 +4,7 @@ pub mod Requests
 pub mod Running
 pub mod SoundJobs
 pub mod GuardedRuns
+pub mod ReplayedRuns
 pub mod VerifiedTexts
 pub mod Carried
 pub mod Outcome

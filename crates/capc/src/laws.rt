@@ -3,6 +3,7 @@
 ghost use Rattle.capc.specs.StatusTable.{StatusesShow, JobsHaveSoManyBytes};
 ghost use Rattle.capc.specs.SoundJobs.{EveryJobIsSound, ShownRunsAreSafe, ShownTasksAreSafe};
 ghost use Rattle.capc.specs.GuardedRuns.{ShownGuardedRunsArePermitted, RefusedEntriesAreNotPermitted};
+ghost use Rattle.capc.specs.ReplayedRuns.{AgreeingTracesKeepTheAuthority, ShownRunsAreReplayed};
 ghost use Rattle.capc.specs.VerifiedTexts.{VerifiedTypesAreProved, ShownCertificatesAreValid};
 ghost use Rattle.capc.specs.Exactness.{AJobIsAnswered, WhatIsNoJobIsRefused, WhatIsTooLongIsRefused, AFaultIsTold, OnlyTheOutputIsWritten, OnlyStaleModulesAreJudged, AWorkloadIsSummarized, AFaultOfAWorkloadIsTold};
 
@@ -79,4 +80,11 @@ pub fn shown_guarded_runs_are_permitted()
 pub fn shown_certificates_are_valid()
     ensures proved { VerifiedTypesAreProved }
     ensures shown { ShownCertificatesAreValid }
+{}
+
+/// Lines that are said to agree with a definition are the trace of a run of its program that is answered from outside, and
+/// that is safe. What is shown of a run agrees with its definition.
+pub fn shown_runs_are_replayed()
+    ensures traces { AgreeingTracesKeepTheAuthority }
+    ensures runs { ShownRunsAreReplayed }
 {}
