@@ -62,6 +62,12 @@ entries_below-true number (entry ∷ others) holds (suc k) named among =
     (and_parts (all_below number entry) (entries_below (suc number) others) holds).1 k named among in
     omega arith
 
+-- the devices' entries name earlier ones alone
+pub two_devices_earlier : NamesEarlier example.two_devices
+unfolding entries_below all_below names_below
+two_devices_earlier = λ number named among.
+    let low = entries_below-true 0 example.two_devices refl number named among in omega arith
+
 -- that there is none is computed
 none_found :
     (links : Entries) (from : ℕ) (to : Target) → entries_below 0 links ≡ true → from < 8

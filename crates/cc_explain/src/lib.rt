@@ -7,3 +7,5 @@ pub mod links;
 mod step;
 mod steps;
 pub mod target;
+#[cfg(test)]
+mod tests;

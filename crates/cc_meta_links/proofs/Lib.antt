@@ -1,5 +1,5 @@
 mod CheckedInGlobals
 pub mod Linked
-mod Positions
+pub mod Positions
 mod Reached
 mod Worked

@@ -1,0 +1,3 @@
+mod EarlierEntries
+mod Listed
+mod Turned

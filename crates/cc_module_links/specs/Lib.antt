@@ -1,0 +1,3 @@
+pub mod ModuleLinks
+pub mod EntryLists
+pub mod Laws

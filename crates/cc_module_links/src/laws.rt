@@ -1,0 +1,7 @@
+//! The laws of the links of modules. The functions do nothing.
+ghost use Rattle.cc_module_links.specs.Laws as law;
+
+/// The entries of modules name earlier entries alone.
+pub fn entries_name_earlier_ones()
+    ensures { law.EntriesNameEarlier }
+{}
