@@ -1,4 +1,4 @@
-"""Measures jobs that run, link and derive, each at its full size and at half of it.
+"""Measures jobs that run, link, derive, audit and guard, each at its full size and at half of it.
 
 Usage: replies.py PROGRAM RUNS
 """
@@ -81,11 +81,29 @@ def derived(levels):
     return measured('capc 1\nput m 1\ndef main = fun (x: Int) => %s\nderive m.main\n' % text, ': (_0: Int) -> Int')
 
 
+hosted = ('capc 1\n%sput m 1\ndef main = fun (u: Unit) => %s\npolicy 256\n%sallow * *\n'
+          % (''.join('device d%d counter\n' % k for k in range(16)),
+             ''.join('val n%d = d%d.tick(); ' % (k, k) for k in range(16)) + 'unit', 'deny m2 d20\n' * 255))
+
+
+def policies(count):
+    """So many policies of 256 rules, of which the last one matches, each with an audit and a guard by it."""
+    rules = 'policy 256\n' + 'deny m d20\n' * 255 + 'allow * *\n'
+    return measured(hosted + (rules + 'audit m.main\nguard m.main 99\n') * count, 'done unit after 49 steps')
+
+
+def audits(count):
+    """So many audits of 16 devices by 256 rules, of which the last one matches."""
+    return measured(hosted + 'audit m.main\n' * count, 'd15 allow 256')
+
+
 shown('a million steps of a repetition', run_of(249998, 'unit', 500000), run_of(499998, 'unit', 1000000), 100)
 shown('a million steps that print all along', run_of(166000, 'out.print(i)', 498004), run_of(332000, 'out.print(i)', 996004), 300)
 shown('eight tasks with fuel 1,000,000', tasks_of(60000, 500000), tasks_of(60000, 1000000), 200)
 shown('1,000 runs of 1,000 steps of 40 modules', many_runs(500), many_runs(1000), 500)
 shown('a derivation of 57,330 nodes', derived(11), derived(12), 200)
+shown('1,400 policies of 256 rules, audits and guards', policies(700), policies(1400), 300)
+shown('320,000 audits of 16 devices by 256 rules', audits(160000), audits(320000), 10000)
 base = measured(wide(128), ' ok')[0], measured(wide(256), ' ok')[0]
 shown('linking 256 modules of 200 definitions',
       measured(wide(128) + 'run m127.main 2000\n', 'after 130 steps'),

@@ -26,7 +26,7 @@ use Rattle.cc_replies.specs.ReplyTexts.{Reply, Ran, Guarded, GuardRefused}
 use Rattle.cc_replies.specs.Requests.{JobState}
 use Rattle.cc_replies.specs.RunReplies.{declared_run}
 use Rattle.capc.specs.GuardedRuns.{IsShownGuardedRun, ShownGuardedRunsArePermitted, IsNotPermitted, RefusedEntriesAreNotPermitted}
-use Rattle.capc.proofs.SoundJobs.{run_shown}
+use Rattle.capc.proofs.SoundJobs.{entry_shown}
 
 -- what holds of all of a list holds of each that is listed
 all_listed : (P : ℕ → Type 0) (numbers : List ℕ) (number : ℕ) → AllByRecursion P numbers → IsListed number numbers → P number
@@ -60,22 +60,24 @@ module _ (devices : List DeviceDecl) (state : JobState) (differ : NamesOfDevices
   guarded_shown module_name name owner definition fuel authority events ending steps (Ok started) starts (entry, entered, same) =
       let told = tells_permitted (are_allowed (device_names devices) state.rules entry.module_name entry.authority)
       owner definition authority events ending steps module_name name entry.authority (declared_run devices fuel entry) same in
-      let shown = run_shown devices state.texts differ sorted verdicts are module_name name owner definition fuel authority events ending steps
-      (Ok started) starts (entry, entered, told.as_run) in
+      let (shown, is_entry) = entry_shown devices state.texts differ sorted verdicts are module_name name owner definition fuel authority events ending steps entry
+      (record { verdicts = verdicts; are = are; module_name = module_name; name = name; started = started; starts = starts; entered = entered }) told.as_run in
       let P : ℕ → Type 0 = Allows (device_names devices) state.rules module_name in
       let of_entry = (permission_is_tested (device_names devices) state.rules entry.module_name entry.authority).0 told.is_permitted in
-      let of_shown : AllByRecursion P authority = subst (AllByRecursion P) (sym shown.of_entry)
+      let of_shown : AllByRecursion P authority = subst (AllByRecursion P) (sym (shown.of_entry ∙ ap (λ e. e.authority) is_entry))
       (subst (λ m. AllByRecursion (Allows (device_names devices) state.rules m) entry.authority) entered.of_module of_entry) in
       record {
         shown = shown;
-        of_module = entered.of_module;
+        of_module = ap (λ e. e.module_name) is_entry ∙ entered.of_module;
         permitted = of_shown;
         operated = λ device operation literal among.
             all_listed P authority device of_shown
-            (shown.safe.authority device operation literal (subst (λ es. IsAmong (Operated device operation literal) es) (shown.has_events ∙ ap (λ r. r.events) shown.is_run) among));
+            (shown.safe.authority device operation literal
+            (subst (λ es. IsAmong (Operated device operation literal) es) (shown.has_events ∙ ap (λ r. r.events) shown.is_run) among));
         at_any_moment = λ now before leads device operation literal among.
             all_listed P authority device of_shown
-            ((shown.safe.moments (state_of (declared_devices devices) (program_start (program_entry entry))) [] (0, none)).permits now before leads device operation literal among);
+            ((shown.safe.moments (state_of (declared_devices devices) (program_start (program_entry shown.entry))) [] (0, none)).permits now before leads
+            device operation literal among);
       }
   guarded_shown module_name name owner definition fuel authority events ending steps (Err code) starts same = cc
 

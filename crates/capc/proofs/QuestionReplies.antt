@@ -47,6 +47,20 @@ too_large_at : (module_name name : List ℕ) (b : Bool) (lines : List (List ℕ)
 too_large_at module_name name true lines e = cc
 too_large_at module_name name false lines e = refl
 
+-- the answer about a definition, by what is told of its entry, or by why it is not to be started
+module _ (devices : List DeviceDecl) (texts : Texts) (verdicts : List ℕ → ModuleVerdict) (module_name name : List ℕ) (told : CheckedEntry → Reply)
+    (refused_by : Code → Reply) where
+  started_answer : (entry : DeclaredEntry) → IsAnswered devices texts verdicts module_name name (Ok entry)
+      → IsEntryAnswer devices texts verdicts module_name name told refused_by (started_in texts verdicts module_name name) (told (entry_of entry))
+  started_answer entry answered =
+      subst (λ r. IsEntryAnswer devices texts verdicts module_name name told refused_by r (told (entry_of entry))) (sym answered.1)
+      (entry_of entry, answered.2, refl)
+
+  refused_answer : (code : Code) → started_in texts verdicts module_name name ≡ Err code
+      → IsEntryAnswer devices texts verdicts module_name name told refused_by (started_in texts verdicts module_name name) (refused_by code)
+  refused_answer code is =
+      subst (λ r. IsEntryAnswer devices texts verdicts module_name name told refused_by r (refused_by code)) (sym is) refl
+
 module _ (devices : List DeviceDecl) (rules : List Rule) (texts : Texts) (verdicts : List ℕ → ModuleVerdict) (are : AreVerdicts devices texts verdicts)
     (old new : Option (List ℕ)) (result : Result Bool WriteAll) (text : List ℕ) (refused : Bool)
     (written : (t : List ℕ) → text ≡ t → WritesWhole old new result t) (told : IfOk result (λ answer. answer ≡ refused)) where
@@ -58,14 +72,6 @@ module _ (devices : List DeviceDecl) (rules : List Rule) (texts : Texts) (verdic
       (IfOk-weaker result _ _ (λ answer e. e ∙ tells) told)
 
   module _ (module_name name : List ℕ) where
-    -- the answer about a definition that is started, by what is told of its entry
-    started_answer : (told : CheckedEntry → Reply) (refused_by : Code → Reply) (entry : DeclaredEntry)
-        → IsAnswered devices texts verdicts module_name name (Ok entry)
-        → IsEntryAnswer devices texts verdicts module_name name told refused_by (started_in texts verdicts module_name name) (told (entry_of entry))
-    started_answer told refused_by entry answered =
-        subst (λ r. IsEntryAnswer devices texts verdicts module_name name told refused_by r (told (entry_of entry))) (sym answered.1)
-        (entry_of entry, answered.2, refl)
-
     pub run_shown : (fuel : ℕ) (names : List (List ℕ)) (declared : List DeviceDecl) (entry : DeclaredEntry) → declared ≡ devices → names ≡ device_names devices
         → IsAnswered devices texts verdicts module_name name (Ok entry)
         → text ≡ entry_text (codes "run") names module_name name declared fuel (entry_of entry)
@@ -74,20 +80,9 @@ module _ (devices : List DeviceDecl) (rules : List Rule) (texts : Texts) (verdic
     run_shown fuel names declared entry devices_are names_are answered said tells =
         let told : CheckedEntry → Reply = λ it. run_told module_name name it.authority (declared_run devices fuel it) in
         shown (Ask (RunDefinition module_name name fuel)) (told (entry_of entry))
-        (verdicts, are, started_answer told (RunRefused module_name name) entry answered)
+        (verdicts, are, started_answer devices texts verdicts module_name name told (RunRefused module_name name) entry answered)
         (said ∙ (λ i. entry_text (codes "run") (names_are i) module_name name (devices_are i) fuel (entry_of entry)))
         (tells ∙ (λ i. is_unfinished (declared_run (devices_are i) fuel (entry_of entry)).ending))
-
-    pub audit_shown : (names : List (List ℕ)) (entry : DeclaredEntry) → names ≡ device_names devices
-        → IsAnswered devices texts verdicts module_name name (Ok entry)
-        → text ≡ reply_text names (Audited module_name name (decisions names rules entry.module entry.authority.items)) → refused ≡ false
-        → IsReplied devices (holding_under rules texts) (Ask (AuditDefinition module_name name)) old new result
-    audit_shown names entry names_are answered said tells =
-        let told : CheckedEntry → Reply = audit_told devices rules module_name name in
-        shown (Ask (AuditDefinition module_name name)) (told (entry_of entry))
-        (verdicts, are, started_answer told (AuditRefused module_name name) entry answered)
-        (said ∙ (λ i. reply_text (names_are i) (Audited module_name name (decisions (names_are i) rules entry.module entry.authority.items))))
-        tells
 
     pub guard_shown : (fuel : ℕ) (names : List (List ℕ)) (declared : List DeviceDecl) (entry : DeclaredEntry) → declared ≡ devices → names ≡ device_names devices
         → IsAnswered devices texts verdicts module_name name (Ok entry)
@@ -97,7 +92,7 @@ module _ (devices : List DeviceDecl) (rules : List Rule) (texts : Texts) (verdic
     guard_shown fuel names declared entry devices_are names_are answered said tells =
         let told : CheckedEntry → Reply = guard_told devices rules module_name name fuel in
         shown (Ask (GuardDefinition module_name name fuel)) (told (entry_of entry))
-        (verdicts, are, started_answer told (GuardRefused module_name name) entry answered)
+        (verdicts, are, started_answer devices texts verdicts module_name name told (GuardRefused module_name name) entry answered)
         (said ∙ (λ i. reply_text (names_are i) (guard_told (devices_are i) rules module_name name fuel (entry_of entry))))
         (tells ∙ (λ i. is_refusal (guard_told (devices_are i) rules module_name name fuel (entry_of entry))))
 
@@ -145,22 +140,35 @@ module _ (devices : List DeviceDecl) (rules : List Rule) (texts : Texts) (verdic
         (said ∙ (λ i. reply_text (names_are i) (tasks_told (devices_are i) fuel schedule (map entry_of entries))))
         (tells ∙ (λ i. is_refusal (tasks_told (devices_are i) fuel schedule (map entry_of entries))))
 
+-- what the rules decide was written
+pub audit_shown : (devices : List DeviceDecl) (rules : List Rule) (texts : Texts) (verdicts : List ℕ → ModuleVerdict) → AreVerdicts devices texts verdicts
+    → (old new : Option (List ℕ)) (result : Result Bool WriteAll) (module_name name : List ℕ) (names : List (List ℕ)) (entry : DeclaredEntry) (authority : List ℕ)
+    → names ≡ device_names devices → authority ≡ entry.authority.items → IsAnswered devices texts verdicts module_name name (Ok entry)
+    → WritesWhole old new result (reply_text names (Audited module_name name (decisions names rules entry.module authority)))
+    → IfOk result (λ answer. answer ≡ false) → IsReplied devices (holding_under rules texts) (Ask (AuditDefinition module_name name)) old new result
+audit_shown devices rules texts verdicts are old new result module_name name names entry authority names_are authority_is answered written told =
+    replied devices (holding_under rules texts) (Ask (AuditDefinition module_name name)) (audit_told devices rules module_name name (entry_of entry))
+    (
+      verdicts,
+      are,
+      started_answer devices texts verdicts module_name name (audit_told devices rules module_name name) (AuditRefused module_name name) entry answered,
+    )
+    old new result
+    (subst (λ a. WritesWhole old new result (reply_text (device_names devices) (Audited module_name name (decisions (device_names devices) rules entry.module a))))
+    authority_is
+    (subst (λ ns. WritesWhole old new result (reply_text ns (Audited module_name name (decisions ns rules entry.module authority)))) names_are written))
+    told
+
 -- a reply that tells of a refusal was written
 module _ (devices : List DeviceDecl) (rules : List Rule) (texts : Texts) (verdicts : List ℕ → ModuleVerdict) (are : AreVerdicts devices texts verdicts)
     (old new : Option (List ℕ)) (result : Result Bool WriteAll) (told : IfOk result (λ answer. answer ≡ true)) where
   module _ (module_name name : List ℕ) where
-    -- the answer about a definition that is not started
-    refused_answer : (told : CheckedEntry → Reply) (refused_by : Code → Reply) (code : Code) → started_in texts verdicts module_name name ≡ Err code
-        → IsEntryAnswer devices texts verdicts module_name name told refused_by (started_in texts verdicts module_name name) (refused_by code)
-    refused_answer told refused_by code is =
-        subst (λ r. IsEntryAnswer devices texts verdicts module_name name told refused_by r (refused_by code)) (sym is) refl
-
     pub run_not_shown : (fuel : ℕ) (code : Code) → started_in texts verdicts module_name name ≡ Err code
         → WritesWhole old new result (reply_text [] (RunRefused module_name name code))
         → IsReplied devices (holding_under rules texts) (Ask (RunDefinition module_name name fuel)) old new result
     run_not_shown fuel code is written =
         replied devices (holding_under rules texts) (Ask (RunDefinition module_name name fuel)) (RunRefused module_name name code)
-        (verdicts, are, refused_answer (λ it. run_told module_name name it.authority (declared_run devices fuel it)) (RunRefused module_name name) code is)
+        (verdicts, are, refused_answer devices texts verdicts module_name name (λ it. run_told module_name name it.authority (declared_run devices fuel it)) (RunRefused module_name name) code is)
         old new result written told
 
     pub audit_not_shown : (code : Code) → started_in texts verdicts module_name name ≡ Err code
@@ -168,7 +176,7 @@ module _ (devices : List DeviceDecl) (rules : List Rule) (texts : Texts) (verdic
         → IsReplied devices (holding_under rules texts) (Ask (AuditDefinition module_name name)) old new result
     audit_not_shown code is written =
         replied devices (holding_under rules texts) (Ask (AuditDefinition module_name name)) (AuditRefused module_name name code)
-        (verdicts, are, refused_answer (audit_told devices rules module_name name) (AuditRefused module_name name) code is)
+        (verdicts, are, refused_answer devices texts verdicts module_name name (audit_told devices rules module_name name) (AuditRefused module_name name) code is)
         old new result written told
 
     pub guard_not_shown : (fuel : ℕ) (code : Code) → started_in texts verdicts module_name name ≡ Err code
@@ -176,7 +184,7 @@ module _ (devices : List DeviceDecl) (rules : List Rule) (texts : Texts) (verdic
         → IsReplied devices (holding_under rules texts) (Ask (GuardDefinition module_name name fuel)) old new result
     guard_not_shown fuel code is written =
         replied devices (holding_under rules texts) (Ask (GuardDefinition module_name name fuel)) (GuardRefused module_name name code)
-        (verdicts, are, refused_answer (guard_told devices rules module_name name fuel) (GuardRefused module_name name) code is)
+        (verdicts, are, refused_answer devices texts verdicts module_name name (guard_told devices rules module_name name fuel) (GuardRefused module_name name) code is)
         old new result written told
 
     pub replay_not_shown : (fuel : ℕ) (lines : List ℕ) (code : Code) → started_in texts verdicts module_name name ≡ Err code

@@ -19,7 +19,7 @@ use Rattle.cc_replies.specs.Replies.{after}
 use Rattle.cc_replies.specs.ReplyTexts.{Reply, Ran, TasksRan}
 use Rattle.cc_replies.specs.Requests.{Request, JobState, no_module}
 use Rattle.cc_meta_runs.specs.Links.{program_start}
-use Rattle.cc_replies.specs.RunReplies.{declared_run, IsRunAnswer, Unstarted, first_unstarted, HaveEntries, IsTasksAnswer}
+use Rattle.cc_replies.specs.RunReplies.{declared_run, run_told, IsRunAnswer, Unstarted, first_unstarted, HaveEntries, IsTasksAnswer}
 use Rattle.cc_replies.proofs.PresentAfter.{texts_stay_present}
 use Rattle.capc.specs.Requests.{request_of}
 use Rattle.capc.specs.SoundJobs.{EveryJobIsSound, IsShownRun, AreShownTasks, ShownRunsAreSafe, ShownTasksAreSafe}
@@ -50,24 +50,34 @@ module _ (devices : List DeviceDecl) (texts : Texts) (differ : NamesOfDevicesDif
   files : AreSoundFiles devices texts
   files = present_files_are_sound devices texts differ sorted
 
-  pub run_shown : (module_name name owner definition : List ℕ) (fuel : ℕ) (authority : List ℕ) (events : List Event) (ending : Ending) (steps : ℕ)
+  -- what is told of the run of an entry is shown of that run
+  pub entry_shown : (module_name name owner definition : List ℕ) (fuel : ℕ) (authority : List ℕ) (events : List Event) (ending : Ending) (steps : ℕ)
+      (entry : CheckedEntry) → IsPresentEntry devices texts entry
+      → Ran owner definition authority events ending steps ≡ run_told module_name name entry.authority (declared_run devices fuel entry)
+      → (shown : IsShownRun devices texts fuel authority events ending steps) × (shown.entry ≡ entry)
+  entry_shown module_name name owner definition fuel authority events ending steps entry present same =
+      let parts = same_run _ _ _ _ _ _ _ _ _ _ _ _ same in (
+        record {
+          entry = entry;
+          present = present;
+          of_entry = parts.authority;
+          told = declared_run devices fuel entry;
+          is_run = refl;
+          has_events = parts.told;
+          has_ending = parts.ends;
+          has_steps = parts.counted;
+          safe = subst (λ a. RunsSafely a (state_of (declared_devices devices) (program_start (program_entry entry))) fuel) (sym parts.authority) (files.runs entry present (declared_devices devices) files.declared fuel);
+        },
+        refl,
+      )
+
+  run_shown : (module_name name owner definition : List ℕ) (fuel : ℕ) (authority : List ℕ) (events : List Event) (ending : Ending) (steps : ℕ)
       (r : Result CheckedDefinition Code) → started_in texts verdicts module_name name ≡ r
       → IsRunAnswer devices texts verdicts module_name name fuel r (Ran owner definition authority events ending steps)
       → IsShownRun devices texts fuel authority events ending steps
   run_shown module_name name owner definition fuel authority events ending steps (Ok started) starts (entry, entered, same) =
-      let parts = same_run _ _ _ _ _ _ _ _ _ _ _ _ same in
-      let present : IsPresentEntry devices texts entry = record { verdicts = verdicts; are = are; module_name = module_name; name = name; started = started; starts = starts; entered = entered } in
-      record {
-        entry = entry;
-        present = present;
-        of_entry = parts.authority;
-        told = declared_run devices fuel entry;
-        is_run = refl;
-        has_events = parts.told;
-        has_ending = parts.ends;
-        has_steps = parts.counted;
-        safe = subst (λ a. RunsSafely a (state_of (declared_devices devices) (program_start (program_entry entry))) fuel) (sym parts.authority) (files.runs entry present (declared_devices devices) files.declared fuel);
-      }
+      (entry_shown module_name name owner definition fuel authority events ending steps entry
+      (record { verdicts = verdicts; are = are; module_name = module_name; name = name; started = started; starts = starts; entered = entered }) same).0
   run_shown module_name name owner definition fuel authority events ending steps (Err code) starts same = cc
 
   all_present : (tasks : List (List ℕ × List ℕ)) (entries : List CheckedEntry) → HaveEntries devices texts verdicts tasks entries

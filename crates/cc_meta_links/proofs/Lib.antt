@@ -1,5 +1,5 @@
-mod CheckedInGlobals
+pub mod CheckedInGlobals
 pub mod Linked
 pub mod Positions
-mod Reached
-mod Worked
+pub mod Reached
+pub mod Worked
