@@ -2,8 +2,11 @@ pub mod AgreeingReplays
 pub mod AlikeReplays
 pub mod AnswersInLines
 pub mod Comparisons
+pub mod FirstDifferences
 pub mod LineByLine
+pub mod LineSteps
 pub mod QuestionsTaken
 pub mod ReplayedRuns
 pub mod SafeTraces
 pub mod WorkedReplays
+pub mod WrittenRuns

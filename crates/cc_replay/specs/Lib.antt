@@ -1,5 +1,6 @@
 pub mod AnsweredRuns
 pub mod Comparing
 pub mod Examples
+pub mod LineLiterals
 pub mod ReplayLaws
 pub mod Replays

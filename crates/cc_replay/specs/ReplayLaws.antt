@@ -1,8 +1,10 @@
 -- What replays say.
-use Rattle.std.specs.Prelude.{◌≡◌, ◌≢◌, ℕ, ℤ, List, IsTrue}
+use Rattle.std.specs.Prelude.{◌≡◌, ◌≢◌, ℕ, suc, ℤ, List, [], ◌∷◌, ◌++◌, length, IsTrue, encode_utf8_all}
+use Rattle.std.specs.List.{AllByRecursion, flat_map}
 use Rattle.cc_base.specs.Literals.{Literal, NumberLiteral}
 use Rattle.cc_base.specs.declared.literal.Base.TheVariants as bases
 use Rattle.cc_base.specs.declared.literal.Op.{Op}
+use Rattle.cc_certificate.specs.Laws.{IsOneLine}
 use Rattle.cc_core.specs.Programs.{Entry, IsEntry}
 use Rattle.cc_core.specs.Stores.{DeviceCell}
 use Rattle.cc_core.specs.Typing.{base_operated, base_answered}
@@ -15,8 +17,10 @@ use Rattle.cc_meta_runs.specs.Runs.{State, IsStopped, Run, run}
 use Rattle.cc_meta_runs.specs.Soundness.{scopes_of, IsListed, IsSound}
 use Rattle.cc_meta_runs.specs.SoundRuns.{IsSoundState, IsAmong}
 use Rattle.cc_replay.specs.AnsweredRuns.{GoesOnTo, AnsweredRun, ending_after, trace_lines, trace_of}
+use Rattle.cc_replay.specs.LineLiterals.{IsLineState}
 use Rattle.cc_replay.specs.Replays.{replay}
-use Rattle.cc_replay.specs.declared.replaying.Replayed.TheVariants.{Agrees}
+use Rattle.cc_replay.specs.declared.replaying.Replayed.TheVariants.{Agrees, Differs}
+use Rattle.cc_words.specs.Lines.{lines_of}
 use Rattle.cc_words.specs.Words.{has_64_bits}
 
 -- A replay agrees exactly where the lines are the trace of a run whose devices are answered from outside.
@@ -25,6 +29,34 @@ AgreeingLinesAreTraces =
     (names : List (List ℕ)) (fuel : ℕ) (start : Configuration) (lines : List (List ℕ))
     → (replay names fuel start lines ≡ Agrees → (it : AnsweredRun fuel start) × (lines ≡ trace_of names it))
     × ((it : AnsweredRun fuel start) → lines ≡ trace_of names it → replay names fuel start lines ≡ Agrees)
+
+-- the lines begin the trace of such a run
+abbrev pub BeginTrace : List (List ℕ) → ℕ → Configuration → List (List ℕ) → Type 0
+BeginTrace names fuel start front =
+    (it : AnsweredRun fuel start) × (behind : List (List ℕ)) × (trace_of names it ≡ front ++ behind)
+
+-- with the lines and the next one no trace begins, or where no line is left, they are none
+abbrev pub BeginNoTraceWith : List (List ℕ) → ℕ → Configuration → List (List ℕ) → List (List ℕ) → Type 0
+BeginNoTraceWith names fuel start front [] = (it : AnsweredRun fuel start) → trace_of names it ≢ front
+BeginNoTraceWith names fuel start front (next ∷ others) = BeginTrace names fuel start (front ++ next ∷ []) → ⊥
+
+-- The line, from 1 on, is the first with which no trace goes on: a trace begins with the lines before it, and none with
+-- it too. Where it is behind the last line, one is needed there.
+pub record IsFirstDifference (names : List (List ℕ)) (fuel : ℕ) (start : Configuration) (lines : List (List ℕ))
+    (line : ℕ) : Type 0 where
+  pub front : List (List ℕ)
+  pub rest : List (List ℕ)
+  pub split : lines ≡ front ++ rest
+  pub counted : line ≡ suc (length front)
+  pub begins : BeginTrace names fuel start front
+  pub differs : BeginNoTraceWith names fuel start front rest
+
+-- A replay differs exactly at that line.
+abbrev pub ReplaysDifferFirst : Type 0
+ReplaysDifferFirst =
+    (names : List (List ℕ)) (fuel : ℕ) (start : Configuration) (lines : List (List ℕ)) (line : ℕ)
+    → (replay names fuel start lines ≡ Differs line → IsFirstDifference names fuel start lines line)
+    × (IsFirstDifference names fuel start lines line → replay names fuel start lines ≡ Differs line)
 
 -- What holds of a run from a sound configuration, whatever its devices are answered: it is stuck nowhere; each device
 -- that is operated is reached by what the configuration captures; and the events lead from the scopes that stand at its
@@ -79,6 +111,18 @@ RunsAreReplayed =
     (names : List (List ℕ)) (fuel : ℕ) (start : State) → IsSoundState start
     → HasAnswersOf64Bits (run fuel start).events
     → replay names fuel start.configuration (lines_of_run names (run fuel start)) ≡ Agrees
+
+-- the lines, each with a line feed behind it
+abbrev pub written_lines : List (List ℕ) → List ℕ
+written_lines lines = flat_map (λ line. line ++ 10 ∷ []) lines
+
+-- So it is with the text of these lines, where the names of the devices have no line feed, and where each number is one
+-- of 64 bits at the start and no text has a line feed.
+abbrev pub WrittenRunsAreReplayed : Type 0
+WrittenRunsAreReplayed =
+    (names : List (List ℕ)) (fuel : ℕ) (start : State) → IsSoundState start → IsLineState start
+    → AllByRecursion (λ name. IsOneLine (encode_utf8_all name)) names
+    → replay names fuel start.configuration (lines_of (written_lines (lines_of_run names (run fuel start)))) ≡ Agrees
 
 -- Types and shapes that are written decide no replay.
 abbrev pub AlikeReplayAlike : Type 0

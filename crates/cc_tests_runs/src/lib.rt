@@ -11,6 +11,8 @@ mod million_steps;
 #[cfg(test)]
 mod programs;
 #[cfg(test)]
+mod replaying;
+#[cfg(test)]
 mod rows;
 #[cfg(test)]
 mod stepping;
