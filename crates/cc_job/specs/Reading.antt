@@ -248,10 +248,10 @@ rules_cut (suc count) (b ∷ bs) =
     before_rules (rule_of (next_line (b ∷ bs)).0) (rules_cut count (next_line (b ∷ bs)).1)
 
 -- what the lines that were read are
-abbrev pub AreLines : RuleLines → Rules → Type 0
-AreLines (ReadLines policy behind) rules = rules ≡ Are policy behind.now
-AreLines (BadRuleLine place) rules = rules ≡ BadRule place
-AreLines CutLines rules = rules ≡ TooFew
+abbrev pub rules_in : RuleLines → Rules
+rules_in (ReadLines policy behind) = Are policy behind.now
+rules_in (BadRuleLine place) = BadRule place
+rules_in CutLines = TooFew
 
 -- whether a device has the name
 abbrev pub has_device : List DeviceDecl → DeviceDecl → Bool
