@@ -12,4 +12,5 @@ pub mod WorkloadOutcome
 pub mod Calls
 pub mod Exactness
 pub mod Endings
+pub mod Explaining
 pub mod StatusTable

@@ -1,3 +1,4 @@
+pub mod ChainTexts
 pub mod ExplainLaws
 pub mod FirstChains
 pub mod Mapped

@@ -2,6 +2,7 @@ pub mod CertificateTexts
 pub mod DerivationTexts
 pub mod Examples
 pub mod ExplainReplies
+pub mod Explanations
 pub mod Laws
 pub mod Outputs
 pub mod PolicyReplies

@@ -3,8 +3,10 @@
 #![tactic(auto)]
 
 pub mod certificates;
+pub mod chains;
 pub mod derivations;
 pub mod examples;
+pub mod explanations;
 pub mod laws;
 pub mod modules;
 pub mod policies;
