@@ -1,3 +1,4 @@
 mod EarlierEntries
 mod Listed
+mod NumberedEntries
 mod Turned

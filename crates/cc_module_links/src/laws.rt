@@ -5,3 +5,8 @@ ghost use Rattle.cc_module_links.specs.Laws as law;
 pub fn entries_name_earlier_ones()
     ensures { law.EntriesNameEarlier }
 {}
+
+/// The entry of a definition has what it links to by its names, each with its number.
+pub fn entries_are_numbered()
+    ensures { law.EntriesAreNumbered }
+{}
