@@ -293,3 +293,86 @@ named_at ms module_name name number it =
     ∙ get_behind (definition_names it.earlier) (map pair among.before ++ (pair among.one ∷ (map pair among.after ++ definition_names it.later))) (length (map pair among.before))
     ∙ get_at (map pair among.before) (pair among.one) (map pair among.after ++ definition_names it.later)
     ∙ (λ i. Some (sym it.of_module i, sym among.named i))
+
+-- what stands in one of two lists that are joined
+get_cases : {A : Type 0} (xs ys : List A) (k : ℕ) (x : A) → slice_get (xs ++ ys) k ≡ Some x
+    → (slice_get xs k ≡ Some x) ⊎ ((j : ℕ) × (k ≡ length xs + j) × (slice_get ys j ≡ Some x))
+get_cases [] ys k x is = inr (k, (omega arith), is)
+get_cases (z ∷ xs) ys zero x is = inl is
+get_cases (z ∷ xs) ys (suc k) x is =
+    elim (get_cases xs ys k x is) [
+      | inl here ↦ inl here
+      | inr (j, at, there) ↦ inr (j, omega arith, there)
+    ]
+
+second_same : (m n o p : List ℕ) → Some (m, n) ≡ Some (o, p) → n ≡ p
+second_same m n o p h = cc
+
+first_same : (m n o p : List ℕ) → Some (m, n) ≡ Some (o, p) → m ≡ o
+first_same m n o p h = cc
+
+-- a definition that stands among those of a module
+record StandsAmong (owner : List ℕ) (ds : List CheckedDefinition) (module_name name : List ℕ) (k : ℕ) : Type 0 where
+  of_owner : module_name ≡ owner
+  among : PlacedAmong ds name k
+
+stands_among : (owner : List ℕ) (ds : List CheckedDefinition) (module_name name : List ℕ) (k : ℕ)
+    → slice_get (map (λ one. (owner, one.name)) ds) k ≡ Some (module_name, name) → StandsAmong owner ds module_name name k
+stands_among owner [] module_name name k is = cc
+stands_among owner (d ∷ ds) module_name name zero is = record {
+  of_owner = first_same module_name name owner d.name (sym is);
+  among = record { before = []; one = d; after = ds; parts = refl; named = second_same module_name name owner d.name (sym is); at = refl };
+}
+stands_among owner (d ∷ ds) module_name name (suc k) is =
+    let it = stands_among owner ds module_name name k is in
+    record { of_owner = it.of_owner; among = place_behind d ds name k it.among }
+
+from_names : (front : List Module) (ms : List CheckedModule) (module_name name : List ℕ) (k : ℕ)
+    → slice_get (definition_names ms) k ≡ Some (module_name, name) → PlacedIn front ms module_name name (count_definitions front + k)
+from_names front [] module_name name k is = cc
+from_names front (m ∷ ms) module_name name k is =
+    elim (get_cases (names_in m) (definition_names ms) k (module_name, name) is) [
+      | inl here ↦
+          let it = stands_among m.name m.definitions module_name name k here in
+          record {
+            earlier = [];
+            current = m;
+            later = ms;
+            modules = refl;
+            of_module = it.of_owner;
+            place = k;
+            among = it.among;
+            at = refl;
+          }
+      | inr (j, at, there) ↦
+          let rest = from_names (program_module m ∷ front) ms module_name name j there in
+          let here : length (reverse (map in_program m.definitions)) ≡ length m.definitions =
+          length-reverse (map in_program m.definitions) ∙ length-map m.definitions in_program in
+          let names : length (names_in m) ≡ length m.definitions = length-map m.definitions (λ (one : CheckedDefinition). (m.name, one.name)) in
+          let same : count_definitions (program_module m ∷ front) + j ≡ count_definitions front + k = omega arith in
+          placed_behind front m ms module_name name (count_definitions front + k)
+          (subst (PlacedIn (program_module m ∷ front) ms module_name name) same rest)
+    ]
+
+-- where the names of a definition stand, it has this number
+pub named_is_placed : (ms : List CheckedModule) (module_name name : List ℕ) (k : ℕ)
+    → slice_get (definition_names ms) k ≡ Some (module_name, name) → PlacedIn [] ms module_name name k
+named_is_placed ms module_name name k is = from_names [] ms module_name name k is
+
+-- the definitions before another have their numbers, one after the other
+pub before_numbered : (number : List ℕ → List ℕ → ℕ) (module_name : List ℕ) (first : ℕ) (before : List CheckedDefinition)
+    → ((front : List CheckedDefinition) (one : CheckedDefinition) (rest : List CheckedDefinition) → before ≡ front ++ one ∷ rest
+    → number module_name one.name ≡ first + length front)
+    → AreNumbered number module_name first before
+before_numbered number module_name first [] each = tt
+before_numbered number module_name first (one ∷ rest) each = (
+  each [] one rest refl ∙ none_more first,
+  before_numbered number module_name (first + 1) rest
+      (λ front d behind parts. each (one ∷ front) d behind (ap (λ xs. one ∷ xs) parts) ∙ one_more first (length front)),
+)
+  where
+    none_more : (a : ℕ) → a + 0 ≡ a
+    none_more a = omega arith
+
+    one_more : (a b : ℕ) → a + suc b ≡ a + 1 + b
+    one_more a b = omega arith

@@ -11,6 +11,7 @@ mod RunFacts
 mod SoundJobs
 mod GuardedRuns
 mod CarriedChains
+mod DefinitionNumbers
 mod ReplayedRuns
 mod VerifiedTexts
 mod StartedTasks
