@@ -12,6 +12,10 @@ mod SoundJobs
 mod GuardedRuns
 mod CarriedChains
 mod DefinitionNumbers
+mod RecursiveTypes
+mod ExplainingFacts
+mod LinkedDefinitions
+mod Explained
 mod ReplayedRuns
 mod VerifiedTexts
 mod StartedTasks

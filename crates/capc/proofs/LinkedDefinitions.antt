@@ -198,3 +198,317 @@ without_own devices module_name it true below (Variable (Free position)) among =
 without_own devices module_name it true below (Variable (Bound index)) among = refl
 without_own devices module_name it true below Cap among = refl
 without_own devices module_name it true below (Hole number) among = refl
+
+-- THE MODULES THAT ARE LINKED FOR A DEFINITION
+module _ (devices : List DeviceDecl) (texts : Texts) (verdicts : List ℕ → ModuleVerdict) (differ : NamesOfDevicesDiffer devices)
+    (sorted : ArePresent texts) (are : AreVerdicts devices texts verdicts) (from : List ℕ) (starting : is_accepted_module texts verdicts from ≡ true)
+    (names : List (List ℕ)) (order : IsOrder (graph_of texts) names) where
+  abbrev chosen : List (List ℕ)
+  chosen = filter (is_reached (graph_of texts) from) names
+
+  abbrev pub linked : List CheckedModule
+  linked = map (present_module texts verdicts) chosen
+
+  abbrev turned : List Module
+  turned = modules_turned [] linked
+
+  chosen_accepted : AllByRecursion (λ n. is_accepted_module texts verdicts n ≡ true) chosen
+  chosen_accepted =
+      weaker (λ n. is_reached (graph_of texts) from n ≡ true) (λ n. is_accepted_module texts verdicts n ≡ true)
+      (reach_accepted devices texts verdicts are from starting).0 chosen (all_kept (is_reached (graph_of texts) from) names)
+
+  it_is : (name : List ℕ) → is_accepted_module texts verdicts name ≡ true → IsModule devices texts verdicts name
+  it_is name accepted = accepted_module devices texts verdicts differ sorted are name accepted
+
+  plain_is : map program_module linked ≡ map (plain_module texts verdicts) chosen
+  plain_is = map-map program_module (present_module texts verdicts) chosen
+
+  imports_by_graph : (name : List ℕ) → is_accepted_module texts verdicts name ≡ true
+      → map (λ names. names.module_name) (plain_module texts verdicts name).imports ≡ imported_from (graph_of texts) name
+  imports_by_graph name accepted =
+      let it = it_is name accepted in
+      ap (map (λ (names : Import). names.module_name)) (its_imports devices texts verdicts name it)
+      ∙ map-map (λ (names : Import). names.module_name) import_of it.imports
+      ∙ sym (ap (λ o. unwrap_or o []) (lookup_graph texts name it.text it.imports it.is_text it.reads))
+
+  in_order : AreInOrder (map (plain_module texts verdicts) chosen)
+  in_order =
+      let modules = map (plain_module texts verdicts) chosen in
+      let P : Module → Type 0 = λ current. map (λ names. names.module_name) current.imports ≡ imported_from (graph_of texts) current.name in
+      let L : List (List ℕ) → Type 0 = λ ns. are_linked_in_order (graph_of texts) [] ns ≡ true in
+      linked_modules (graph_of texts) modules
+      (all_turned P modules (all_mapped (λ n. is_accepted_module texts verdicts n ≡ true) P (plain_module texts verdicts) imports_by_graph chosen chosen_accepted))
+      (subst L
+      (filter-reverse (is_reached (graph_of texts) from) names
+      ∙ sym (map-reverse (λ (current : Module). current.name) modules
+      ∙ ap reverse (map-map (λ (current : Module). current.name) (plain_module texts verdicts) chosen ∙ map_itself chosen)))
+      (linked_orders devices texts verdicts are from starting names order))
+
+  plain_present : AllPresent texts verdicts (reverse (map (plain_module texts verdicts) chosen))
+  plain_present =
+      let P : Module → Type 0 = λ current. current ≡ plain_module texts verdicts current.name in
+      all_turned P (map (plain_module texts verdicts) chosen) (all_of_map P (plain_module texts verdicts) (λ n. refl) chosen)
+
+  plain_accepted : AllByRecursion (λ current. is_accepted_module texts verdicts current.name ≡ true) (reverse (map (plain_module texts verdicts) chosen))
+  plain_accepted =
+      let P : Module → Type 0 = λ current. is_accepted_module texts verdicts current.name ≡ true in
+      all_turned P (map (plain_module texts verdicts) chosen)
+      (all_mapped (λ n. is_accepted_module texts verdicts n ≡ true) P (plain_module texts verdicts) (λ n h. h) chosen chosen_accepted)
+
+  imports_there : OfEachModule ImportsAreThere turned
+  imports_there =
+      subst (OfEachModule ImportsAreThere) (ap reverse (sym plain_is) ∙ turned_is linked)
+      (of_each devices texts verdicts differ sorted are ImportsAreThere
+      (λ older name it present ready. imports_are_there devices texts verdicts differ sorted are older name it present ready) []
+      (reverse (map (plain_module texts verdicts) chosen)) plain_present plain_accepted in_order)
+
+  linked_accepted : AllByRecursion (λ m. is_accepted_module texts verdicts m.name ≡ true) linked
+  linked_accepted =
+      all_mapped (λ n. is_accepted_module texts verdicts n ≡ true) (λ (m : CheckedModule). is_accepted_module texts verdicts m.name ≡ true)
+      (present_module texts verdicts) (λ n h. h) chosen chosen_accepted
+
+  linked_present : AllByRecursion (λ m. m ≡ present_module texts verdicts m.name) linked
+  linked_present = all_of_map (λ (m : CheckedModule). m ≡ present_module texts verdicts m.name) (present_module texts verdicts) (λ n. refl) chosen
+
+  its_names : (name : List ℕ) → is_accepted_module texts verdicts name ≡ true
+      → IsDistinct bytes_eq (map (λ one. one.name) (present_module texts verdicts name).definitions)
+  its_names name accepted =
+      let it = it_is name accepted in
+      subst (λ ds. IsDistinct bytes_eq (map (λ (one : CheckedDefinition). one.name) ds)) (sym (ap definitions_of it.accepted)) it.sound.names
+
+  different : HaveDifferentNames linked
+  different = record {
+    modules =
+        subst (IsDistinct bytes_eq)
+        (map-map (λ (m : Module). m.name) (plain_module texts verdicts) chosen ∙ sym (map-map (λ (m : CheckedModule). m.name) (present_module texts verdicts) chosen))
+        (ordered_distinct texts verdicts (map (plain_module texts verdicts) chosen) plain_present in_order);
+    definitions =
+        all_mapped (λ n. is_accepted_module texts verdicts n ≡ true) (λ (m : CheckedModule). IsDistinct bytes_eq (map (λ one. one.name) m.definitions))
+        (present_module texts verdicts) its_names chosen chosen_accepted;
+  }
+
+  -- the number of a definition
+  pub number : List ℕ → List ℕ → ℕ
+  number module_name name = unwrap_or (position_in 0 module_name name turned) 0
+
+  -- what is linked
+  abbrev pub Known : Target → Type 0
+  Known (DefinitionOf module_name name) = (k : ℕ) × (position_in 0 module_name name turned ≡ Some k)
+  Known (DeviceAt device) = Unit {0}
+  Known Universal = Unit {0}
+
+  no_number : {B : Type 0} (k : ℕ) → None ≡ Some k → B
+  no_number k h = cc
+
+  number_is : (module_name name : List ℕ) (k : ℕ) → position_in 0 module_name name turned ≡ Some k → number module_name name ≡ k
+  unfolding number
+  number_is module_name name k is = ap (λ o. unwrap_or o 0) is
+
+  pub placed : (module_name name : List ℕ) → Known (DefinitionOf module_name name) → PlacedIn [] linked module_name name (number module_name name)
+  placed module_name name (k, is) =
+      elim (found_in_modules [] linked module_name name k is) [
+        | inl nowhere ↦ no_number k nowhere
+        | inr it ↦ subst (PlacedIn [] linked module_name name) (sym (number_is module_name name k is)) it
+      ]
+
+  pub known : (module_name name : List ℕ) (k : ℕ) → PlacedIn [] linked module_name name k → Known (DefinitionOf module_name name)
+  known module_name name k it = (k, placed_is_found linked different module_name name k it)
+
+  pub numbered_so : (module_name name : List ℕ) (k : ℕ) → PlacedIn [] linked module_name name k → number module_name name ≡ k
+  numbered_so module_name name k it = number_is module_name name k (placed_is_found linked different module_name name k it)
+
+  -- one of the linked modules, with what stands before one of its definitions
+  module _ (module_name name : List ℕ) (k : ℕ) (it : PlacedIn [] linked module_name name k) where
+    abbrev current : CheckedModule
+    current = it.current
+
+    abbrev its : PlacedAmong it.current.definitions name it.place
+    its = it.among
+
+    its_present : it.current ≡ present_module texts verdicts it.current.name
+    its_present =
+        one_of (λ (m : CheckedModule). m ≡ present_module texts verdicts m.name) it.earlier it.current it.later
+        (subst (AllByRecursion (λ (m : CheckedModule). m ≡ present_module texts verdicts m.name)) it.modules linked_present)
+
+    its_accepted : is_accepted_module texts verdicts it.current.name ≡ true
+    its_accepted =
+        one_of (λ (m : CheckedModule). is_accepted_module texts verdicts m.name ≡ true) it.earlier it.current it.later
+        (subst (AllByRecursion (λ (m : CheckedModule). is_accepted_module texts verdicts m.name ≡ true)) it.modules linked_accepted)
+
+    abbrev is_module : IsModule devices texts verdicts it.current.name
+    is_module = it_is it.current.name its_accepted
+
+    -- it stands in the present module
+    standing : Standing
+    standing = record {
+      imports = it.current.imports;
+      findings = findings_for texts verdicts it.current.name is_module.text;
+      before = its.before;
+      definition = its.one;
+    }
+
+    stands : StandsIn texts verdicts it.current.name standing
+    unfolding standing
+    stands = record {
+      text = is_module.text;
+      is_text = is_module.is_text;
+      imports_are =
+          is_module.reads
+          ∙ ap (λ o. Some o) (sym (ap (λ (m : CheckedModule). m.imports) its_present
+          ∙ ap (λ o. unwrap_or (imports_of (unwrap_or o [])) []) is_module.is_text ∙ ap (λ o. unwrap_or o []) is_module.reads));
+      findings_are = refl;
+      after = its.after;
+      accepted =
+          is_module.accepted
+          ∙ ap IsAccepted (sym (ap (λ (m : CheckedModule). m.definitions) its_present ∙ ap definitions_of is_module.accepted) ∙ its.parts);
+    }
+
+    -- its entry, by names
+    entry_named : entry_in devices texts verdicts (DefinitionOf it.current.name its.one.name)
+        ≡ filter_map (target_of (earlier_targets devices it.current.name standing)) its.one.accepted.type.set.list
+    unfolding standing
+    entry_named =
+        ap (entry_or_none devices it.current.name) (found_in devices texts verdicts differ sorted are it.current.name standing stands)
+        ∙ same_filtered (target_of (standing_targets devices it.current.name standing)) (target_of (earlier_targets devices it.current.name standing))
+        its.one.accepted.type.set.list
+        (without_own devices it.current.name standing its.one.recursive
+        (λ recursive position among.
+        own_set_is_over_devices devices texts verdicts differ sorted are it.current.name standing stands recursive position
+        ((Member-list (Variable (Free position)) its.one.accepted.type.set).1 among)))
+
+    -- what it imports has a number among the earlier modules, which is its number
+    import_known : (one : ImportSyntax) → is_some (imported (modules_turned [] it.earlier) (import_of one)) ≡ true
+        → position_in 0 one.source one.name (modules_turned [] it.earlier) ≡ Some (number one.source one.name)
+    import_known one there =
+        let (d, found) = some_there (imported (modules_turned [] it.earlier) (import_of one)) there in
+        let (q, at, rest) = definition_found [] (modules_turned [] it.earlier) one.source one.name d found in
+        elim (found_in_modules [] it.earlier one.source one.name q at) [
+          | inl nowhere ↦ no_number q nowhere
+          | inr placed_there ↦
+              let here : PlacedIn [] linked one.source one.name q = record {
+                earlier = placed_there.earlier;
+                current = placed_there.current;
+                later = placed_there.later ++ it.current ∷ it.later;
+                modules =
+                    it.modules ∙ ap (λ ms. ms ++ it.current ∷ it.later) placed_there.modules
+                    ∙ append_assoc placed_there.earlier (placed_there.current ∷ placed_there.later) (it.current ∷ it.later);
+                of_module = placed_there.of_module;
+                place = placed_there.place;
+                among = placed_there.among;
+                at = placed_there.at;
+              } in
+              at ∙ ap (λ n. Some n) (sym (numbered_so one.source one.name q here))
+        ]
+
+    imports_known : AllByRecursion (λ one. position_in 0 one.source one.name (modules_turned [] it.earlier) ≡ Some (number one.source one.name)) it.current.imports
+    imports_known =
+        let Q : Import → Type 0 = λ names. is_some (imported (modules_turned [] it.earlier) names) ≡ true in
+        let there = of_one ImportsAreThere [] it.earlier it.current it.later
+        (subst (λ ms. OfEachModule ImportsAreThere (modules_turned [] ms)) it.modules imports_there) in
+        let all : AllByRecursion Q (map import_of it.current.imports) =
+        subst (AllByRecursion Q) (reverse-reverse (map import_of it.current.imports)) (all_turned Q (reverse (map import_of it.current.imports)) there) in
+        weaker (λ one. Q (import_of one)) (λ one. position_in 0 one.source one.name (modules_turned [] it.earlier) ≡ Some (number one.source one.name))
+        import_known it.current.imports (all_unmapped Q import_of it.current.imports all)
+
+    -- so have the definitions before it
+    before_placed : (front : List CheckedDefinition) (one : CheckedDefinition) (rest : List CheckedDefinition) → its.before ≡ front ++ one ∷ rest
+        → PlacedIn [] linked it.current.name one.name (count_definitions (modules_turned [] it.earlier) + length front)
+    before_placed front one rest parts = record {
+      earlier = it.earlier;
+      current = it.current;
+      later = it.later;
+      modules = it.modules;
+      of_module = refl;
+      place = length front;
+      among = record {
+        before = front;
+        one = one;
+        after = rest ++ its.one ∷ its.after;
+        parts = its.parts ∙ ap (λ xs. xs ++ its.one ∷ its.after) parts ∙ append_assoc front (one ∷ rest) (its.one ∷ its.after);
+        named = refl;
+        at = refl;
+      };
+      at = refl;
+    }
+
+    before_is_numbered : AreNumbered number it.current.name (count_definitions (modules_turned [] it.earlier)) its.before
+    before_is_numbered =
+        before_numbered number it.current.name (count_definitions (modules_turned [] it.earlier)) its.before
+        (λ front one rest parts.
+        numbered_so it.current.name one.name (count_definitions (modules_turned [] it.earlier) + length front) (before_placed front one rest parts))
+
+    -- its entry, by numbers
+    entry_numbered : targets_of (links_in (length devices) linked) (numbers.Definition k)
+        ≡ map (numbered number) (entry_in devices texts verdicts (DefinitionOf it.current.name its.one.name))
+    unfolding standing
+    entry_numbered =
+        ap (λ n. targets_of (links_in (length devices) linked) (numbers.Definition n)) (it.at ∙ ap (λ p. count_definitions (modules_turned [] it.earlier) + p) its.at)
+        ∙ ap (λ ms. targets_of (links_in (length devices) ms) (numbers.Definition (count_definitions (modules_turned [] it.earlier) + length its.before))) it.modules
+        ∙ entries_are_numbered devices it.earlier it.current it.later standing.findings its.before its.one its.after number its.parts imports_known before_is_numbered
+        ∙ ap (map (numbered number)) (sym entry_named)
+
+    -- all that it links to is linked
+    front_known : (front rest : List CheckedDefinition) → its.before ≡ front ++ rest
+        → AllByRecursion (λ one. Known (DefinitionOf it.current.name one.name)) rest
+    front_known front [] parts = tt
+    front_known front (one ∷ rest) parts = (
+      known it.current.name one.name (count_definitions (modules_turned [] it.earlier) + length front) (before_placed front one rest parts),
+      front_known (front ++ one ∷ []) rest (parts ∙ sym (append_assoc front (one ∷ []) rest)),
+    )
+
+    import_linked : (one : ImportSyntax) → position_in 0 one.source one.name (modules_turned [] it.earlier) ≡ Some (number one.source one.name)
+        → Known (DefinitionOf one.source one.name)
+    import_linked one at =
+        elim (found_in_modules [] it.earlier one.source one.name (number one.source one.name) at) [
+          | inl nowhere ↦ no_number (number one.source one.name) nowhere
+          | inr placed_there ↦
+              known one.source one.name (number one.source one.name) (record {
+                earlier = placed_there.earlier;
+                current = placed_there.current;
+                later = placed_there.later ++ it.current ∷ it.later;
+                modules =
+                    it.modules ∙ ap (λ ms. ms ++ it.current ∷ it.later) placed_there.modules
+                    ∙ append_assoc placed_there.earlier (placed_there.current ∷ placed_there.later) (it.current ∷ it.later);
+                of_module = placed_there.of_module;
+                place = placed_there.place;
+                among = placed_there.among;
+                at = placed_there.at;
+              })
+        ]
+
+    all_known : AllByRecursion Known (earlier_targets devices it.current.name standing)
+    unfolding standing
+    all_known =
+        names_all Known it.current.name its.before (front_known [] its.before refl) (with_imports (device_targets (length devices)) it.current.imports)
+        (imports_all Known it.current.imports
+        (weaker (λ one. position_in 0 one.source one.name (modules_turned [] it.earlier) ≡ Some (number one.source one.name))
+        (λ one. Known (DefinitionOf one.source one.name)) import_linked it.current.imports imports_known)
+        (device_targets (length devices)) (devices_all Known (λ n. tt) (length devices)))
+
+    links_known : (target : Target) → Contains (entry_in devices texts verdicts (DefinitionOf it.current.name its.one.name)) target → Known target
+    links_known target among =
+        let (e, listed, is) =
+        from_given (target_of (earlier_targets devices it.current.name standing)) its.one.accepted.type.set.list target
+        (subst (λ entry. Contains entry target) entry_named among) in
+        element_known Known tt (earlier_targets devices it.current.name standing) all_known e target is
+
+  -- the three facts by which chains are carried over
+  in_none : {B : Type 0} (target : Target) → Contains [] target → B
+  in_none target (k, below, is) = absurd (omega arith)
+
+  pub closed : (x y : Target) → Known x → Contains (entry_in devices texts verdicts x) y → Known y
+  closed (DefinitionOf module_name name) y k among =
+      let it = placed module_name name k in
+      links_known module_name name (number module_name name) it y
+      (subst (λ t. Contains (entry_in devices texts verdicts t) y) (λ i. DefinitionOf (it.of_module i) (it.among.named i)) among)
+  closed (DeviceAt device) y k among = in_none y among
+  closed Universal y k among = in_none y among
+
+  pub carried : (x : Target) → Known x
+      → targets_of (links_in (length devices) linked) (numbered number x) ≡ map (numbered number) (entry_in devices texts verdicts x)
+  carried (DefinitionOf module_name name) k =
+      let it = placed module_name name k in
+      entry_numbered module_name name (number module_name name) it
+      ∙ ap (λ t. map (numbered number) (entry_in devices texts verdicts t)) (λ i. DefinitionOf (sym it.of_module i) (sym it.among.named i))
+  carried (DeviceAt device) k = refl
+  carried Universal k = refl
