@@ -16,6 +16,7 @@ mod RecursiveTypes
 mod ExplainingFacts
 mod LinkedDefinitions
 mod Explained
+mod ExplainedSignatures
 mod ReplayedRuns
 mod VerifiedTexts
 mod StartedTasks

@@ -13,4 +13,5 @@ pub mod Calls
 pub mod Exactness
 pub mod Endings
 pub mod Explaining
+pub mod ExplainedSignatures
 pub mod StatusTable

@@ -2,6 +2,7 @@
 //! faults, what is written and how many modules are judged, for all streams.
 ghost use Rattle.capc.specs.StatusTable.{StatusesShow, JobsHaveSoManyBytes};
 ghost use Rattle.capc.specs.SoundJobs.{EveryJobIsSound, ShownRunsAreSafe, ShownTasksAreSafe};
+ghost use Rattle.capc.specs.ExplainedSignatures.{ExplainedSignaturesAreExplained};
 ghost use Rattle.capc.specs.GuardedRuns.{ShownGuardedRunsArePermitted, RefusedEntriesAreNotPermitted};
 ghost use Rattle.capc.specs.ReplayedRuns.{AgreeingTracesKeepTheAuthority, ShownRunsAreReplayed};
 ghost use Rattle.capc.specs.VerifiedTexts.{VerifiedTypesAreProved, ShownCertificatesAreValid};
@@ -87,4 +88,9 @@ pub fn shown_certificates_are_valid()
 pub fn shown_runs_are_replayed()
     ensures traces { AgreeingTracesKeepTheAuthority }
     ensures runs { ShownRunsAreReplayed }
+{}
+
+/// Where a signature is explained, an element is in it exactly where it has a line, with a chain of links that leads to it.
+pub fn explained_signatures_are_explained()
+    ensures { ExplainedSignaturesAreExplained }
 {}
