@@ -36,7 +36,7 @@ use Rattle.cc_session.specs.LinkedModules.{AreLinked}
 use Rattle.capc.proofs.CarriedChains.{first_carried}
 use Rattle.capc.proofs.DefinitionNumbers.{named_at, named_is_placed}
 use Rattle.capc.proofs.LinkedDefinitions.{linked, number, Known, placed, known, numbered_so, closed, carried}
-use Rattle.capc.specs.Explaining.{definition_names, variable_element, element_target, FindsChain, FindsAll, TellsExplanations}
+use Rattle.capc.specs.Explaining.{definition_names, variable_element, element_target, FindsChain, FindsAll, ExplainsLinked, TellsExplanations}
 
 -- TARGETS WITH NUMBERS ARE TOLD APART
 numbered_true : (a b : NumberedTarget) → numbered_targets.same_target a b ≡ true → a ≡ b
@@ -206,27 +206,20 @@ module _ (devices : List DeviceDecl) (texts : Texts) (verdicts : List ℕ → Mo
 -- what is written tells the explanations
 pub explanations_told : (devices : List DeviceDecl) (texts : Texts) → NamesOfDevicesDiffer devices → ArePresent texts
     → (module_name name : List ℕ) (modules : List CheckedModule) → AreLinked devices texts module_name modules
-    → (links : Entries) → links ≡ links_in (length devices) modules
-    → (definitions : List (List ℕ × List ℕ)) → definitions ≡ definition_names modules
-    → (place : ℕ) → slice_get definitions place ≡ Some (module_name, name)
-    → (set : Set) (found : List FoundChain) → FindsAll links place set.list found
-    → (names : List (List ℕ)) (text : List ℕ) → text ≡ reply_text names (Explained module_name name (map (explanation_named definitions) found))
+    → (set : Set) (names : List (List ℕ)) (text : List ℕ) → ExplainsLinked (length devices) modules names module_name name set.list text
     → (verdicts : List ℕ → ModuleVerdict) → AreVerdicts devices texts verdicts
     → (it : Standing) → standing_in texts verdicts module_name name ≡ Ok it → set ≡ it.definition.accepted.signature.set
     → TellsExplanations devices texts verdicts names module_name name set.list text
-explanations_told devices texts differ sorted module_name name modules (graph_names, order, these) links links_are definitions definitions_are place at set found finds
-    names text written verdicts are it stands set_is =
+explanations_told devices texts differ sorted module_name name modules (graph_names, order, these) set names text (place, found, at, finds, written) verdicts are it stands set_is =
     let begun = starting devices texts verdicts differ sorted are module_name name it stands in
     let ms = linked devices texts verdicts differ sorted are module_name begun graph_names order in
     let same : modules ≡ ms = these verdicts are in
-    let all_definitions : definitions ≡ definition_names ms = definitions_are ∙ ap definition_names same in
-    let all_links : links ≡ links_in (length devices) ms = links_are ∙ ap (links_in (length devices)) same in
-    let here = subst (λ ds. slice_get ds place ≡ Some (module_name, name)) all_definitions at in
     let members : (e : Elem) → Contains set.list e → Member e it.definition.accepted.signature.set =
     λ e among. subst (λ s. Member e s) set_is ((Member-list e set).1 among) in
     (
       map (explanation_named (definition_names ms)) found,
-      explained devices texts verdicts differ sorted are module_name name it stands graph_names order place here set.list members found
-          (subst (λ ls. FindsAll ls place set.list found) all_links finds),
-      written ∙ ap (λ ds. reply_text names (Explained module_name name (map (explanation_named ds) found))) all_definitions,
+      explained devices texts verdicts differ sorted are module_name name it stands graph_names order place
+          (subst (λ m. slice_get (definition_names m) place ≡ Some (module_name, name)) same at) set.list members found
+          (subst (λ m. FindsAll (links_in (length devices) m) place set.list found) same finds),
+      written ∙ ap (λ m. reply_text names (Explained module_name name (map (explanation_named (definition_names m)) found))) same,
     )

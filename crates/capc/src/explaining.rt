@@ -11,7 +11,7 @@ ghost use Rattle.cc_meta_modules.specs.PresentTexts.{ArePresent, AreVerdicts};
 ghost use Rattle.cc_meta_modules.specs.StandingDefinitions.{Standing, standing_in};
 ghost use Rattle.cc_replies.specs.Explanations.{names_of};
 ghost use Rattle.capc.specs.Explaining as plain;
-ghost use Rattle.capc.specs.Explaining.{StandsAt, FindsChain, FindsAll, TellsExplanations};
+ghost use Rattle.capc.specs.Explaining.{StandsAt, FindsChain, FindsAll, ExplainsLinked, TellsExplanations};
 
 use cc_base::name::Name;
 use cc_capture::{CapSet, Elem, Var};
@@ -149,6 +149,32 @@ fn narrow(number: usize) -> Result<u32, AllocError>
     }
 }
 
+// The reply, where these modules are linked for the definition, beside so many devices.
+fn explain_linked(
+    alloc: Global,
+    names: &Names,
+    devices: u32,
+    modules: &[EntryModule],
+    module: &Name,
+    def: &Name,
+    set: &CapSet,
+) -> Result<String, AllocError>
+    ensures { IfOk result (λ text. ExplainsLinked devices (map module_of modules.now) names.now.names.items «module».now def.now set.now.list (string_bytes text)) }
+{
+    let links = links_of(alloc, devices, modules)?;
+    let definitions = definition_names(alloc, modules)?;
+    let place = match place_of(&definitions, module, def) {
+        Some(place) => place,
+        None => return Err(AllocError),
+    };
+    let from = narrow(place)?;
+    if place >= links.count() {
+        return Err(AllocError);
+    }
+    let found = find_chains(alloc, &links, from, set)?;
+    explain_reply(alloc, module, def, names, &definitions, &found)
+}
+
 /// The reply to a command that explains the definition of an accepted module, which has this outermost set in its
 /// signature: why each element is in it.
 ///
@@ -171,23 +197,5 @@ pub fn explained_reply(
 {
     let modules = session.linked(module)?;
     let devices = narrow(session.devices().len())?;
-    let links = links_of(alloc, devices, modules.as_slice())?;
-    let definitions = definition_names(alloc, modules.as_slice())?;
-    let place = match place_of(definitions.as_slice(), module, def) {
-        Some(place) => place,
-        None => return Err(AllocError),
-    };
-    let from = narrow(place)?;
-    if place >= links.count() {
-        return Err(AllocError);
-    }
-    let found = find_chains(alloc, &links, from, set)?;
-    explain_reply(
-        alloc,
-        module,
-        def,
-        names,
-        definitions.as_slice(),
-        found.as_slice(),
-    )
+    explain_linked(alloc, names, devices, &modules, module, def, set)
 }
