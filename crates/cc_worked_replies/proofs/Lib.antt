@@ -4,3 +4,4 @@ pub mod WorkedShownTexts
 pub mod WorkedTasks
 pub mod WorkedPolicies
 pub mod WorkedCertificates
+pub mod WorkedReplays

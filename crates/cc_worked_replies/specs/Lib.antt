@@ -1,5 +1,6 @@
 pub mod CertificateExamples
 pub mod PolicyExamples
+pub mod ReplayExamples
 pub mod RunExamples
 pub mod ShownTexts
 pub mod TaskExamples
