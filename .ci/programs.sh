@@ -256,9 +256,9 @@ for program; do
         'audit m.main\n  out deny none\n  hits deny none\nguard m.main refused E37\npolicy 3\naudit m.main\n  out allow 1\n  hits deny 2\nguard m.main refused E37\n'
     {
         cat "$work/host"
-        printf '%s\n' 'policy 1' 'allow m *' 'audit m.main' 'guard m.main 9' 'guard m.main 2'
+        printf '%s\n' 'policy 1' 'allow m *' 'audit m.main' 'guard m.main 9' 'guard m.main 3'
     } | job 1 'a guard that runs out of fuel' \
-        'policy 1\naudit m.main\n  out allow 1\n  hits allow 1\nguard m.main\n  authority {out, hits}\n  hits tick 1\n  out print 1\n  done unit after 5 steps\nguard m.main\n  authority {out, hits}\n  hits tick 1\n  out of fuel after 2 steps\n'
+        'policy 1\naudit m.main\n  out allow 1\n  hits allow 1\nguard m.main\n  authority {out, hits}\n  hits tick 1\n  out print 1\n  done unit after 5 steps\nguard m.main\n  authority {out, hits}\n  hits tick 1\n  out of fuel after 3 steps\n'
     {
         cat "$work/host"
         printf '%s\n' 'policy 1' 'allow * *' 'audit m.none' 'guard n.main 9' 'policy 1' 'deny * *' 'guard m.none 9'

@@ -102,8 +102,8 @@ shown('a million steps that print all along', run_of(166000, 'out.print(i)', 498
 shown('eight tasks with fuel 1,000,000', tasks_of(60000, 500000), tasks_of(60000, 1000000), 200)
 shown('1,000 runs of 1,000 steps of 40 modules', many_runs(500), many_runs(1000), 500)
 shown('a derivation of 57,330 nodes', derived(11), derived(12), 200)
-shown('1,400 policies of 256 rules, audits and guards', policies(700), policies(1400), 300)
-shown('320,000 audits of 16 devices by 256 rules', audits(160000), audits(320000), 10000)
+shown('1,400 policies of 256 rules, audits and guards', policies(700), policies(1400), 800)
+shown('320,000 audits of 16 devices by 256 rules', audits(160000), audits(320000), 12000)
 base = measured(wide(128), ' ok')[0], measured(wide(256), ' ok')[0]
 shown('linking 256 modules of 200 definitions',
       measured(wide(128) + 'run m127.main 2000\n', 'after 130 steps'),

@@ -88,7 +88,7 @@ module _ (devices : List DeviceDecl) (state : JobState) (last : List Judgement) 
           after_that,
           subst (λ ds. Replies ds (holding_under rules session.present) request replied.reply) stands.devices_same replied.replies,
           subst (λ rs. IsOutput devices (holding_under rs (after (holding_under rules session.present) request).texts) left text after_that) rules_are
-          (subst (λ ts. IsOutput devices (holding_under in_force ts) left text after_that) changes.present is_text),
+              (subst (λ ts. IsOutput devices (holding_under in_force ts) left text after_that) changes.present is_text),
           refl,
           refl,
         ) in

@@ -162,8 +162,7 @@ pub audit_shown : (devices : List DeviceDecl) (rules : List Rule) (texts : Texts
     → WritesWhole old new result (reply_text names (Audited module_name name (decisions names rules entry.module authority)))
     → IfOk result (λ answer. answer ≡ false) → IsReplied devices (holding_under rules texts) (Ask (AuditDefinition module_name name)) old new result
 audit_shown devices rules texts verdicts are old new result module_name name names entry authority names_are authority_is answered written told =
-    replied devices (holding_under rules texts) (Ask (AuditDefinition module_name name)) (audit_told devices rules module_name name (entry_of entry))
-    (
+    replied devices (holding_under rules texts) (Ask (AuditDefinition module_name name)) (audit_told devices rules module_name name (entry_of entry)) (
       verdicts,
       are,
       started_answer devices texts verdicts module_name name (audit_told devices rules module_name name) (AuditRefused module_name name) entry answered,

@@ -128,7 +128,16 @@ fn show_run<K: Sink>(
 {
     match session.entry(module, def) {
         Ok(entry) => {
-            match entry_reply(alloc, "run", names, session.devices(), module, def, fuel, &entry) {
+            match entry_reply(
+                alloc,
+                "run",
+                names,
+                session.devices(),
+                module,
+                def,
+                fuel,
+                &entry,
+            ) {
                 Ok((text, refused)) => write_reply(sink, Ok(text), refused),
                 Err(AllocError) => Err(WriteAll::NoMemory),
             }
@@ -200,7 +209,15 @@ fn show_audit<K: Sink>(
     match session.entry(module, def) {
         Ok(entry) => write_reply(
             sink,
-            audit_reply(alloc, module, def, &entry.module, &entry.authority, policy, names),
+            audit_reply(
+                alloc,
+                module,
+                def,
+                &entry.module,
+                &entry.authority,
+                policy,
+                names,
+            ),
             false,
         ),
         Err(EntryError::Refused(refused)) => write_reply(
@@ -348,7 +365,9 @@ pub fn answer_checked<K: Sink>(
     ensures cause { WriteAllCause (K.faults sink.old) (K.faults sink.new) result }
 {
     match command {
-        Command::Put(_, _) | Command::Drop(_) | Command::Verify(_) | Command::Policy(_) => Ok(false),
+        Command::Put(_, _) | Command::Drop(_) | Command::Verify(_) | Command::Policy(_) => Ok(
+            false,
+        ),
         Command::Check => show_verdicts(alloc, session, sink),
         Command::Sig(name) => show_signatures(alloc, names, session, name, sink),
         Command::Derive(module, def) => show_derivation(alloc, session, module, def, sink),
@@ -374,14 +393,7 @@ pub fn answer_checked<K: Sink>(
             show_replay(alloc, names, session, module, def, *fuel, text, sink)
         }
         Command::Guard(module, def, fuel) => show_guarded(
-            alloc,
-            names,
-            session,
-            policy,
-            module,
-            def,
-            *fuel,
-            sink,
+            alloc, names, session, policy, module, def, *fuel, sink,
         ),
     }
 }

@@ -37,9 +37,7 @@ fn decision_for(policy: &Policy, module: &Name, names: &Names, device: u32) -> D
 pub fn are_allowed(policy: &Policy, module: &Name, names: &Names, devices: &[u32]) -> bool
     ensures { result ≡ plain.are_allowed names.now.names.items policy.now «module».now devices.now }
 {
-    devices
-        .iter()
-        .all(|device| decision_for(policy, module, names, *device).allow)
+    devices.iter().all(|device| decision_for(policy, module, names, *device).allow)
 }
 
 // Adds what is decided.

@@ -29,7 +29,7 @@ loop-command-preserved g c =
     record {
       stands = turn_more old.devices (holding_under c.args.first.now old.present) old.last c.args.commands.now (g.K.Sink.written c.args.sink.now) c.args.steps.now loop.session loop.policy.now
           loop.command-index c.command-item.result (g.K.Sink.written loop.sink) loop.steps loop.refused loop.invariant.stands c.loop-command-test.true
-          c.command-item.is c.answer.new.session (g.K.Sink.written c.answer.new.sink) c.answer.new.steps c.policy_after.result.now c.in_ok-later.later c.policy_after.ensures c.in_ok-later.ensures.replied
+          c.command-item.is c.answer.new.session (g.K.Sink.written c.answer.new.sink) c.answer.new.steps c.policy_after-policy.result.now c.in_ok-later.later c.policy_after-policy.ensures c.in_ok-later.ensures.replied
           c.in_ok-later.ensures.changes c.in_ok-later.ensures.judges c.either-refused.result c.either-refused.ensures;
       no_fault = c.in_ok-later.ensures.cause ∙ loop.invariant.no_fault;
     }
