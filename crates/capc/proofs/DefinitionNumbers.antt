@@ -305,11 +305,15 @@ get_cases (z ∷ xs) ys (suc k) x is =
       | inr (j, at, there) ↦ inr (j, omega arith, there)
     ]
 
-second_same : (m n o p : List ℕ) → Some (m, n) ≡ Some (o, p) → n ≡ p
+second_same : (m n o p : List ℕ) → ◌≡◌ {A = Option (List ℕ × List ℕ)} (Some (m, n)) (Some (o, p)) → n ≡ p
 second_same m n o p h = cc
 
-first_same : (m n o p : List ℕ) → Some (m, n) ≡ Some (o, p) → m ≡ o
+first_same : (m n o p : List ℕ) → ◌≡◌ {A = Option (List ℕ × List ℕ)} (Some (m, n)) (Some (o, p)) → m ≡ o
 first_same m n o p h = cc
+
+-- the names of a definition of a module
+abbrev named_in : List ℕ → CheckedDefinition → List ℕ × List ℕ
+named_in owner one = (owner, one.name)
 
 -- a definition that stands among those of a module
 record StandsAmong (owner : List ℕ) (ds : List CheckedDefinition) (module_name name : List ℕ) (k : ℕ) : Type 0 where
@@ -317,7 +321,7 @@ record StandsAmong (owner : List ℕ) (ds : List CheckedDefinition) (module_name
   among : PlacedAmong ds name k
 
 stands_among : (owner : List ℕ) (ds : List CheckedDefinition) (module_name name : List ℕ) (k : ℕ)
-    → slice_get (map (λ one. (owner, one.name)) ds) k ≡ Some (module_name, name) → StandsAmong owner ds module_name name k
+    → ◌≡◌ {A = Option (List ℕ × List ℕ)} (slice_get (map (named_in owner) ds) k) (Some (module_name, name)) → StandsAmong owner ds module_name name k
 stands_among owner [] module_name name k is = cc
 stands_among owner (d ∷ ds) module_name name zero is = record {
   of_owner = first_same module_name name owner d.name (sym is);
