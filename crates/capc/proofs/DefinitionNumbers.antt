@@ -305,11 +305,22 @@ get_cases (z ∷ xs) ys (suc k) x is =
       | inr (j, at, there) ↦ inr (j, omega arith, there)
     ]
 
+-- the parts of a pair, if there is one
+first_of : Option (List ℕ × List ℕ) → List ℕ
+first_of (Some names) = names.0
+first_of None = []
+
+second_of : Option (List ℕ × List ℕ) → List ℕ
+second_of (Some names) = names.1
+second_of None = []
+
 second_same : (m n o p : List ℕ) → ◌≡◌ {A = Option (List ℕ × List ℕ)} (Some (m, n)) (Some (o, p)) → n ≡ p
-second_same m n o p h = cc
+unfolding second_of
+second_same m n o p h = ap second_of h
 
 first_same : (m n o p : List ℕ) → ◌≡◌ {A = Option (List ℕ × List ℕ)} (Some (m, n)) (Some (o, p)) → m ≡ o
-first_same m n o p h = cc
+unfolding first_of
+first_same m n o p h = ap first_of h
 
 -- the names of a definition of a module
 abbrev named_in : List ℕ → CheckedDefinition → List ℕ × List ℕ
@@ -361,7 +372,10 @@ from_names front (m ∷ ms) module_name name k is =
 -- where the names of a definition stand, it has this number
 pub named_is_placed : (ms : List CheckedModule) (module_name name : List ℕ) (k : ℕ)
     → slice_get (definition_names ms) k ≡ Some (module_name, name) → PlacedIn [] ms module_name name k
-named_is_placed ms module_name name k is = from_names [] ms module_name name k is
+named_is_placed ms module_name name k is = subst (PlacedIn [] ms module_name name) (from_zero k) (from_names [] ms module_name name k is)
+  where
+    from_zero : (n : ℕ) → 0 + n ≡ n
+    from_zero n = omega arith
 
 -- the definitions before another have their numbers, one after the other
 pub before_numbered : (number : List ℕ → List ℕ → ℕ) (module_name : List ℕ) (first : ℕ) (before : List CheckedDefinition)

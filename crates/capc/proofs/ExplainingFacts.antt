@@ -58,11 +58,22 @@ named_so a b m d h =
 both_tests : (a b m d : List ℕ) → a ≡ m → b ≡ d → (bytes_eq a m && bytes_eq b d) ≡ true
 both_tests a b m d p q = rw ((bytes_eq-Decides a m).1 p, (bytes_eq-Decides b d).1 q) refl
 
+-- the parts of a pair, if there is one
+first_of : Option (List ℕ × List ℕ) → List ℕ
+first_of (Some names) = names.0
+first_of None = []
+
+second_of : Option (List ℕ × List ℕ) → List ℕ
+second_of (Some names) = names.1
+second_of None = []
+
 first_part : (a b m d : List ℕ) → ◌≡◌ {A = Option (List ℕ × List ℕ)} (Some (a, b)) (Some (m, d)) → a ≡ m
-first_part a b m d h = cc
+unfolding first_of
+first_part a b m d h = ap first_of h
 
 second_part : (a b m d : List ℕ) → ◌≡◌ {A = Option (List ℕ × List ℕ)} (Some (a, b)) (Some (m, d)) → b ≡ d
-second_part a b m d h = cc
+unfolding second_of
+second_part a b m d h = ap second_of h
 
 pub not_named_so : (a b m d : List ℕ) → (bytes_eq a m && bytes_eq b d) ≡ false
     → ◌≡◌ {A = Option (List ℕ × List ℕ)} (Some (a, b)) (Some (m, d)) → ⊥
@@ -93,5 +104,5 @@ one_more_missed names place wanted before here k below is =
       | inr high ↦ (let same : k ≡ place = omega arith in here (sym (ap (slice_get names) same) ∙ is))
     ]
 
-pub no_element : {T B : Type 0} (target : T) → None ≡ Some target → B
-no_element target h = cc
+pub same_element : {T : Type 0} (a b : T) → Some a ≡ Some b → a ≡ b
+same_element a b h = cc
