@@ -305,11 +305,26 @@ get_cases (z ∷ xs) ys (suc k) x is =
       | inr (j, at, there) ↦ inr (j, omega arith, there)
     ]
 
-second_same : (m n o p : List ℕ) → Some (m, n) ≡ Some (o, p) → n ≡ p
-second_same m n o p h = cc
+-- the parts of a pair, if there is one
+first_of : Option (List ℕ × List ℕ) → List ℕ
+first_of (Some names) = names.0
+first_of None = []
 
-first_same : (m n o p : List ℕ) → Some (m, n) ≡ Some (o, p) → m ≡ o
-first_same m n o p h = cc
+second_of : Option (List ℕ × List ℕ) → List ℕ
+second_of (Some names) = names.1
+second_of None = []
+
+second_same : (m n o p : List ℕ) → ◌≡◌ {A = Option (List ℕ × List ℕ)} (Some (m, n)) (Some (o, p)) → n ≡ p
+unfolding second_of
+second_same m n o p h = ap second_of h
+
+first_same : (m n o p : List ℕ) → ◌≡◌ {A = Option (List ℕ × List ℕ)} (Some (m, n)) (Some (o, p)) → m ≡ o
+unfolding first_of
+first_same m n o p h = ap first_of h
+
+-- the names of a definition of a module
+abbrev named_in : List ℕ → CheckedDefinition → List ℕ × List ℕ
+named_in owner one = (owner, one.name)
 
 -- a definition that stands among those of a module
 record StandsAmong (owner : List ℕ) (ds : List CheckedDefinition) (module_name name : List ℕ) (k : ℕ) : Type 0 where
@@ -317,7 +332,7 @@ record StandsAmong (owner : List ℕ) (ds : List CheckedDefinition) (module_name
   among : PlacedAmong ds name k
 
 stands_among : (owner : List ℕ) (ds : List CheckedDefinition) (module_name name : List ℕ) (k : ℕ)
-    → slice_get (map (λ one. (owner, one.name)) ds) k ≡ Some (module_name, name) → StandsAmong owner ds module_name name k
+    → ◌≡◌ {A = Option (List ℕ × List ℕ)} (slice_get (map (named_in owner) ds) k) (Some (module_name, name)) → StandsAmong owner ds module_name name k
 stands_among owner [] module_name name k is = cc
 stands_among owner (d ∷ ds) module_name name zero is = record {
   of_owner = first_same module_name name owner d.name (sym is);
@@ -357,7 +372,10 @@ from_names front (m ∷ ms) module_name name k is =
 -- where the names of a definition stand, it has this number
 pub named_is_placed : (ms : List CheckedModule) (module_name name : List ℕ) (k : ℕ)
     → slice_get (definition_names ms) k ≡ Some (module_name, name) → PlacedIn [] ms module_name name k
-named_is_placed ms module_name name k is = from_names [] ms module_name name k is
+named_is_placed ms module_name name k is = subst (PlacedIn [] ms module_name name) (from_zero k) (from_names [] ms module_name name k is)
+  where
+    from_zero : (n : ℕ) → 0 + n ≡ n
+    from_zero n = omega arith
 
 -- the definitions before another have their numbers, one after the other
 pub before_numbered : (number : List ℕ → List ℕ → ℕ) (module_name : List ℕ) (first : ℕ) (before : List CheckedDefinition)

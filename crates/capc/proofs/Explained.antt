@@ -74,7 +74,7 @@ element_numbered number Universal e is = ap element_target (sym (some_same Cap e
 module _ (devices : List DeviceDecl) (texts : Texts) (verdicts : List ℕ → ModuleVerdict) (differ : NamesOfDevicesDiffer devices)
     (sorted : ArePresent texts) (are : AreVerdicts devices texts verdicts) (module_name name : List ℕ) (it : Standing)
     (stands : standing_in texts verdicts module_name name ≡ Ok it) where
-  starting : is_accepted_module texts verdicts module_name ≡ true
+  pub starting : is_accepted_module texts verdicts module_name ≡ true
   starting =
       let there = (stands_in devices texts verdicts differ sorted are module_name name it stands).0 in
       ap (λ o. is_some o && is_accepted (verdicts module_name)) there.is_text ∙ ap is_accepted there.accepted

@@ -41,17 +41,20 @@ module _ (entry : Target → List Target) (from : Target) where
       let (one, among, explained) = has_line others later rest e (k, omega arith, same) in
       subst (λ es. HasLine entry from es e) (sym is) (one, behind it later one among, explained)
 
+  one_line : (first : Elem) (others : List Elem) (it : Explanation) (later : List Explanation) (one : Explanation) (e : Elem)
+      → element_of it.target ≡ Some first → element_of one.target ≡ Some e → (Contains later one → Contains others e)
+      → Contains (it ∷ later) one → Contains (first ∷ others) e
+  one_line first others it later one e about is rest (zero, below, here) =
+      (0, omega arith, some_same first e (sym about ∙ ap (λ (x : Explanation). element_of x.target) here ∙ is))
+  one_line first others it later one e about is rest (suc k, below, there) = behind first others e (rest (k, omega arith, there))
+
   -- and each line is about one
   is_listed : (elements : List Elem) (explanations : List Explanation) → AreExplained entry from elements explanations
       → (one : Explanation) → Contains explanations one → (e : Elem) → element_of one.target ≡ Some e → Contains elements e
   is_listed [] explanations are one among e is = in_none one (subst (λ es. Contains es one) are among)
   is_listed (first ∷ others) explanations (it, later, explains, rest, same) one among e is =
-      by_place (subst (λ es. Contains es one) same among)
-    where
-      by_place : Contains (it ∷ later) one → Contains (first ∷ others) e
-      by_place (zero, below, here) =
-          (0, omega arith, some_same first e (sym explains.is_element ∙ ap (λ (x : Explanation). element_of x.target) here ∙ is))
-      by_place (suc k, below, there) = behind first others e (is_listed others later rest one (k, omega arith, there) e is)
+      one_line first others it later one e explains.is_element is (λ there. is_listed others later rest one there e is)
+      (subst (λ es. Contains es one) same among)
 
 explains_at : (devices : List DeviceDecl) (state : JobState) → NamesOfDevicesDiffer devices → ArePresent state.texts
     → (verdicts : List ℕ → ModuleVerdict) → AreVerdicts devices state.texts verdicts

@@ -102,13 +102,13 @@ some_there None h = cc
 no_target : {B : Type 0} (target : Target) → None ≡ Some target → B
 no_target target h = cc
 
+in_behind : {A : Type 0} (x : A) (xs : List A) (y : A) → Contains xs y → Contains (x ∷ xs) y
+in_behind x xs y (k, below, is) = (suc k, omega arith, is)
+
 same_filtered : {A B : Type 0} (f g : A → Option B) (xs : List A) → ((x : A) → Contains xs x → f x ≡ g x) → filter_map f xs ≡ filter_map g xs
 same_filtered f g [] same = refl
 same_filtered f g (x ∷ xs) same =
-    λ i. cons_option (same x (0, omega arith, refl) i) (same_filtered f g xs (λ y among. same y (behind y among)) i)
-  where
-    behind : (y : A) → Contains xs y → Contains (x ∷ xs) y
-    behind y (k, below, is) = (suc k, omega arith, is)
+    λ i. cons_option (same x (0, omega arith, refl) i) (same_filtered f g xs (λ y among. same y (in_behind x xs y among)) i)
 
 -- modules, turned round
 turned_onto : (front : List Module) (ms : List CheckedModule) → reverse (map program_module ms) ++ front ≡ modules_turned front ms

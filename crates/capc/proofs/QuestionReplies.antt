@@ -106,7 +106,7 @@ module _ (devices : List DeviceDecl) (rules : List Rule) (texts : Texts) (verdic
     replay_shown fuel lines names entry names_are answered said tells =
         let told : CheckedEntry → Reply = replay_told (device_names devices) module_name name fuel lines in
         shown (Ask (ReplayDefinition module_name name fuel lines)) (told (entry_of entry))
-        (verdicts, are, started_answer told (ReplayRefused module_name name) entry answered)
+        (verdicts, are, started_answer devices texts verdicts module_name name told (ReplayRefused module_name name) entry answered)
         (said ∙ (λ i. reply_text [] (replay_told (names_are i) module_name name fuel lines (entry_of entry))))
         (tells ∙ (λ i. is_refusal (replay_told (names_are i) module_name name fuel lines (entry_of entry))))
 
@@ -206,7 +206,7 @@ module _ (devices : List DeviceDecl) (rules : List Rule) (texts : Texts) (verdic
         → IsReplied devices (holding_under rules texts) (Ask (ReplayDefinition module_name name fuel lines)) old new result
     replay_not_shown fuel lines code is written =
         replied devices (holding_under rules texts) (Ask (ReplayDefinition module_name name fuel lines)) (ReplayRefused module_name name code)
-        (verdicts, are, refused_answer (replay_told (device_names devices) module_name name fuel lines) (ReplayRefused module_name name) code is)
+        (verdicts, are, refused_answer devices texts verdicts module_name name (replay_told (device_names devices) module_name name fuel lines) (ReplayRefused module_name name) code is)
         old new result written told
 
     pub explain_not_shown : (code : Code) → standing_in texts verdicts module_name name ≡ Err code

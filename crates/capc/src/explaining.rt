@@ -1,7 +1,8 @@
 //! Explaining the signatures of definitions.
 
-ghost use Rattle.std.specs.Prelude.{◌≡◌, ◌++◌, ◌<◌, ℕ, List, map, length, Ok, IsTrue, IfOk, OnOk};
-ghost use Rattle.std.specs.Option.{option_map, option_to_list};
+ghost use Rattle.std.specs.Prelude.{◌≡◌, ◌++◌, ◌<◌, ◌&&◌, ℕ, List, map, length, Ok, IsTrue, IfOk, OnOk};
+ghost use Rattle.std.specs.Option.{option_to_list};
+ghost use Rattle.std.specs.Str.{bytes_eq};
 ghost use Rattle.std.specs.String.{string_bytes};
 ghost use Rattle.cc_capture.specs.Sets.{Set};
 ghost use Rattle.cc_entry.specs.Modules.{module_of};
@@ -58,13 +59,19 @@ fn definition_names<'a>(
     Ok(names)
 }
 
+// Whether the definition has these names.
+fn is_named(it: &DefinitionName<'_>, module: &Name, def: &Name) -> bool
+    ensures { result ≡ (bytes_eq it.now.module.now «module».now && bytes_eq it.now.def.now def.now) }
+{
+    *it.module == *module && *it.def == *def
+}
+
 // The place of the definition, if it is there.
 fn place_of(definitions: &[DefinitionName<'_>], module: &Name, def: &Name) -> Option<usize>
     ensures { StandsAt (map names_of definitions.now) («module».now, def.now) result }
 {
     for place in 0..definitions.len() {
-        let it = &definitions[place];
-        if *it.module == *module && *it.def == *def {
+        if is_named(&definitions[place], module, def) {
             return Some(place);
         }
     }

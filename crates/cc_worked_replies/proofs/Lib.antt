@@ -5,3 +5,5 @@ pub mod WorkedTasks
 pub mod WorkedPolicies
 pub mod WorkedCertificates
 pub mod WorkedReplays
+pub mod ComputedChains
+pub mod WorkedExplanations

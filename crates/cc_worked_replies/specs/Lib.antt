@@ -1,4 +1,5 @@
 pub mod CertificateExamples
+pub mod ExplainExamples
 pub mod PolicyExamples
 pub mod ReplayExamples
 pub mod RunExamples
