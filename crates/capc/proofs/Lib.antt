@@ -10,6 +10,14 @@ mod WorkedStatuses
 mod RunFacts
 mod SoundJobs
 mod GuardedRuns
+mod CarriedChains
+mod DefinitionNumbers
+mod RecursiveTypes
+mod ExplainingFacts
+mod LinkedDefinitions
+mod Explained
+mod ExplainedSignatures
+mod ReplayedRuns
 mod VerifiedTexts
 mod StartedTasks
 mod AllOf

@@ -19,14 +19,17 @@ use Rattle.cc_mnf.specs.CoreModules.{device_names}
 use Rattle.cc_replies.specs.DerivationTexts.{shown_derivation}
 use Rattle.cc_replies.specs.Replies.{Replies, derivation_size, derivation_told, derivation_reply}
 use Rattle.cc_meta_entries.specs.PresentEntries.{CheckedEntry}
-use Rattle.cc_replies.specs.ReplyTexts.{Reply, RunRefused, TasksRefused, Audited, AuditRefused, GuardRefused, Derived, DerivationRefused, reply_text, is_refusal, is_unfinished}
+use Rattle.cc_replies.specs.ReplyTexts.{Reply, RunRefused, TasksRefused, Audited, AuditRefused, GuardRefused, ReplayRefused, Explained, ExplainRefused, Derived, DerivationRefused, reply_text, is_refusal, is_unfinished}
 use Rattle.cc_policy.specs.declared.policy.Rule.{Rule}
 use Rattle.cc_replies.specs.PolicyReplies.{decisions, audit_told, guard_told}
-use Rattle.cc_replies.specs.Requests.{Request, ShowDerivation, RunDefinition, RunTasks, AuditDefinition, GuardDefinition, Ask, holding_under}
+use Rattle.cc_replies.specs.ExplainReplies.{IsExplainAnswer}
+use Rattle.cc_replies.specs.ReplayReplies.{replay_told}
+use Rattle.cc_replies.specs.Requests.{Request, ShowDerivation, RunDefinition, RunTasks, AuditDefinition, GuardDefinition, ExplainDefinition, ReplayDefinition, Ask, holding_under}
 use Rattle.cc_replies.specs.RunReplies.{declared_run, run_told, tasks_told, first_unstarted, HaveEntries, IsEntryAnswer, IsTasksAnswer}
 use Rattle.cc_sets.specs.Verdicts.{Accepted}
 use Rattle.cc_session.specs.EntryAnswers.{IsAnswered}
 use Rattle.capc.specs.Carried.{IsReplied}
+use Rattle.capc.specs.Explaining.{TellsExplanations}
 use Rattle.capc.specs.Running.{entry_text}
 use Rattle.capc.proofs.CommandFacts.{replied}
 
@@ -94,6 +97,31 @@ module _ (devices : List DeviceDecl) (rules : List Rule) (texts : Texts) (verdic
         (verdicts, are, started_answer devices texts verdicts module_name name told (GuardRefused module_name name) entry answered)
         (said ∙ (λ i. reply_text (names_are i) (guard_told (devices_are i) rules module_name name fuel (entry_of entry))))
         (tells ∙ (λ i. is_refusal (guard_told (devices_are i) rules module_name name fuel (entry_of entry))))
+
+    pub replay_shown : (fuel : ℕ) (lines : List ℕ) (names : List (List ℕ)) (entry : DeclaredEntry) → names ≡ device_names devices
+        → IsAnswered devices texts verdicts module_name name (Ok entry)
+        → text ≡ reply_text [] (replay_told names module_name name fuel lines (entry_of entry))
+        → refused ≡ is_refusal (replay_told names module_name name fuel lines (entry_of entry))
+        → IsReplied devices (holding_under rules texts) (Ask (ReplayDefinition module_name name fuel lines)) old new result
+    replay_shown fuel lines names entry names_are answered said tells =
+        let told : CheckedEntry → Reply = replay_told (device_names devices) module_name name fuel lines in
+        shown (Ask (ReplayDefinition module_name name fuel lines)) (told (entry_of entry))
+        (verdicts, are, started_answer devices texts verdicts module_name name told (ReplayRefused module_name name) entry answered)
+        (said ∙ (λ i. reply_text [] (replay_told (names_are i) module_name name fuel lines (entry_of entry))))
+        (tells ∙ (λ i. is_refusal (replay_told (names_are i) module_name name fuel lines (entry_of entry))))
+
+    pub explain_shown : (it : Standing) → standing_in texts verdicts module_name name ≡ Ok it → (names : List (List ℕ)) → names ≡ device_names devices
+        → TellsExplanations devices texts verdicts names module_name name it.definition.accepted.signature.set.list text → refused ≡ false
+        → IsReplied devices (holding_under rules texts) (Ask (ExplainDefinition module_name name)) old new result
+    explain_shown it found names names_are (explanations, explained, said) tells =
+        shown (Ask (ExplainDefinition module_name name)) (Explained module_name name explanations)
+        (
+          verdicts,
+          are,
+          subst (λ r. IsExplainAnswer devices texts verdicts module_name name r (Explained module_name name explanations)) (sym found)
+              (explanations, explained, refl),
+        )
+        (said ∙ (λ i. reply_text (names_are i) (Explained module_name name explanations))) tells
 
     module _ (it : Standing) (found : standing_in texts verdicts module_name name ≡ Ok it) (names : List (List ℕ)) (context : Context) (accepted : Accepted)
         (names_are : names ≡ standing_names devices it) (context_is : context ≡ standing_context devices it)
@@ -171,6 +199,26 @@ module _ (devices : List DeviceDecl) (rules : List Rule) (texts : Texts) (verdic
     guard_not_shown fuel code is written =
         replied devices (holding_under rules texts) (Ask (GuardDefinition module_name name fuel)) (GuardRefused module_name name code)
         (verdicts, are, refused_answer devices texts verdicts module_name name (guard_told devices rules module_name name fuel) (GuardRefused module_name name) code is)
+        old new result written told
+
+    pub replay_not_shown : (fuel : ℕ) (lines : List ℕ) (code : Code) → started_in texts verdicts module_name name ≡ Err code
+        → WritesWhole old new result (reply_text [] (ReplayRefused module_name name code))
+        → IsReplied devices (holding_under rules texts) (Ask (ReplayDefinition module_name name fuel lines)) old new result
+    replay_not_shown fuel lines code is written =
+        replied devices (holding_under rules texts) (Ask (ReplayDefinition module_name name fuel lines)) (ReplayRefused module_name name code)
+        (verdicts, are, refused_answer devices texts verdicts module_name name (replay_told (device_names devices) module_name name fuel lines) (ReplayRefused module_name name) code is)
+        old new result written told
+
+    pub explain_not_shown : (code : Code) → standing_in texts verdicts module_name name ≡ Err code
+        → WritesWhole old new result (reply_text [] (ExplainRefused module_name name code))
+        → IsReplied devices (holding_under rules texts) (Ask (ExplainDefinition module_name name)) old new result
+    explain_not_shown code is written =
+        replied devices (holding_under rules texts) (Ask (ExplainDefinition module_name name)) (ExplainRefused module_name name code)
+        (
+          verdicts,
+          are,
+          subst (λ r. IsExplainAnswer devices texts verdicts module_name name r (ExplainRefused module_name name code)) (sym is) refl,
+        )
         old new result written told
 
     pub derivation_too_large : (it : Standing) → standing_in texts verdicts module_name name ≡ Ok it

@@ -4,6 +4,7 @@ pub mod Requests
 pub mod Running
 pub mod SoundJobs
 pub mod GuardedRuns
+pub mod ReplayedRuns
 pub mod VerifiedTexts
 pub mod Carried
 pub mod Outcome
@@ -11,4 +12,6 @@ pub mod WorkloadOutcome
 pub mod Calls
 pub mod Exactness
 pub mod Endings
+pub mod Explaining
+pub mod ExplainedSignatures
 pub mod StatusTable

@@ -2,10 +2,10 @@
 use Rattle.std.specs.Prelude.{List, map, Option, Some, None}
 use Rattle.cc_job.specs.declared.job.Command.{Command}
 use Rattle.cc_job.specs.declared.job.Command.TheVariants.{Put, Drop, Check, Sig, Derive, Run, Tasks}
-use Rattle.cc_job.specs.declared.job.Command.TheVariants.{Verify, Policy, Audit, Guard}
+use Rattle.cc_job.specs.declared.job.Command.TheVariants.{Verify, Policy, Audit, Guard, Explain, Replay}
 use Rattle.cc_job.specs.declared.job.Job.{Job}
 use Rattle.cc_replies.specs.Requests.{Question, CheckModules, ShowSignature, ShowDerivation, RunDefinition, RunTasks}
-use Rattle.cc_replies.specs.Requests.{AuditDefinition, GuardDefinition}
+use Rattle.cc_replies.specs.Requests.{AuditDefinition, GuardDefinition, ExplainDefinition, ReplayDefinition}
 use Rattle.cc_replies.specs.Requests.{Request, PutText, DropModule, SetPolicy, VerifyText, Ask}
 
 -- what a command asks for
@@ -21,6 +21,8 @@ request_of (Verify text) = VerifyText text
 request_of (Policy rules) = SetPolicy rules
 request_of (Audit module_name name) = Ask (AuditDefinition module_name name)
 request_of (Guard module_name name fuel) = Ask (GuardDefinition module_name name fuel)
+request_of (Explain module_name name) = Ask (ExplainDefinition module_name name)
+request_of (Replay module_name name fuel text) = Ask (ReplayDefinition module_name name fuel text)
 
 -- what the commands of a job ask for, in order
 abbrev pub requests_of : Job → List Request

@@ -181,7 +181,9 @@ fn answer<K: Sink, L: Ledger>(
         | Command::Run(_, _, _)
         | Command::Tasks(_, _, _)
         | Command::Audit(_, _)
-        | Command::Guard(_, _, _) => ask(alloc, names, session, policy, command, sink, steps),
+        | Command::Guard(_, _, _)
+        | Command::Explain(_, _)
+        | Command::Replay(_, _, _, _) => ask(alloc, names, session, policy, command, sink, steps),
     }
 }
 

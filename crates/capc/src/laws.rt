@@ -2,7 +2,9 @@
 //! faults, what is written and how many modules are judged, for all streams.
 ghost use Rattle.capc.specs.StatusTable.{StatusesShow, JobsHaveSoManyBytes};
 ghost use Rattle.capc.specs.SoundJobs.{EveryJobIsSound, ShownRunsAreSafe, ShownTasksAreSafe};
+ghost use Rattle.capc.specs.ExplainedSignatures.{ExplainedSignaturesAreExplained};
 ghost use Rattle.capc.specs.GuardedRuns.{ShownGuardedRunsArePermitted, RefusedEntriesAreNotPermitted};
+ghost use Rattle.capc.specs.ReplayedRuns.{AgreeingTracesKeepTheAuthority, ShownRunsAreReplayed};
 ghost use Rattle.capc.specs.VerifiedTexts.{VerifiedTypesAreProved, ShownCertificatesAreValid};
 ghost use Rattle.capc.specs.Exactness.{AJobIsAnswered, WhatIsNoJobIsRefused, WhatIsTooLongIsRefused, AFaultIsTold, OnlyTheOutputIsWritten, OnlyStaleModulesAreJudged, AWorkloadIsSummarized, AFaultOfAWorkloadIsTold};
 
@@ -79,4 +81,16 @@ pub fn shown_guarded_runs_are_permitted()
 pub fn shown_certificates_are_valid()
     ensures proved { VerifiedTypesAreProved }
     ensures shown { ShownCertificatesAreValid }
+{}
+
+/// Lines that are said to agree with a definition are the trace of a run of its program that is answered from outside, and
+/// that is safe. What is shown of a run agrees with its definition.
+pub fn shown_runs_are_replayed()
+    ensures traces { AgreeingTracesKeepTheAuthority }
+    ensures runs { ShownRunsAreReplayed }
+{}
+
+/// Where a signature is explained, an element is in it exactly where it has a line, with a chain of links that leads to it.
+pub fn explained_signatures_are_explained()
+    ensures { ExplainedSignaturesAreExplained }
 {}

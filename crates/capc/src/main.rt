@@ -5,6 +5,7 @@
 #![tactic(auto)]
 
 mod commands;
+mod explaining;
 pub mod laws;
 mod program;
 mod questions;

@@ -5,21 +5,25 @@ ghost use Rattle.cc_io.specs.Wholes.{WriteAllCause};
 ghost use Rattle.cc_meta_modules.specs.ModuleLaws.{NamesOfDevicesDiffer};
 ghost use Rattle.cc_meta_modules.specs.PresentTexts.{ArePresent};
 ghost use Rattle.cc_mnf.specs.CoreModules.{device_names};
-ghost use Rattle.cc_replies.specs.Requests.{CheckModules, ShowSignature, ShowDerivation, RunDefinition, RunTasks, AuditDefinition, GuardDefinition, Ask, holding_under};
+ghost use Rattle.cc_replies.specs.Requests.{CheckModules, ShowSignature, ShowDerivation, RunDefinition, RunTasks, AuditDefinition, GuardDefinition, ExplainDefinition, ReplayDefinition, Ask, holding_under};
 ghost use Rattle.cc_policy.specs.declared.policy.Rule.{Rule};
 ghost use Rattle.capc.specs.Carried.{IsReplied};
 ghost use Rattle.capc.specs.Requests.{request_of, question_in};
 
+use crate::explaining::explained_reply;
 use crate::replies::write_reply;
-use crate::running::{Started, entry_reply, guarded_reply, start_all, tasks_text};
+use crate::running::{Started, entry_reply, guarded_reply, replayed_reply, start_all, tasks_text};
 use cc_base::code::Code;
 use cc_base::name::Name;
+use cc_base::text::Text;
 use cc_io::{Sink, WriteAll};
 use cc_job::job::Command;
 use cc_policy::policy::Policy;
 use cc_print::Names;
 use cc_replies::derivations::{derive_refusal, derive_reply};
+use cc_replies::explanations::explain_refusal;
 use cc_replies::policies::{audit_refusal, audit_reply, guard_refusal};
+use cc_replies::replays::replay_refusal;
 use cc_replies::runs::run_refusal;
 use cc_replies::signatures::{sig_refusal, sig_reply};
 use cc_replies::tasks::tasks_refusal;
@@ -270,6 +274,76 @@ fn show_guarded<K: Sink>(
     }
 }
 
+// Explains why each element is in the signature of the definition.
+fn show_explanation<K: Sink>(
+    alloc: Global,
+    names: &Names,
+    session: &Session,
+    module: &Name,
+    def: &Name,
+    sink: &mut K,
+) -> Result<bool, WriteAll>
+    requires count { K.faults sink.old < 2 ^ 64 - 1 }
+    requires checked { IsTrue session.now.checked }
+    requires differ { NamesOfDevicesDiffer session.now.devices }
+    requires present { ArePresent session.now.present }
+    requires names { (names.now.names.items ≡ device_names session.now.devices) × (names.now.locals ≡ 0) }
+    ensures replied { (rules : List Rule) → IsReplied session.now.devices (holding_under rules session.now.present) (Ask (ExplainDefinition «module».now def.now))
+        (K.written sink.old) (K.written sink.new) result }
+    ensures cause { WriteAllCause (K.faults sink.old) (K.faults sink.new) result }
+{
+    match session.standing(module, def) {
+        Ok(it) => {
+            match explained_reply(alloc, names, session, module, def, &it.def.checked.sig.set) {
+                Ok(text) => write_reply(sink, Ok(text), false),
+                Err(AllocError) => Err(WriteAll::NoMemory),
+            }
+        }
+        Err(StandingError::Refused(refused)) => write_reply(
+            sink,
+            explain_refusal(alloc, module, def, refused.code),
+            true,
+        ),
+        Err(StandingError::NoMemory) => Err(WriteAll::NoMemory),
+    }
+}
+
+// Replays the lines of the text with the definition of the module, and writes what comes of it.
+fn show_replay<K: Sink>(
+    alloc: Global,
+    names: &Names,
+    session: &Session,
+    module: &Name,
+    def: &Name,
+    fuel: u32,
+    text: &Text,
+    sink: &mut K,
+) -> Result<bool, WriteAll>
+    requires count { K.faults sink.old < 2 ^ 64 - 1 }
+    requires checked { IsTrue session.now.checked }
+    requires differ { NamesOfDevicesDiffer session.now.devices }
+    requires present { ArePresent session.now.present }
+    requires names { (names.now.names.items ≡ device_names session.now.devices) × (names.now.locals ≡ 0) }
+    ensures replied { (rules : List Rule) → IsReplied session.now.devices (holding_under rules session.now.present) (Ask (ReplayDefinition «module».now def.now fuel text.now))
+        (K.written sink.old) (K.written sink.new) result }
+    ensures cause { WriteAllCause (K.faults sink.old) (K.faults sink.new) result }
+{
+    match session.entry(module, def) {
+        Ok(entry) => {
+            match replayed_reply(alloc, names, module, def, fuel, text.as_bytes(), &entry) {
+                Ok((reply, refused)) => write_reply(sink, Ok(reply), refused),
+                Err(AllocError) => Err(WriteAll::NoMemory),
+            }
+        }
+        Err(EntryError::Refused(refused)) => write_reply(
+            sink,
+            replay_refusal(alloc, module, def, refused.code),
+            true,
+        ),
+        Err(EntryError::NoMemory) => Err(WriteAll::NoMemory),
+    }
+}
+
 /// Answers the question of the command, if it is one, where the policy is in force, and tells whether the reply is a
 /// refusal.
 pub fn answer_checked<K: Sink>(
@@ -311,6 +385,12 @@ pub fn answer_checked<K: Sink>(
         ),
         Command::Audit(module, def) => {
             show_audit(alloc, names, session, policy, module, def, sink)
+        }
+        Command::Explain(module, def) => {
+            show_explanation(alloc, names, session, module, def, sink)
+        }
+        Command::Replay(module, def, fuel, text) => {
+            show_replay(alloc, names, session, module, def, *fuel, text, sink)
         }
         Command::Guard(module, def, fuel) => show_guarded(
             alloc, names, session, policy, module, def, *fuel, sink,

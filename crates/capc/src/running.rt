@@ -1,6 +1,6 @@
 //! Running the programs of entries on the declared devices.
 
-ghost use Rattle.std.specs.Prelude.{◌≡◌, ◌+◌, ◌<◌, ℕ, List, map, length, IsTrue, IfOk};
+ghost use Rattle.std.specs.Prelude.{◌≡◌, ◌+◌, ◌<◌, ℕ, List, [], map, length, IsTrue, IfOk};
 ghost use Rattle.std.specs.List.{AllByRecursion};
 ghost use Rattle.std.specs.String.{string_bytes};
 ghost use Rattle.cc_device.specs.Declarations.{declared_bases, declared_devices};
@@ -14,6 +14,7 @@ ghost use Rattle.cc_meta_runs.specs.SoundRuns.{HasShapesOfCells};
 ghost use Rattle.cc_program.specs.Programs.{shapes_of, start_of};
 ghost use Rattle.cc_mnf.specs.CoreModules.{device_names};
 ghost use Rattle.cc_replies.specs.PolicyReplies.{guard_told};
+ghost use Rattle.cc_replies.specs.ReplayReplies.{replay_told};
 ghost use Rattle.cc_replies.specs.ReplyTexts.{reply_text, is_refusal, is_unfinished};
 ghost use Rattle.cc_replies.specs.RunReplies.{declared_run, tasks_told};
 ghost use Rattle.capc.specs.Running.{AreStarted, entry_text};
@@ -28,7 +29,9 @@ use cc_machine::Machine;
 use cc_policy::policy::Policy;
 use cc_print::Names;
 use cc_program::Program;
+use cc_replay::replay;
 use cc_replies::policies::{are_allowed, guard_refusal};
+use cc_replies::replays::{is_different, replay_reply};
 use cc_replies::runs::{is_cut_short, run_reply};
 use cc_replies::tasks::{tasks_cut_short, tasks_reply};
 use cc_session::entry::EntryError;
@@ -93,6 +96,32 @@ pub fn guarded_reply(
         let text = guard_refusal(alloc, module, def, Code::E37)?;
         Ok((text, true))
     }
+}
+
+/// The reply to a replay of the lines of a text with the definition, which has this entry, where the devices have the names,
+/// and whether that is a refusal. No device is operated.
+///
+/// Fails only for want of memory, as which 2^32 cells count.
+pub fn replayed_reply(
+    alloc: Global,
+    names: &Names,
+    module: &Name,
+    def: &Name,
+    fuel: u32,
+    text: &[u8],
+    entry: &Entry,
+) -> Result<(String, bool), AllocError>
+    ensures text { IfOk result (λ it. string_bytes it.0 ≡ reply_text []
+        (replay_told names.now.names.items «module».now def.now fuel text.now (entry_of entry.now))) }
+    ensures refused { IfOk result (λ it. it.1 ≡ is_refusal (replay_told names.now.names.items «module».now def.now fuel text.now (entry_of entry.now))) }
+{
+    let program = link(alloc, entry)?;
+    if !program.has_positions(fuel) {
+        return Err(AllocError);
+    }
+    let outcome = replay(alloc, &program, names, fuel, text)?;
+    let reply = replay_reply(alloc, module, def, outcome)?;
+    Ok((reply, is_different(outcome)))
 }
 
 /// What comes of several definitions that are to be run together.

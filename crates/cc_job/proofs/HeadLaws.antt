@@ -14,13 +14,13 @@ use Rattle.cc_base.specs.declared.device.Kind.{Kind}
 use Rattle.cc_base.specs.declared.device.Kind.TheVariants.{Console, File, Counter}
 use Rattle.cc_job.specs.declared.job.Command.{Command}
 use Rattle.cc_policy.specs.declared.policy.Rule.{Rule}
-use Rattle.cc_job.specs.declared.job.Command.TheVariants.{Put, Drop, Check, Sig, Derive, Run, Tasks, Verify, Policy, Audit, Guard}
+use Rattle.cc_job.specs.declared.job.Command.TheVariants.{Put, Drop, Check, Sig, Derive, Run, Tasks, Verify, Policy, Audit, Guard, Explain, Replay}
 use Rattle.cc_job.specs.declared.head.Head.{Head}
-use Rattle.cc_job.specs.declared.head.Head.TheVariants.{Device, Put as PutHead, Verify as VerifyHead, Policy as PolicyHead, Command as CommandHead}
+use Rattle.cc_job.specs.declared.head.Head.TheVariants.{Device, Put as PutHead, Verify as VerifyHead, Policy as PolicyHead, Replay as ReplayHead, Command as CommandHead}
 use Rattle.cc_words.specs.Words.{joined, pair_text, has_64_bits, IsPair, ◌>>=◌, split_at, first_and_rest, one_of, two_of, name_of, number_of, signed_of, all_of, pair_of}
 use Rattle.cc_words.specs.Lines.{Line, lines_of, AreWholeLines}
 use Rattle.cc_job.specs.Jobs.{Item, Declares, Commands, kind_words, command_words, item_words, command_text, item_text, command_rules, item_rules, IsKind, covers, IsSchedule, IsRule, IsCommand, IsItem}
-use Rattle.cc_job.specs.Reading.{is_schedule, schedule_of, turns_of, file_of, kind_with, kind_of, device_of, put_of, verify_of, policy_of, drop_of, check_of, sig_of, derive_of, run_of, tasks_of, audit_of, guard_of, command_with, head_with, head_of, text_size, rule_count}
+use Rattle.cc_job.specs.Reading.{is_schedule, schedule_of, turns_of, file_of, kind_with, kind_of, device_of, put_of, verify_of, policy_of, drop_of, check_of, sig_of, derive_of, run_of, tasks_of, audit_of, guard_of, replay_of, explain_of, command_with, head_with, head_of, text_size, rule_count}
 use Rattle.cc_words.proofs.Steps.{some_from_bind, passed, both, name_of_gives}
 use Rattle.cc_words.proofs.NameBytes.{name_of-encoded, Lacks-name}
 use Rattle.cc_words.proofs.Splits.{AllLack, Lacks-test, Lacks-joined, split_at-joined, joined-split_at}
@@ -190,6 +190,15 @@ guard_gives words command h =
       unruled = refl;
     })
 
+explain_gives : (words : List (List ℕ)) (command : Command) → explain_of words ≡ Some command → Says (codes "explain" ∷ words) command
+unfolding explain_of
+explain_gives words command h =
+    let one = some_from_bind (one_of words) (λ word. pair_of word >>= λ pair. Some (Explain pair.0 pair.1)) command h in
+    let found = some_from_bind (pair_of one.0) (λ pair. Some (Explain pair.0 pair.1)) command one.2 in
+    let pair = pair_of_gives one.0 found.0 found.1 in
+    subst (Says (codes "explain" ∷ words)) (some_same (Explain found.0.0 found.0.1) command found.2)
+    (record { is = pair.0; spelled = ap (λ ws. codes "explain" ∷ ws) (one_of_gives words one.0 one.1 ∙ ap (λ w. w ∷ []) pair.1); bare = refl; unruled = refl })
+
 command_gives : (word : List ℕ) (words : List (List ℕ)) (command : Command) → command_with word words ≡ Some command → Says (word ∷ words) command
 unfolding command_with
 command_gives word words command h =
@@ -200,8 +209,10 @@ command_gives word words command h =
     ⊎_elim (λ it. by (codes "run") it.0 (run_gives words command it.1)) (λ it.
     ⊎_elim (λ it. by (codes "tasks") it.0 (tasks_gives words command it.1)) (λ it.
     ⊎_elim (λ it. by (codes "audit") it.0 (audit_gives words command it.1)) (λ it.
-    ⊎_elim (λ it. by (codes "guard") it.0 (guard_gives words command it.1)) (λ it. clash it.1)
-    (choice (bytes_eq word (codes "guard")) (guard_of words) None command it.1))
+    ⊎_elim (λ it. by (codes "guard") it.0 (guard_gives words command it.1)) (λ it.
+    ⊎_elim (λ it. by (codes "explain") it.0 (explain_gives words command it.1)) (λ it. clash it.1)
+    (choice (bytes_eq word (codes "explain")) (explain_of words) None command it.1))
+    (choice (bytes_eq word (codes "guard")) (guard_of words) _ command it.1))
     (choice (bytes_eq word (codes "audit")) (audit_of words) _ command it.1))
     (choice (bytes_eq word (codes "tasks")) (tasks_of words) _ command it.1))
     (choice (bytes_eq word (codes "run")) (run_of words) _ command it.1))
@@ -263,6 +274,7 @@ item_from (Device device) text rules = Declares device
 item_from (PutHead name count) text rules = Commands (Put name text)
 item_from (VerifyHead count) text rules = Commands (Verify text)
 item_from (PolicyHead count) text rules = Commands (Policy rules)
+item_from (ReplayHead owner definition fuel count) text rules = Commands (Replay owner definition fuel text)
 item_from (CommandHead command) text rules = Commands command
 
 -- what the line of an item says
@@ -278,6 +290,8 @@ command_head (Verify text) = VerifyHead (length (lines_of text))
 command_head (Policy rules) = PolicyHead (length rules)
 command_head (Audit owner definition) = CommandHead (Audit owner definition)
 command_head (Guard owner definition fuel) = CommandHead (Guard owner definition fuel)
+command_head (Explain owner definition) = CommandHead (Explain owner definition)
+command_head (Replay owner definition fuel text) = ReplayHead owner definition fuel (length (lines_of text))
 
 abbrev pub head_for : Item → Head
 head_for (Declares device) = Device device
@@ -295,6 +309,8 @@ command_from (Verify text) = refl
 command_from (Policy rules) = refl
 command_from (Audit owner definition) = refl
 command_from (Guard owner definition fuel) = refl
+command_from (Explain owner definition) = refl
+command_from (Replay owner definition fuel text) = refl
 
 -- an item is what its line and the text and the rules behind say
 pub item_from-head : (item : Item) → item_from (head_for item) (item_text item) (item_rules item) ≡ item
@@ -313,6 +329,8 @@ command_size (Verify text) = refl
 command_size (Policy rules) = refl
 command_size (Audit owner definition) = refl
 command_size (Guard owner definition fuel) = refl
+command_size (Explain owner definition) = refl
+command_size (Replay owner definition fuel text) = refl
 
 -- the line says how many lines of text stand behind it
 pub text_size-head : (item : Item) → length (lines_of (item_text item)) ≡ text_size (head_for item)
@@ -331,6 +349,8 @@ command_count (Verify text) = refl
 command_count (Policy rules) = refl
 command_count (Audit owner definition) = refl
 command_count (Guard owner definition fuel) = refl
+command_count (Explain owner definition) = refl
+command_count (Replay owner definition fuel text) = refl
 
 -- and how many rules
 pub rule_count-head : (item : Item) → length (item_rules item) ≡ rule_count (head_for item)
@@ -414,6 +434,26 @@ module _ (text : List ℕ) (whole : AreWholeLines text) (rules : List Rule) (are
         refl,
       ))
 
+  replay_gives : (words : List (List ℕ)) (head : Head) → replay_of words ≡ Some head → HeadWords (codes "replay" ∷ words) head
+  unfolding replay_of HeadWords
+  replay_gives words head h =
+      let split = some_from_bind (first_and_rest words) (λ split. pair_of split.0 >>= λ pair. two_of split.1 >>= λ two. number_of 1000000 two.0 >>= λ fuel. number_of 4194304 two.1 >>= λ count. Some (ReplayHead pair.0 pair.1 fuel count)) head h in
+      let pair = some_from_bind (pair_of split.0.0) (λ pair. two_of split.0.1 >>= λ two. number_of 1000000 two.0 >>= λ fuel. number_of 4194304 two.1 >>= λ count. Some (ReplayHead pair.0 pair.1 fuel count)) head split.2 in
+      let two = some_from_bind (two_of split.0.1) (λ two. number_of 1000000 two.0 >>= λ fuel. number_of 4194304 two.1 >>= λ count. Some (ReplayHead pair.0.0 pair.0.1 fuel count)) head pair.2 in
+      let fuel = some_from_bind (number_of 1000000 two.0.0) (λ fuel. number_of 4194304 two.0.1 >>= λ count. Some (ReplayHead pair.0.0 pair.0.1 fuel count)) head two.2 in
+      let count = some_from_bind (number_of 4194304 two.0.1) (λ count. Some (ReplayHead pair.0.0 pair.0.1 fuel.0 count)) head fuel.2 in
+      let named = pair_of_gives split.0.0 pair.0 pair.1 in
+      let steps = number_of_gives 1000000 two.0.0 fuel.0 (omega arith) fuel.1 in
+      let number = number_of_gives 4194304 two.0.1 count.0 (omega arith) count.1 in
+      let words_are = first_gives words split.0 split.1 ∙ ap (λ ws. split.0.0 ∷ ws) (two_of_gives split.0.1 two.0.0 two.0.1 two.1) in
+      subst (HeadWords (codes "replay" ∷ words)) (some_same (ReplayHead pair.0.0 pair.0.1 fuel.0 count.0) head count.2)
+      (λ size many. (
+        (named.0, steps.0, whole, omega (arith, number.0)),
+        ap (λ ws. codes "replay" ∷ ws) (words_are ∙ (ap (λ w. w ∷ two.0.0 ∷ two.0.1 ∷ []) named.1 ∙ (ap (λ w. pair_text pair.0 ∷ w ∷ two.0.1 ∷ []) steps.1 ∙ (ap (λ w. pair_text pair.0 ∷ decimal fuel.0 ∷ w ∷ []) number.1 ∙ ap (λ n. pair_text pair.0 ∷ decimal fuel.0 ∷ decimal n ∷ []) (sym size))))),
+        refl,
+        sym (no_length rules many),
+      ))
+
   command_map : (o : Option Command) (head : Head) → option_map CommandHead o ≡ Some head → (command : Command) × (o ≡ Some command) × (CommandHead command ≡ head)
   command_map None head e = cc
   command_map (Some command) head e = (command, refl, cc)
@@ -424,7 +464,9 @@ module _ (text : List ℕ) (whole : AreWholeLines text) (rules : List Rule) (are
       ⊎_elim (λ it. by (codes "device") it.0 (device_gives words head it.1)) (λ it.
       ⊎_elim (λ it. by (codes "put") it.0 (put_gives words head it.1)) (λ it.
       ⊎_elim (λ it. by (codes "verify") it.0 (verify_gives words head it.1)) (λ it.
-      ⊎_elim (λ it. by (codes "policy") it.0 (policy_gives words head it.1)) (λ it. of_command (command_map (command_with word words) head it.1))
+      ⊎_elim (λ it. by (codes "policy") it.0 (policy_gives words head it.1)) (λ it.
+      ⊎_elim (λ it. by (codes "replay") it.0 (replay_gives words head it.1)) (λ it. of_command (command_map (command_with word words) head it.1))
+      (choice (bytes_eq word (codes "replay")) (replay_of words) _ head it.1))
       (choice (bytes_eq word (codes "policy")) (policy_of words) _ head it.1))
       (choice (bytes_eq word (codes "verify")) (verify_of words) _ head it.1))
       (choice (bytes_eq word (codes "put")) (put_of words) _ head it.1))
@@ -489,6 +531,9 @@ command-lacks (Policy rules) is =
 command-lacks (Audit owner definition) is = (Lacks-test 32 (codes "audit") refl, (Lacks-pair (owner, definition) is, tt))
 command-lacks (Guard owner definition fuel) is =
     (Lacks-test 32 (codes "guard") refl, (Lacks-pair (owner, definition) is.0, (Lacks-decimal 32 fuel (omega arith) (omega (arith, is.1)), tt)))
+command-lacks (Explain owner definition) is = (Lacks-test 32 (codes "explain") refl, (Lacks-pair (owner, definition) is, tt))
+command-lacks (Replay owner definition fuel text) is =
+    (Lacks-test 32 (codes "replay") refl, (Lacks-pair (owner, definition) is.0, (Lacks-decimal 32 fuel (omega arith) (omega (arith, is.1)), (Lacks-decimal 32 (length (lines_of text)) (omega arith) (omega (arith, is.3)), tt))))
 
 -- what the words of a command say
 kind_of-words : (kind : Kind) → IsKind kind → kind_of (kind_words kind) ≡ Some kind
@@ -579,6 +624,16 @@ guard-says : (pair : List ℕ × List ℕ) (fuel : ℕ) → IsPair pair → fuel
 unfolding head_with command_with guard_of
 guard-says pair fuel is low = rw (pair_of-text pair is, number_of-decimal 1000000 fuel (omega arith) low) refl
 
+explain-says : (pair : List ℕ × List ℕ) → IsPair pair → head_with (codes "explain") (pair_text pair ∷ []) ≡ Some (CommandHead (Explain pair.0 pair.1))
+unfolding head_with command_with explain_of
+explain-says pair is = rw (pair_of-text pair is) refl
+
+replay-says : (pair : List ℕ × List ℕ) (fuel : ℕ) (text : List ℕ) → IsPair pair → fuel ≤ 1000000 → length (lines_of text) ≤ 4194304
+    → head_with (codes "replay") (pair_text pair ∷ decimal fuel ∷ decimal (length (lines_of text)) ∷ []) ≡ Some (command_head (Replay pair.0 pair.1 fuel text))
+unfolding head_with replay_of
+replay-says pair fuel text is low few =
+    rw (pair_of-text pair is, number_of-decimal 1000000 fuel (omega arith) low, number_of-decimal 4194304 (length (lines_of text)) (omega arith) few) refl
+
 command-says : (command : Command) → IsCommand command → head_of (joined 32 (command_words command)) ≡ Some (command_head command)
 command-says (Put name text) is = head_of-joined _ _ (command-lacks (Put name text) is) ∙ put-says name text is
 command-says (Drop name) is = head_of-joined _ _ (command-lacks (Drop name) is) ∙ drop-says name is
@@ -591,6 +646,8 @@ command-says (Verify text) is = head_of-joined _ _ (command-lacks (Verify text) 
 command-says (Policy rules) is = head_of-joined _ _ (command-lacks (Policy rules) is) ∙ policy-says rules is
 command-says (Audit owner definition) is = head_of-joined _ _ (command-lacks (Audit owner definition) is) ∙ audit-says (owner, definition) is
 command-says (Guard owner definition fuel) is = head_of-joined _ _ (command-lacks (Guard owner definition fuel) is) ∙ guard-says (owner, definition) fuel is.0 is.1
+command-says (Explain owner definition) is = head_of-joined _ _ (command-lacks (Explain owner definition) is) ∙ explain-says (owner, definition) is
+command-says (Replay owner definition fuel text) is = head_of-joined _ _ (command-lacks (Replay owner definition fuel text) is) ∙ replay-says (owner, definition) fuel text is.0 is.1 is.3
 
 -- the line of an item says what the item is
 pub head_of-item : (item : Item) → IsItem item → head_of (joined 32 (item_words item)) ≡ Some (head_for item)

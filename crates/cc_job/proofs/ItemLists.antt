@@ -6,7 +6,7 @@ use Rattle.std.proofs.lemmas.List.{append_assoc, length-append, length-map}
 use Rattle.cc_words.specs.Words.{joined}
 use Rattle.cc_words.specs.Lines.{Line, lines_of, AreWholeLines}
 use Rattle.cc_job.specs.Jobs.{Item, Declares, Commands, item_words, item_text, item_rules, item_lines, rule_line, IsRule, IsCommand, IsItem, skipped, AreItems}
-use Rattle.cc_job.specs.declared.job.Command.TheVariants.{Put, Drop, Check, Sig, Derive, Run, Tasks, Verify, Policy, Audit, Guard}
+use Rattle.cc_job.specs.declared.job.Command.TheVariants.{Put, Drop, Check, Sig, Derive, Run, Tasks, Verify, Policy, Audit, Guard, Explain, Replay}
 use Rattle.cc_job.specs.Reading.{head_of, text_size, rule_count}
 use Rattle.cc_words.proofs.LineLists.{terminated, terminated-lines_of, cons_parts}
 use Rattle.cc_job.proofs.HeadLaws.{item_from, head_for, item_from-head, text_size-head, rule_count-head, head_of-item}
@@ -24,6 +24,8 @@ command_whole (Verify text) is = is.0
 command_whole (Policy rules) is = refl
 command_whole (Audit owner definition) is = refl
 command_whole (Guard owner definition fuel) is = refl
+command_whole (Explain owner definition) is = refl
+command_whole (Replay owner definition fuel text) is = is.2
 
 -- the text behind an item's line is whole lines
 pub text_whole : (item : Item) → IsItem item → AreWholeLines (item_text item)
@@ -42,6 +44,8 @@ command_ruled (Verify text) is = tt
 command_ruled (Policy rules) is = is.0
 command_ruled (Audit owner definition) is = tt
 command_ruled (Guard owner definition fuel) is = tt
+command_ruled (Explain owner definition) is = tt
+command_ruled (Replay owner definition fuel text) is = tt
 
 -- and the rules are rules
 pub rules_are : (item : Item) → IsItem item → AllByRecursion IsRule (item_rules item)
@@ -103,6 +107,8 @@ command_begins (Verify text) = (118, _, refl)
 command_begins (Policy rules) = (112, _, refl)
 command_begins (Audit owner definition) = (97, _, refl)
 command_begins (Guard owner definition fuel) = (103, _, refl)
+command_begins (Explain owner definition) = (101, _, refl)
+command_begins (Replay owner definition fuel text) = (114, _, refl)
 
 item_begins : (item : Item) → (c : ℕ) × (cs : List ℕ) × (joined 32 (item_words item) ≡ c ∷ cs)
 item_begins (Declares device) = (100, _, refl)

@@ -12,7 +12,7 @@ use Rattle.cc_policy.specs.declared.policy.Rule.{Rule}
 use Rattle.cc_job.specs.declared.job.Job.{Job}
 use Rattle.cc_job.specs.declared.job.Command.{Command}
 use Rattle.cc_job.specs.declared.head.Head.{Head}
-use Rattle.cc_job.specs.declared.head.Head.TheVariants.{Device, Put as PutHead, Verify as VerifyHead, Policy as PolicyHead, Command as CommandHead}
+use Rattle.cc_job.specs.declared.head.Head.TheVariants.{Device, Put as PutHead, Verify as VerifyHead, Policy as PolicyHead, Replay as ReplayHead, Command as CommandHead}
 use Rattle.cc_words.specs.Words.{joined}
 use Rattle.cc_words.specs.Lines.{Line, lines_of, is_whole_behind, text_cut, next_line}
 use Rattle.cc_job.specs.Jobs.{Item, Declares, Commands, item_words, item_text, item_rules, item_lines, rule_line, IsRule, IsItem, AreItems, items_of, last_text, first_line, IsJob, BeginsJob, IsBadAt, BytesHaveOneJob, BytesHaveOneBadLine}
@@ -159,6 +159,7 @@ admitted_any bytes job is devices commands line more at (Device device) h =
 admitted_any bytes job is devices commands line more at (PutHead name count) h = refl
 admitted_any bytes job is devices commands line more at (VerifyHead count) h = refl
 admitted_any bytes job is devices commands line more at (PolicyHead count) h = refl
+admitted_any bytes job is devices commands line more at (ReplayHead owner definition fuel count) h = refl
 admitted_any bytes job is devices commands line more at (CommandHead command) h = refl
 
 -- the line says what the item says

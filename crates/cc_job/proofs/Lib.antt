@@ -9,3 +9,4 @@ pub mod ReadJobs
 pub mod WorkedJobs
 pub mod WorkedLimits
 pub mod WorkedPolicies
+pub mod WorkedTraces

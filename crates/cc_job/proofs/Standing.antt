@@ -11,9 +11,9 @@ use Rattle.cc_base.specs.declared.device.DeviceDecl.{DeviceDecl}
 use Rattle.cc_policy.specs.declared.policy.Rule.{Rule}
 use Rattle.cc_job.specs.declared.job.Job.{Job}
 use Rattle.cc_job.specs.declared.job.Command.{Command}
-use Rattle.cc_job.specs.declared.job.Command.TheVariants.{Put, Verify, Policy}
+use Rattle.cc_job.specs.declared.job.Command.TheVariants.{Put, Verify, Policy, Replay}
 use Rattle.cc_job.specs.declared.head.Head.{Head}
-use Rattle.cc_job.specs.declared.head.Head.TheVariants.{Device, Put as PutHead, Verify as VerifyHead, Policy as PolicyHead, Command as CommandHead}
+use Rattle.cc_job.specs.declared.head.Head.TheVariants.{Device, Put as PutHead, Verify as VerifyHead, Policy as PolicyHead, Replay as ReplayHead, Command as CommandHead}
 use Rattle.cc_words.specs.Lines.{Line, lines_of, is_whole_behind}
 use Rattle.cc_job.specs.Jobs.{Item, Declares, Commands, item_text, item_rules, item_lines, rule_line, IsRule, AreItems, last_text, first_line, IsJob, BeginsJob}
 use Rattle.cc_job.specs.Reading.{head_of, text_size, rule_count, lines_behind, has_device, admits, is_admitted, devices_with, commands_with}
@@ -143,6 +143,8 @@ added devices commands (VerifyHead count) text rules admitted few names =
     record { few = few; names = names; items = command_added devices commands (Verify text) }
 added devices commands (PolicyHead count) text rules admitted few names =
     record { few = few; names = names; items = command_added devices commands (Policy rules) }
+added devices commands (ReplayHead owner definition fuel count) text rules admitted few names =
+    record { few = few; names = names; items = command_added devices commands (Replay owner definition fuel text) }
 added devices commands (CommandHead command) text rules admitted few names =
     record { few = few; names = names; items = command_added devices commands command }
 
@@ -165,6 +167,7 @@ one_kind (Device device) some = absurd (omega arith)
 one_kind (PutHead name count) some = absurd (omega arith)
 one_kind (VerifyHead count) some = absurd (omega arith)
 one_kind (PolicyHead count) some = refl
+one_kind (ReplayHead owner definition fuel count) some = absurd (omega arith)
 one_kind (CommandHead command) some = absurd (omega arith)
 
 pub lines_behind-sum : (head : Head) → lines_behind head ≡ text_size head + rule_count head
@@ -172,6 +175,7 @@ lines_behind-sum (Device device) = refl
 lines_behind-sum (PutHead name count) = omega arith
 lines_behind-sum (VerifyHead count) = omega arith
 lines_behind-sum (PolicyHead count) = omega arith
+lines_behind-sum (ReplayHead owner definition fuel count) = omega arith
 lines_behind-sum (CommandHead command) = refl
 
 pub append_empty : {A : Type 0} (xs ys : List A) → xs ++ ys ≡ [] → (xs ≡ []) × (ys ≡ [])

@@ -1,7 +1,7 @@
 -- Worked jobs, and bytes that are none.
 use Rattle.std.specs.Prelude.{ℕ, pos, negsuc, Bool, true, false, List, [], ◌∷◌, ◌++◌, Option, Some, None, codes}
 use Rattle.cc_base.specs.declared.device.Kind.TheVariants.{Console, File, Counter}
-use Rattle.cc_job.specs.declared.job.Command.TheVariants.{Put, Drop, Check, Sig, Derive, Run, Tasks, Verify, Policy, Audit, Guard}
+use Rattle.cc_job.specs.declared.job.Command.TheVariants.{Put, Drop, Check, Sig, Derive, Run, Tasks, Verify, Policy, Audit, Guard, Explain, Replay}
 use Rattle.cc_policy.specs.declared.policy.Rule.{Rule}
 use Rattle.cc_job.specs.Jobs.{IsJob, IsBadAt}
 
@@ -61,6 +61,22 @@ PolicyJob =
           rule true (Some (codes "m")) None ∷ []) ∷
           Audit (codes "m") (codes "f") ∷ Guard (codes "m") (codes "f") 7 ∷ Policy [] ∷
           Policy (rule false None None ∷ []) ∷ [];
+    })
+
+-- what is explained, and traces that are replayed: an empty line counts, spaces are free, and what could be a command is
+-- none; the last line has no text behind it, and stands without its line feed
+abbrev pub TraceJob : Type 0
+TraceJob =
+    IsJob
+    (text (
+    codes "capc 1" ∷ codes "explain m.f" ∷ codes "replay m.f 1000000 3" ∷ [] ∷ codes "d  read 1" ∷ codes "check" ∷ [] ∷
+    codes "check" ∷ []) ++ codes "replay m.g 0 0")
+    (record {
+      devices = [];
+      commands =
+          Explain (codes "m") (codes "f") ∷
+          Replay (codes "m") (codes "f") 1000000 (text ([] ∷ codes "d  read 1" ∷ codes "check" ∷ [])) ∷ Check ∷
+          Replay (codes "m") (codes "g") 0 [] ∷ [];
     })
 
 -- no bytes

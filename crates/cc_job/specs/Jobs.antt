@@ -12,7 +12,7 @@ use Rattle.cc_policy.specs.declared.policy.Rule.{Rule}
 use Rattle.cc_words.specs.Words.{joined, has_64_bits, IsPair, pair_text}
 use Rattle.cc_words.specs.Lines.{Line, lines_of, AreWholeLines}
 use Rattle.cc_job.specs.declared.job.Command.{Command}
-use Rattle.cc_job.specs.declared.job.Command.TheVariants.{Put, Drop, Check, Sig, Derive, Run, Tasks, Verify, Policy, Audit, Guard}
+use Rattle.cc_job.specs.declared.job.Command.TheVariants.{Put, Drop, Check, Sig, Derive, Run, Tasks, Verify, Policy, Audit, Guard, Explain, Replay}
 use Rattle.cc_job.specs.declared.job.Job.{Job}
 use Rattle.cc_job.specs.declared.job.JobError.{JobError}
 use Rattle.cc_job.specs.declared.job.JobError.TheVariants.{BadJob, NoMemory}
@@ -57,13 +57,16 @@ command_words (Verify text) = codes "verify" ∷ decimal (length (lines_of text)
 command_words (Policy rules) = codes "policy" ∷ decimal (length rules) ∷ []
 command_words (Audit owner definition) = codes "audit" ∷ pair_text (owner, definition) ∷ []
 command_words (Guard owner definition fuel) = codes "guard" ∷ pair_text (owner, definition) ∷ decimal fuel ∷ []
+command_words (Explain owner definition) = codes "explain" ∷ pair_text (owner, definition) ∷ []
+command_words (Replay owner definition fuel text) =
+    codes "replay" ∷ pair_text (owner, definition) ∷ decimal fuel ∷ decimal (length (lines_of text)) ∷ []
 
 -- the words of an item's line
 abbrev pub item_words : Item → List (List ℕ)
 item_words (Declares device) = codes "device" ∷ encode_utf8_all device.name ∷ kind_words device.kind
 item_words (Commands command) = command_words command
 
--- the text behind an item's line: that of a put, or the one that is verified
+-- the text behind an item's line: that of a put, or the one that is verified or replayed
 abbrev pub command_text : Command → List ℕ
 command_text (Put name text) = text
 command_text (Drop name) = []
@@ -76,6 +79,8 @@ command_text (Verify text) = text
 command_text (Policy rules) = []
 command_text (Audit owner definition) = []
 command_text (Guard owner definition fuel) = []
+command_text (Explain owner definition) = []
+command_text (Replay owner definition fuel text) = text
 
 abbrev pub item_text : Item → List ℕ
 item_text (Declares device) = []
@@ -94,6 +99,8 @@ command_rules (Verify text) = []
 command_rules (Policy rules) = rules
 command_rules (Audit owner definition) = []
 command_rules (Guard owner definition fuel) = []
+command_rules (Explain owner definition) = []
+command_rules (Replay owner definition fuel text) = []
 
 abbrev pub item_rules : Item → List Rule
 item_rules (Declares device) = []
@@ -144,6 +151,9 @@ IsCommand (Verify text) = AreWholeLines text × (length (lines_of text) ≤ 4194
 IsCommand (Policy rules) = AllByRecursion IsRule rules × (length rules ≤ 256)
 IsCommand (Audit owner definition) = IsName owner × IsName definition
 IsCommand (Guard owner definition fuel) = (IsName owner × IsName definition) × (fuel ≤ 1000000)
+IsCommand (Explain owner definition) = IsName owner × IsName definition
+IsCommand (Replay owner definition fuel text) =
+    (IsName owner × IsName definition) × (fuel ≤ 1000000) × AreWholeLines text × (length (lines_of text) ≤ 4194304)
 
 abbrev pub IsItem : Item → Type 0
 IsItem (Declares device) = IsName device.name × IsKind device.kind
@@ -175,7 +185,7 @@ abbrev pub first_line : Line
 first_line = codes "capc 1"
 
 -- The bytes are the text of the job. Its last line may stand without its line feed, unless it is one of the text of a
--- put or of one that is verified; so the line of a rule may.
+-- put or of one that is verified or replayed; so the line of a rule may.
 pub record IsJob (bytes : List ℕ) (job : Job) : Type 0 where
   pub behind : List Line
   pub begins : lines_of bytes ≡ first_line ∷ behind

@@ -4,7 +4,7 @@ use Rattle.std.specs.Fmt.{decimal}
 use Rattle.cc_base.specs.declared.device.Kind.TheVariants.{Console, File}
 use Rattle.cc_base.specs.declared.device.DeviceDecl.{DeviceDecl}
 use Rattle.cc_job.specs.declared.job.Command.{Command}
-use Rattle.cc_job.specs.declared.job.Command.TheVariants.{Put, Check, Run, Tasks, Verify, Policy, Guard}
+use Rattle.cc_job.specs.declared.job.Command.TheVariants.{Put, Check, Run, Tasks, Verify, Policy, Guard, Replay}
 use Rattle.cc_words.specs.Words.{joined}
 use Rattle.cc_job.specs.Jobs.{IsJob, IsBadAt}
 use Rattle.cc_job.specs.Examples.{text, rule}
@@ -189,3 +189,38 @@ abbrev pub AuditForms : Type 0
 AuditForms =
     IsRefused (codes "audit m") × IsRefused (codes "audit m.f.g") × IsRefused (codes "audit m.f 1")
     × IsRefused (codes "guard m.f") × IsRefused (codes "guard m.f 01")
+
+-- the fuel of a replayed run: nothing, 1,000,000 and one more
+abbrev pub ReplayFuelLimit : Type 0
+ReplayFuelLimit =
+    Commands (codes "replay m.f 0 0") (Replay (codes "m") (codes "f") 0 [])
+    × Commands (codes "replay m.f 1000000 0") (Replay (codes "m") (codes "f") 1000000 [])
+    × IsRefused (codes "replay m.f 1000001 0")
+
+-- A trace of 4,194,304 lines may follow, and here none does. None has a line more.
+abbrev pub TraceLineLimit : Type 0
+TraceLineLimit = IsBadAt (with_line (codes "replay m.f 1 4194304")) 3 × IsRefused (codes "replay m.f 1 4194305")
+
+-- The lines behind it are its text. It is cut short by a line fewer, and where its last line has no line feed; of one
+-- line more, the last is read as a command.
+abbrev pub TraceLineCounts : Type 0
+TraceLineCounts =
+    IsJob (text (codes "capc 1" ∷ codes "replay m.f 1 1" ∷ codes "check" ∷ []))
+    (record { devices = []; commands = Replay (codes "m") (codes "f") 1 (text (codes "check" ∷ [])) ∷ [] })
+    × IsBadAt (text (codes "capc 1" ∷ codes "replay m.f 1 2" ∷ codes "a" ∷ [])) 4
+    × IsBadAt (text (codes "capc 1" ∷ codes "replay m.f 1 2" ∷ codes "a" ∷ []) ++ codes "b") 5
+    × IsBadAt (text (codes "capc 1" ∷ codes "replay m.f 1 1" ∷ codes "a" ∷ codes "b" ∷ [])) 4
+
+-- without the number of lines, without fuel, with a zero before either number, with a module alone, a word too many, and
+-- two spaces between words
+abbrev pub ReplayForms : Type 0
+ReplayForms =
+    IsRefused (codes "replay m.f 1") × IsRefused (codes "replay m.f") × IsRefused (codes "replay m.f 1 01")
+    × IsRefused (codes "replay m.f 01 1") × IsRefused (codes "replay m 1 0") × IsRefused (codes "replay m.f 1 0 0")
+    × IsRefused (codes "replay m.f  1 0")
+
+-- of a module alone, of three names, with fuel, or of nothing
+abbrev pub ExplainForms : Type 0
+ExplainForms =
+    IsRefused (codes "explain m") × IsRefused (codes "explain m.f.g") × IsRefused (codes "explain m.f 3")
+    × IsRefused (codes "explain")

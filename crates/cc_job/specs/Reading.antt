@@ -7,9 +7,9 @@ use Rattle.std.specs.Str.{bytes_eq}
 use Rattle.cc_base.specs.declared.device.Kind.{Kind}
 use Rattle.cc_base.specs.declared.device.Kind.TheVariants.{Console, File, Counter}
 use Rattle.cc_job.specs.declared.job.Command.{Command}
-use Rattle.cc_job.specs.declared.job.Command.TheVariants.{Put, Drop, Check, Sig, Derive, Run, Tasks, Verify, Policy, Audit, Guard}
+use Rattle.cc_job.specs.declared.job.Command.TheVariants.{Put, Drop, Check, Sig, Derive, Run, Tasks, Verify, Policy, Audit, Guard, Explain, Replay}
 use Rattle.cc_job.specs.declared.head.Head.{Head}
-use Rattle.cc_job.specs.declared.head.Head.TheVariants.{Device, Put as PutHead, Verify as VerifyHead, Policy as PolicyHead, Command as CommandHead}
+use Rattle.cc_job.specs.declared.head.Head.TheVariants.{Device, Put as PutHead, Verify as VerifyHead, Policy as PolicyHead, Replay as ReplayHead, Command as CommandHead}
 use Rattle.cc_base.specs.declared.device.DeviceDecl.{DeviceDecl}
 use Rattle.cc_policy.specs.declared.policy.Rule.{Rule}
 use Rattle.cc_job.specs.declared.rules.RuleLines.{RuleLines}
@@ -80,6 +80,15 @@ policy_of words = do
   count ← number_of 256 digits
   Some (PolicyHead count)
 
+unfoldable pub replay_of : List (List ℕ) → Option Head
+replay_of words = do
+  split ← first_and_rest words
+  pair ← pair_of split.0
+  two ← two_of split.1
+  fuel ← number_of 1000000 two.0
+  count ← number_of 4194304 two.1
+  Some (ReplayHead pair.0 pair.1 fuel count)
+
 unfoldable pub drop_of : List (List ℕ) → Option Command
 drop_of words = do
   word ← one_of words
@@ -129,6 +138,12 @@ guard_of words = do
   fuel ← number_of 1000000 two.1
   Some (Guard pair.0 pair.1 fuel)
 
+unfoldable pub explain_of : List (List ℕ) → Option Command
+explain_of words = do
+  word ← one_of words
+  pair ← pair_of word
+  Some (Explain pair.0 pair.1)
+
 -- the command that a word and those behind it say, where no line stands behind it
 unfoldable pub command_with : List ℕ → List (List ℕ) → Option Command
 command_with word rest =
@@ -140,6 +155,7 @@ command_with word rest =
     else if bytes_eq word (codes "tasks") then tasks_of rest
     else if bytes_eq word (codes "audit") then audit_of rest
     else if bytes_eq word (codes "guard") then guard_of rest
+    else if bytes_eq word (codes "explain") then explain_of rest
     else None
 
 unfoldable pub head_with : List ℕ → List (List ℕ) → Option Head
@@ -148,6 +164,7 @@ head_with word rest =
     else if bytes_eq word (codes "put") then put_of rest
     else if bytes_eq word (codes "verify") then verify_of rest
     else if bytes_eq word (codes "policy") then policy_of rest
+    else if bytes_eq word (codes "replay") then replay_of rest
     else option_map CommandHead (command_with word rest)
 
 -- what a line says, without the lines behind it
@@ -162,6 +179,7 @@ text_size (Device device) = 0
 text_size (PutHead name count) = count
 text_size (VerifyHead count) = count
 text_size (PolicyHead count) = 0
+text_size (ReplayHead owner definition fuel count) = count
 text_size (CommandHead command) = 0
 
 -- how many lines of rules
@@ -170,6 +188,7 @@ rule_count (Device device) = 0
 rule_count (PutHead name count) = 0
 rule_count (VerifyHead count) = 0
 rule_count (PolicyHead count) = count
+rule_count (ReplayHead owner definition fuel count) = 0
 rule_count (CommandHead command) = 0
 
 -- how many lines
@@ -178,6 +197,7 @@ lines_behind (Device device) = 0
 lines_behind (PutHead name count) = count
 lines_behind (VerifyHead count) = count
 lines_behind (PolicyHead count) = count
+lines_behind (ReplayHead owner definition fuel count) = count
 lines_behind (CommandHead command) = 0
 
 -- whether the word says that a rule allows
@@ -228,10 +248,10 @@ rules_cut (suc count) (b ∷ bs) =
     before_rules (rule_of (next_line (b ∷ bs)).0) (rules_cut count (next_line (b ∷ bs)).1)
 
 -- what the lines that were read are
-abbrev pub AreLines : RuleLines → Rules → Type 0
-AreLines (ReadLines policy behind) rules = rules ≡ Are policy behind.now
-AreLines (BadRuleLine place) rules = rules ≡ BadRule place
-AreLines CutLines rules = rules ≡ TooFew
+abbrev pub rules_in : RuleLines → Rules
+rules_in (ReadLines policy behind) = Are policy behind.now
+rules_in (BadRuleLine place) = BadRule place
+rules_in CutLines = TooFew
 
 -- whether a device has the name
 abbrev pub has_device : List DeviceDecl → DeviceDecl → Bool
@@ -247,6 +267,7 @@ is_admitted devices commands (Device device) = admits devices commands device
 is_admitted devices commands (PutHead name count) = true
 is_admitted devices commands (VerifyHead count) = true
 is_admitted devices commands (PolicyHead count) = true
+is_admitted devices commands (ReplayHead owner definition fuel count) = true
 is_admitted devices commands (CommandHead command) = true
 
 -- the devices and the commands, with what a line and the text and the rules behind it say
@@ -255,6 +276,7 @@ devices_with devices (Device device) = devices ++ device ∷ []
 devices_with devices (PutHead name count) = devices
 devices_with devices (VerifyHead count) = devices
 devices_with devices (PolicyHead count) = devices
+devices_with devices (ReplayHead owner definition fuel count) = devices
 devices_with devices (CommandHead command) = devices
 
 abbrev pub commands_with : List Command → Head → List ℕ → List Rule → List Command
@@ -262,6 +284,8 @@ commands_with commands (Device device) text rules = commands
 commands_with commands (PutHead name count) text rules = commands ++ Put name text ∷ []
 commands_with commands (VerifyHead count) text rules = commands ++ Verify text ∷ []
 commands_with commands (PolicyHead count) text rules = commands ++ Policy rules ∷ []
+commands_with commands (ReplayHead owner definition fuel count) text rules =
+    commands ++ Replay owner definition fuel text ∷ []
 commands_with commands (CommandHead command) text rules = commands ++ command ∷ []
 
 -- What is read at the front: a line and so many behind it, with the devices and the commands then, and what stands

@@ -3,7 +3,7 @@
 ghost use Rattle.std.specs.Prelude.{◌≡◌, ◌<◌, map, IfOk};
 ghost use Rattle.std.specs.Option.{option_map};
 ghost use Rattle.cc_words.specs.Words.{number_of};
-ghost use Rattle.cc_job.specs.Reading.{covers, is_schedule, schedule_of, file_of, kind_of, kind_with, device_of, put_of, verify_of, policy_of, drop_of, check_of, sig_of, derive_of, run_of, turns_of, tasks_of, audit_of, guard_of, command_with, head_with, head_of};
+ghost use Rattle.cc_job.specs.Reading.{covers, is_schedule, schedule_of, file_of, kind_of, kind_with, device_of, put_of, verify_of, policy_of, drop_of, check_of, sig_of, derive_of, run_of, turns_of, tasks_of, audit_of, guard_of, replay_of, explain_of, command_with, head_with, head_of};
 
 use crate::job::{Command, EntryList, Schedule};
 use cc_base::device::{DeviceDecl, Kind, Numbers};
@@ -25,6 +25,9 @@ pub enum Head {
     Verify(u32),
     /// The rules, which are so many, are in force.
     Policy(u32),
+    /// The text, which is as many lines as the last number says, is judged as the trace of a run of a module's
+    /// definition, for at most so many steps as the first.
+    Replay(Name, Name, u32, u32),
     /// The command is given.
     Command(Command),
 }
@@ -206,6 +209,28 @@ fn policy_of(words: &[&[u8]]) -> Option<Head>
     Some(Head::Policy(count as u32))
 }
 
+#[tactic(auto, unfolding(crate::specs::Reading::replay_of))]
+fn replay_of(alloc: Global, words: &[&[u8]]) -> Result<Option<Head>, AllocError>
+    ensures { IfOk result (λ head. head ≡ replay_of (map (λ it. it.now) words.now)) }
+{
+    let Some((word, rest)) = first_and_rest(words) else {
+        return Ok(None);
+    };
+    let Some((module, definition)) = pair_of(alloc, word)? else {
+        return Ok(None);
+    };
+    let Some((steps, lines)) = two_of(rest) else {
+        return Ok(None);
+    };
+    let Some(fuel) = fuel_of(steps) else {
+        return Ok(None);
+    };
+    let Some(count) = text_lines_of(lines) else {
+        return Ok(None);
+    };
+    Ok(Some(Head::Replay(module, definition, fuel, count)))
+}
+
 #[tactic(auto, unfolding(crate::specs::Reading::drop_of))]
 fn drop_of(alloc: Global, words: &[&[u8]]) -> Result<Option<Command>, AllocError>
     ensures { IfOk result (λ command. command ≡ drop_of (map (λ it. it.now) words.now)) }
@@ -316,6 +341,19 @@ fn guard_of(alloc: Global, words: &[&[u8]]) -> Result<Option<Command>, AllocErro
     Ok(Some(Command::Guard(module, definition, fuel)))
 }
 
+#[tactic(auto, unfolding(crate::specs::Reading::explain_of))]
+fn explain_of(alloc: Global, words: &[&[u8]]) -> Result<Option<Command>, AllocError>
+    ensures { IfOk result (λ command. command ≡ explain_of (map (λ it. it.now) words.now)) }
+{
+    let Some(word) = one_of(words) else {
+        return Ok(None);
+    };
+    let Some((module, definition)) = pair_of(alloc, word)? else {
+        return Ok(None);
+    };
+    Ok(Some(Command::Explain(module, definition)))
+}
+
 // The command that a word and those behind it say, where no line stands behind it.
 #[tactic(auto, unfolding(crate::specs::Reading::command_with))]
 fn command_with(alloc: Global, word: &[u8], rest: &[&[u8]]) -> Result<Option<Command>, AllocError>
@@ -345,6 +383,9 @@ fn command_with(alloc: Global, word: &[u8], rest: &[&[u8]]) -> Result<Option<Com
     if word == b"guard".as_slice() {
         return guard_of(alloc, rest);
     }
+    if word == b"explain".as_slice() {
+        return explain_of(alloc, rest);
+    }
     Ok(None)
 }
 
@@ -364,6 +405,9 @@ fn head_with(alloc: Global, word: &[u8], rest: &[&[u8]]) -> Result<Option<Head>,
     }
     if word == b"policy".as_slice() {
         return Ok(policy_of(rest));
+    }
+    if word == b"replay".as_slice() {
+        return replay_of(alloc, rest);
     }
     match command_with(alloc, word, rest)? {
         Some(command) => Ok(Some(Head::Command(command))),

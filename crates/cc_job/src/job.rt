@@ -129,6 +129,10 @@ pub enum Command {
     Audit(Name, Name),
     /// A module's definition is run as by `Run` where the rules in force permit it.
     Guard(Name, Name, u32),
+    /// Why the devices in the signature of a module's definition stand there is shown.
+    Explain(Name, Name),
+    /// The text is judged as the trace of a run of a module's definition, for at most so many steps.
+    Replay(Name, Name, u32, Text),
 }
 
 /// The commands of a job, in order. Contracts see their list.

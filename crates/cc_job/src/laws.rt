@@ -1,6 +1,6 @@
 ghost use Rattle.cc_job.specs.Jobs.{BytesAreAJobOrBad, BytesHaveOneJob, BytesHaveOneBadLine};
 ghost use Rattle.cc_job.specs.LimitExamples as limit;
-ghost use Rattle.cc_job.specs.Examples.{ShortestJob, LongJob, CertificateJob, PolicyJob, NothingIsBad, TwoSpacesAreBad, MinusZeroIsBad, MissingTaskIsBad, LateDeviceIsBad, SecondNameIsBad, ShortTextIsBad, OpenTextIsBad};
+ghost use Rattle.cc_job.specs.Examples.{ShortestJob, LongJob, CertificateJob, PolicyJob, TraceJob, NothingIsBad, TwoSpacesAreBad, MinusZeroIsBad, MissingTaskIsBad, LateDeviceIsBad, SecondNameIsBad, ShortTextIsBad, OpenTextIsBad};
 
 /// Bytes are the text of a job, or they have a bad line.
 pub fn bytes_are_a_job_or_bad()
@@ -23,6 +23,7 @@ pub fn worked_jobs()
     ensures long { LongJob }
     ensures certificate { CertificateJob }
     ensures policy { PolicyJob }
+    ensures trace { TraceJob }
 {}
 
 /// Bytes that are no job, with their lines.
@@ -59,4 +60,9 @@ pub fn worked_limits()
     ensures rule_forms { limit.RuleForms }
     ensures fuel_of_guards { limit.GuardFuelLimit }
     ensures forms_of_audits { limit.AuditForms }
+    ensures fuel_of_replays { limit.ReplayFuelLimit }
+    ensures trace_lines { limit.TraceLineLimit }
+    ensures trace_counts { limit.TraceLineCounts }
+    ensures forms_of_replays { limit.ReplayForms }
+    ensures forms_of_explanations { limit.ExplainForms }
 {}

@@ -1,8 +1,9 @@
 //! Reading a job.
 
 ghost use Rattle.std.specs.Prelude.{◌≡◌, ◌+◌, ◌-◌, ◌^◌, ◌<◌, length, OnOk, IfOk};
+ghost use Rattle.cc_words.specs.Lines.{text_cut};
 ghost use Rattle.cc_job.specs.Jobs.{ReadsJob};
-ghost use Rattle.cc_job.specs.Reading.{text_size, rule_count, lines_behind, has_device, admits, is_admitted, devices_with, commands_with, next_item, IsStep};
+ghost use Rattle.cc_job.specs.Reading.{text_size, rule_count, lines_behind, has_device, admits, is_admitted, devices_with, commands_with, rules_in, next_rules, next_text, next_item, IsStep};
 
 use crate::head::{Head, head_of};
 use crate::job::{Command, CommandList, DeviceList, Job, JobError};
@@ -22,6 +23,7 @@ fn text_size(head: &Head) -> u32
         Head::Put(_, count) => *count,
         Head::Verify(count) => *count,
         Head::Policy(_) => 0,
+        Head::Replay(_, _, _, count) => *count,
         Head::Command(_) => 0,
     }
 }
@@ -35,6 +37,7 @@ fn rule_count(head: &Head) -> u32
         Head::Put(_, _) => 0,
         Head::Verify(_) => 0,
         Head::Policy(count) => *count,
+        Head::Replay(_, _, _, _) => 0,
         Head::Command(_) => 0,
     }
 }
@@ -48,6 +51,7 @@ fn lines_behind(head: &Head) -> u32
         Head::Put(_, count) => *count,
         Head::Verify(count) => *count,
         Head::Policy(count) => *count,
+        Head::Replay(_, _, _, count) => *count,
         Head::Command(_) => 0,
     }
 }
@@ -75,6 +79,7 @@ fn is_admitted(devices: &[DeviceDecl], commands: &[Command], head: &Head) -> boo
         Head::Put(_, _) => true,
         Head::Verify(_) => true,
         Head::Policy(_) => true,
+        Head::Replay(_, _, _, _) => true,
         Head::Command(_) => true,
     }
 }
@@ -102,6 +107,10 @@ fn add(
             commands.push(Command::Verify(text))?;
         }
         Head::Policy(_) => commands.push(Command::Policy(policy))?,
+        Head::Replay(module, definition, fuel, _) => {
+            let text = Text::new(Vec::from_slice(alloc, text)?);
+            commands.push(Command::Replay(module, definition, fuel, text))?;
+        }
         Head::Command(command) => commands.push(command)?,
     }
     Ok(())
@@ -115,6 +124,45 @@ enum Step<'a> {
     BadLine(u32),
     // The lines behind the first are cut short.
     CutShort,
+}
+
+// Adds what a line and the text behind it say with what the lines of rules are.
+fn next_rules<'a>(
+    alloc: Global,
+    devices: &mut Vec<DeviceDecl>,
+    commands: &mut Vec<Command>,
+    head: Head,
+    text: &[u8],
+    lines: RuleLines<'a>,
+) -> Result<Step<'a>, AllocError>
+    ensures { IfOk result (λ step. IsStep step devices.new.items commands.new.items (next_rules devices.old.items commands.old.items head text.now (rules_in lines.entry))) }
+{
+    match lines {
+        RuleLines::Read(policy, behind) => {
+            let count = lines_behind(&head);
+            add(alloc, devices, commands, head, text, policy)?;
+            Ok(Step::Read(count, behind))
+        }
+        RuleLines::BadLine(place) => Ok(Step::BadLine(place)),
+        RuleLines::CutShort => Ok(Step::CutShort),
+    }
+}
+
+// Reads the text and the rules behind a line, and adds what they say with it.
+fn next_text<'a>(
+    alloc: Global,
+    bytes: &'a [u8],
+    devices: &mut Vec<DeviceDecl>,
+    commands: &mut Vec<Command>,
+    head: Head,
+) -> Result<Step<'a>, AllocError>
+    ensures { IfOk result (λ step. IsStep step devices.new.items commands.new.items (next_text devices.old.items commands.old.items head (text_cut (text_size head) bytes.now))) }
+{
+    let Some((text, behind)) = text_cut(bytes, text_size(&head)) else {
+        return Ok(Step::CutShort);
+    };
+    let lines = rules_cut(alloc, behind, rule_count(&head))?;
+    next_rules(alloc, devices, commands, head, text, lines)
 }
 
 // Reads an item, or an empty line.
@@ -137,18 +185,7 @@ fn next_item<'a>(
     if !is_admitted(devices.as_slice(), commands.as_slice(), &head) {
         return Ok(Step::BadLine(0));
     }
-    let count = lines_behind(&head);
-    let Some((text, behind)) = text_cut(behind, text_size(&head)) else {
-        return Ok(Step::CutShort);
-    };
-    match rules_cut(alloc, behind, rule_count(&head))? {
-        RuleLines::Read(policy, behind) => {
-            add(alloc, devices, commands, head, text, policy)?;
-            Ok(Step::Read(count, behind))
-        }
-        RuleLines::BadLine(place) => Ok(Step::BadLine(place)),
-        RuleLines::CutShort => Ok(Step::CutShort),
-    }
+    next_text(alloc, behind, devices, commands, head)
 }
 
 /// The job whose text the bytes are.

@@ -1,7 +1,7 @@
 //! The lines of a policy's rules.
 
 ghost use Rattle.std.specs.Prelude.{◌≡◌, map, IfOk};
-ghost use Rattle.cc_job.specs.Reading.{permission_of, scope_of, rule_with, rule_of, rules_cut, AreLines};
+ghost use Rattle.cc_job.specs.Reading.{permission_of, scope_of, rule_with, rule_of, rules_cut, rules_in};
 
 use cc_base::name::Name;
 use cc_policy::policy::{Policy, Rule};
@@ -89,7 +89,7 @@ pub fn rules_cut<'a>(
     bytes: &'a [u8],
     count: u32,
 ) -> Result<RuleLines<'a>, AllocError>
-    ensures { IfOk result (λ lines. AreLines lines (rules_cut count bytes.now)) }
+    ensures { IfOk result (λ lines. rules_cut count bytes.now ≡ rules_in lines) }
 {
     let mut rules = Vec::new(alloc);
     let mut rest = bytes;

@@ -26,20 +26,20 @@ use Rattle.cc_meta_modules.proofs.ModuleVerdictLaws.{fits_tree}
 use Rattle.cc_meta_modules.proofs.PresentLaws.{present_findings_fit}
 use Rattle.cc_meta_modules.proofs.ReadingLaws.{text_has_one_reading}
 use Rattle.cc_certificate.specs.DefinitionCertificates.{definition_certificate_lines}
-use Rattle.cc_certificate.specs.Laws.{IsOneLine, HasLiteralsOfOneLine}
+use Rattle.cc_certificate.specs.Laws.{IsOneLine}
 use Rattle.cc_certificate.proofs.OneLine.{lines_are_one}
 use Rattle.cc_certificate_text.specs.Certificates.{Opens, States, Concludes as ConcludesNode}
 use Rattle.cc_certificate_judging.specs.Judging.{listed}
 use Rattle.cc_meta_certificates.specs.CertificateLaws.{IsPresentableEntry, IsTermEntry}
 use Rattle.cc_meta_certificates.specs.CertificateLines.{concluded_lines}
-use Rattle.cc_meta_certificates.specs.DefinitionLaws.{IsWithinLimits}
+use Rattle.cc_meta_certificates.specs.DefinitionLaws.{HasWrittenLiterals, IsWithinLimits}
 use Rattle.cc_meta_certificates.proofs.DefinitionCertificates.{accepted_certifiable, accepted_have_certificates, definitions_are_read_back}
 use Rattle.cc_meta_judging.specs.JudgedCertificates.{written_tree}
 use Rattle.cc_meta_judging.proofs.FoundValid.{definitions_found_valid, tree_of_definition_back}
 use Rattle.cc_meta_judging.proofs.ReadTrees.{written_nodes, derivations_back, judged_valid}
 use Rattle.cc_meta_judging.proofs.ContextBinds.{binds_in, bound_are_binds, context_of_binds, names_of_binds}
 use Rattle.cc_meta_modules.specs.StandingDefinitions.{StandsInPresentModule, with_definitions, context_behind, names_behind}
-use Rattle.cc_meta_limits.specs.ModuleCertificates.{IsCertified, StandsInModule, LinesOfDefinitionsHaveNoLineFeed, AreNamed, DefinitionsOfModulesAreCertified, DefinitionsOfPresentTextsAreCertified}
+use Rattle.cc_meta_limits.specs.ModuleCertificates.{IsCertified, StandsInModule, LiteralsOfDefinitionsAreWritten, LinesOfDefinitionsHaveNoLineFeed, AreNamed, DefinitionsOfModulesAreCertified, DefinitionsOfPresentTextsAreCertified}
 use Rattle.cc_meta_limits.specs.ModuleLimits.{IsLowFinding}
 use Rattle.cc_meta_limits.specs.TextLimits.{IsOfText}
 use Rattle.cc_meta_limits.proofs.LowComparisons.{LowContext}
@@ -208,6 +208,13 @@ module _ (devices : List DeviceDecl) (imports : List ImportSyntax) (findings : L
   certified one is few =
       certified_at one is.there (record { named = is.named; apart = is.apart; each = is.each; few = few })
 
+  -- its literals are such as may be written
+  literals_are_written : (one : CheckedDefinition) → IsPlaced one → HasWrittenLiterals one.accepted.filled
+  literals_are_written one is =
+      subst (λ (x : CheckedDefinition). HasWrittenLiterals x.accepted.filled) (sym is.there.is)
+      (literals_kept (length devices) base (to_be_checked is.there.definition) is.there.accepted is.there.has
+      is.there.of_text.literals)
+
   -- no line has a line feed within
   lines_whole : (one : CheckedDefinition) → IsPlaced one
       → AllByRecursion IsOneLine
@@ -217,10 +224,7 @@ module _ (devices : List DeviceDecl) (imports : List ImportSyntax) (findings : L
       lines_are_one (names_behind devices imports before one) (context_behind devices findings before one)
       one.accepted.filled (accepted_derived (context_behind devices findings before one) one.accepted)
       (names_of_one_line (names_behind devices imports before one) is.named)
-      (subst (λ (x : CheckedDefinition). HasLiteralsOfOneLine x.accepted.filled) (sym is.there.is)
-      (literals_of_one_line is.there.accepted.filled
-      (literals_kept (length devices) base (to_be_checked is.there.definition) is.there.accepted is.there.has
-      is.there.of_text.literals)))
+      (literals_of_one_line one.accepted.filled (literals_are_written one is))
 
 pub modules_certified : DefinitionsOfModulesAreCertified
 modules_certified devices imports findings before one names stands few =
@@ -259,6 +263,15 @@ pub present_certified : DefinitionsOfPresentTextsAreCertified
 present_certified devices texts verdicts imports findings before one names present are stands few =
     modules_certified devices imports findings before one names
     (present_in_module devices texts verdicts imports findings before one names present are stands) few
+
+pub literals_of_definitions_written : LiteralsOfDefinitionsAreWritten
+literals_of_definitions_written devices texts verdicts imports findings before one names present are stands =
+    let in_module = present_in_module devices texts verdicts imports findings before one names present are stands in
+    literals_are_written devices imports findings before one
+    (placed_by devices imports findings before in_module.text one in_module.after
+    (IsAccepted (before ++ one ∷ in_module.after)) names
+    in_module.imports_are in_module.accepted refl in_module.fit
+    (findings_low (declared_context devices) findings (declared_low devices) in_module.low))
 
 pub lines_of_definitions_whole : LinesOfDefinitionsHaveNoLineFeed
 lines_of_definitions_whole devices texts verdicts imports findings before one names present are stands =

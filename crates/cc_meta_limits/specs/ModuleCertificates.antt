@@ -26,6 +26,7 @@ use Rattle.cc_meta_modules.specs.StandingDefinitions.{names_behind}
 use Rattle.cc_certificate.specs.DefinitionCertificates.{definition_certificate, definition_certificate_lines}
 use Rattle.cc_certificate.specs.Laws.{IsOneLine}
 use Rattle.cc_certificate_text.specs.Certificates.{Line, CertificateNode, IsCertificate}
+use Rattle.cc_meta_certificates.specs.DefinitionLaws.{HasWrittenLiterals}
 use Rattle.cc_certificate_judging.specs.CertificateParts.{CertificateBind, parts_lines, bound_context, bound_names}
 use Rattle.cc_certificate_judging.specs.Judging.{NodeTree, listed, read_tree, Judgement, IsValidAt, IsJudged}
 use Rattle.cc_meta_certificates.specs.CertificateLines.{lines_of}
@@ -105,6 +106,15 @@ DefinitionsOfPresentTextsAreCertified =
     → StandsInPresentModule devices texts verdicts imports findings before one
     → nodes (accepted_derived (context_behind devices findings before one) one.accepted) ≤ 100000
     → IsCertified (names_behind devices imports before one) (context_behind devices findings before one) one.accepted
+
+-- The literals of each definition of an accepted present module are such as may be written.
+abbrev pub LiteralsOfDefinitionsAreWritten : Type 0
+LiteralsOfDefinitionsAreWritten =
+    (devices : List DeviceDecl) (texts : Texts) (verdicts : List ℕ → ModuleVerdict) (imports : List ImportSyntax)
+    (findings : List Finding) (before : List CheckedDefinition) (one : CheckedDefinition) → AreNamed devices
+    → ArePresent texts → AreVerdicts devices texts verdicts
+    → StandsInPresentModule devices texts verdicts imports findings before one
+    → HasWrittenLiterals one.accepted.filled
 
 -- No line of what is written for a definition of an accepted present module has a line feed within, however many nodes
 -- its canonical derivation has.

@@ -36,6 +36,7 @@ pub fn modules_have_certificates()
     ensures present { certificate_law.DefinitionsOfPresentTextsAreCertified }
     ensures contexts { certificate_law.ContextsAreThoseOfPrograms }
     ensures devices { certificate_law.DevicesOfJobsAreNamed }
+    ensures literals { certificate_law.LiteralsOfDefinitionsAreWritten }
     ensures one_line { certificate_law.LinesOfDefinitionsHaveNoLineFeed }
 {}
 

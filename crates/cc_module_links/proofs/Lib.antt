@@ -1,4 +1,4 @@
 mod EarlierEntries
 mod Listed
-mod NumberedEntries
+pub mod NumberedEntries
 mod Turned

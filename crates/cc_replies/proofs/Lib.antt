@@ -1,3 +1,6 @@
+pub mod ChainTexts
+pub mod ExplainLaws
+pub mod FirstChains
 pub mod Mapped
 pub mod OutputLaws
 pub mod PresentAfter

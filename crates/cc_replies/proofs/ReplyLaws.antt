@@ -16,14 +16,17 @@ use Rattle.cc_meta_modules.specs.PresentTexts.{Texts, ArePresent, text_of, AreVe
 use Rattle.cc_meta_modules.specs.StandingDefinitions.{standing_in}
 use Rattle.cc_meta_modules.proofs.PresentLaws.{present_verdicts_exist, present_verdicts_are_unique}
 use Rattle.cc_meta_modules.proofs.FoundStanding.{found_by_texts}
+use Rattle.cc_mnf.specs.CoreModules.{device_names}
 use Rattle.cc_policy.specs.declared.policy.Rule.{Rule}
 use Rattle.cc_certificate_judging.proofs.BytesFound.{something_is_found, one_thing_is_found}
 use Rattle.cc_replies.specs.PolicyReplies.{audit_told, guard_told}
-use Rattle.cc_replies.specs.ReplyTexts.{Reply, PolicySet, Verified, SignaturesRefused, Verdicts, RunRefused, TasksRefused, AuditRefused, GuardRefused}
-use Rattle.cc_replies.specs.Requests.{Question, CheckModules, ShowSignature, ShowDerivation, RunDefinition, RunTasks, AuditDefinition, GuardDefinition, PutText, DropModule, SetPolicy, VerifyText, Ask}
+use Rattle.cc_replies.specs.ReplyTexts.{Reply, PolicySet, Verified, SignaturesRefused, Verdicts, RunRefused, TasksRefused, AuditRefused, GuardRefused, ReplayRefused}
+use Rattle.cc_replies.specs.Requests.{Question, CheckModules, ShowSignature, ShowDerivation, RunDefinition, RunTasks, AuditDefinition, GuardDefinition, ExplainDefinition, ReplayDefinition, PutText, DropModule, SetPolicy, VerifyText, Ask}
 use Rattle.cc_replies.specs.Replies.{put_reply, drop_reply, check_reply, definitions_reply, signature_reply, derivation_reply, IsAnswer}
 use Rattle.cc_replies.specs.RunReplies.{declared_run, run_told, IsEntryAnswer, Unstarted, unstarted_or, first_unstarted, HasEntry, HaveEntries, tasks_told, IsTasksAnswer}
 use Rattle.cc_replies.specs.Laws.{RepliesExist, RepliesAreUnique}
+use Rattle.cc_replies.specs.ReplayReplies.{replay_told}
+use Rattle.cc_replies.proofs.ExplainLaws.{explain_alike, explain_answer}
 
 pub some_of : {X : Type 0} (o : Option X) → is_some o ≡ true → (x : X) × (o ≡ Some x)
 some_of (Some x) h = (x, refl)
@@ -97,6 +100,11 @@ module _ (devices : List DeviceDecl) (rules : List Rule) (texts : Texts) (verdic
       (started_in texts verdicts module_name name) refl
   answers_exist (GuardDefinition module_name name fuel) =
       entry_answer module_name name (guard_told devices rules module_name name fuel) (GuardRefused module_name name)
+      (started_in texts verdicts module_name name) refl
+  answers_exist (ExplainDefinition module_name name) =
+      explain_answer devices texts verdicts differ sorted are module_name name (standing_in texts verdicts module_name name) refl
+  answers_exist (ReplayDefinition module_name name fuel text) =
+      entry_answer module_name name (replay_told (device_names devices) module_name name fuel text) (ReplayRefused module_name name)
       (started_in texts verdicts module_name name) refl
 
 pub replies_exist : RepliesExist
@@ -188,6 +196,12 @@ module _ (devices : List DeviceDecl) (rules : List Rule) (texts : Texts) (first 
       answer_alike module_name name (audit_told devices rules module_name name) (AuditRefused module_name name) one other x y
   answers_alike (GuardDefinition module_name name fuel) one other x y =
       answer_alike module_name name (guard_told devices rules module_name name fuel) (GuardRefused module_name name) one other x y
+  answers_alike (ExplainDefinition module_name name) one other x y =
+      explain_alike devices texts first second (found_by_texts devices texts first second sorted a b) module_name name
+      (standing_in texts first module_name name) (standing_in texts second module_name name) one other
+      (found_by_texts devices texts first second sorted a b module_name name) x y
+  answers_alike (ReplayDefinition module_name name fuel text) one other x y =
+      answer_alike module_name name (replay_told (device_names devices) module_name name fuel text) (ReplayRefused module_name name) one other x y
 
 pub replies_are_unique : RepliesAreUnique
 replies_are_unique devices state (PutText name text) first second sorted a b = a ∙ sym b

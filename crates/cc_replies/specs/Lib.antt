@@ -1,6 +1,8 @@
 pub mod CertificateTexts
 pub mod DerivationTexts
 pub mod Examples
+pub mod ExplainReplies
+pub mod Explanations
 pub mod Laws
 pub mod Outputs
 pub mod PolicyReplies
@@ -8,6 +10,7 @@ pub mod Replies
 pub mod Requests
 pub mod RunReplies
 pub mod TaskTexts
+pub mod ReplayReplies
 pub mod ReplyTexts
 pub mod StaleModules
 pub mod RefusalExamples

@@ -18,9 +18,11 @@ use Rattle.cc_policy.specs.declared.policy.Rule.{Rule}
 use Rattle.cc_replies.specs.ReplyTexts.{Reply, PutDone, PutRefused, DropDone, DropRefused, Verdicts, Signatures}
 use Rattle.cc_replies.specs.ReplyTexts.{PolicySet, Verified, SignaturesRefused, Derived, DerivationRefused, is_refusal}
 use Rattle.cc_certificate_judging.specs.Answers.{Found, IsFound}
+use Rattle.cc_replies.specs.ExplainReplies.{IsExplainAnswer}
 use Rattle.cc_replies.specs.PolicyReplies.{IsAuditAnswer, IsGuardAnswer}
+use Rattle.cc_replies.specs.ReplayReplies.{IsReplayAnswer}
 use Rattle.cc_replies.specs.Requests.{Question, CheckModules, ShowSignature, ShowDerivation, RunDefinition, RunTasks}
-use Rattle.cc_replies.specs.Requests.{AuditDefinition, GuardDefinition}
+use Rattle.cc_replies.specs.Requests.{AuditDefinition, GuardDefinition, ExplainDefinition, ReplayDefinition}
 use Rattle.cc_replies.specs.Requests.{Request, PutText, DropModule, SetPolicy, VerifyText, Ask, JobState}
 use Rattle.cc_replies.specs.RunReplies.{IsRunAnswer, first_unstarted, IsTasksAnswer}
 use Rattle.cc_sets.specs.DerivationSizes.{nodes}
@@ -85,6 +87,10 @@ IsAnswer devices rules texts verdicts (AuditDefinition module_name name) reply =
     IsAuditAnswer devices rules texts verdicts module_name name (started_in texts verdicts module_name name) reply
 IsAnswer devices rules texts verdicts (GuardDefinition module_name name fuel) reply =
     IsGuardAnswer devices rules texts verdicts module_name name fuel (started_in texts verdicts module_name name) reply
+IsAnswer devices rules texts verdicts (ExplainDefinition module_name name) reply =
+    IsExplainAnswer devices texts verdicts module_name name (standing_in texts verdicts module_name name) reply
+IsAnswer devices rules texts verdicts (ReplayDefinition module_name name fuel text) reply =
+    IsReplayAnswer devices texts verdicts module_name name fuel text (started_in texts verdicts module_name name) reply
 
 -- What is answered to a command, beside the devices and in this state. A question is answered by the verdicts that the
 -- present texts have. What is found of a text that is to be a certificate has nothing to do with devices and modules.

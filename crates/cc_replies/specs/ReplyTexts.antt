@@ -1,26 +1,35 @@
 -- Replies to commands, and how they are written: a head line, and then lines that begin with two spaces.
-use Rattle.std.specs.Prelude.{ℕ, Bool, true, false, not, if◌then◌else◌, List, [], ◌∷◌, ◌++◌, codes, encode_utf8_all, Option, Some, None}
+use Rattle.std.specs.Prelude.{ℕ, Bool, true, false, not, if◌then◌else◌, List, [], ◌∷◌, ◌++◌, map, codes, encode_utf8_all, Option, Some, None}
 use Rattle.std.specs.Fmt.{decimal}
-use Rattle.std.specs.List.{flat_map, list_any}
+use Rattle.std.specs.List.{flat_map, join_with_byte, list_any}
 use Rattle.cc_base.specs.Texts.{code_text, place_text}
 use Rattle.cc_base.specs.declared.code.Code.{Code}
 use Rattle.cc_base.specs.declared.place.Place.{Place}
 use Rattle.cc_device.specs.Endings.{Done, OutOfFuel}
 use Rattle.cc_device.specs.Events.{Event}
 use Rattle.cc_print.specs.TypeTexts.{type_text}
+use Rattle.cc_meta_links.specs.PresentLinks.{Target, DefinitionOf, DeviceAt, Universal}
 use Rattle.cc_meta_runs.specs.Interleavings.{Report}
 use Rattle.cc_meta_runs.specs.Runs.{Ending, Ends, IsStopped}
 use Rattle.cc_meta_modules.specs.ModuleVerdicts.{CheckedDefinition, ModuleVerdict, IsAccepted, IsRefused}
 use Rattle.cc_policy.specs.declared.policy.Decision.{Decision}
 use Rattle.cc_certificate_judging.specs.Answers.{Found, found_text, is_valid}
+use Rattle.cc_replay.specs.declared.replaying.Replayed.{Replayed as Outcome}
+use Rattle.cc_replay.specs.declared.replaying.Replayed.TheVariants.{Agrees, Differs}
 use Rattle.cc_replies.specs.TaskTexts.{task_lines}
 use Rattle.cc_run_texts.specs.RunTexts.{device_text, run_lines}
+
+-- why an element stands in a set: what it is, and a chain of links that leads to it
+pub record Explanation : Type 0 where
+  pub target : Target
+  pub chain : List Target
 
 -- What is answered to a command: the module was put, or was removed, or that was refused; so many rules are in force;
 -- what was found of a certificate; the verdicts of modules; the definitions of an accepted module; the lines of the
 -- certificate of a definition; the devices that a run may operate, its events, its end and its steps; the same of tasks
 -- that ran interleaved; each device that a run may operate with what the rules decide; the same of a run that they permit
--- as of any other; or why one of these is not shown.
+-- as of any other; why each element is in the signature of a definition; what comes of comparing lines with a run; or why
+-- one of these is not shown.
 pub data Reply : Type 0 where
   PutDone : (name : List ℕ) → Reply
   PutRefused : (name : List ℕ) (code : Code) → Reply
@@ -41,6 +50,10 @@ pub data Reply : Type 0 where
   AuditRefused : (module_name name : List ℕ) (code : Code) → Reply
   Guarded : (module_name name : List ℕ) (authority : List ℕ) (events : List Event) (ending : Ending) (steps : ℕ) → Reply
   GuardRefused : (module_name name : List ℕ) (code : Code) → Reply
+  Explained : (module_name name : List ℕ) (explanations : List Explanation) → Reply
+  ExplainRefused : (module_name name : List ℕ) (code : Code) → Reply
+  Replayed : (module_name name : List ℕ) (outcome : Outcome) → Reply
+  ReplayRefused : (module_name name : List ℕ) (code : Code) → Reply
 
 -- a line is its text and a line feed
 abbrev pub line : List ℕ → List ℕ
@@ -102,6 +115,25 @@ decision_text it = (if it.allow then codes "allow " else codes "deny ") ++ rule_
 abbrev pub decision_line : List (List ℕ) → ℕ × Decision → List ℕ
 decision_line names one = inner_line (device_text names one.0 ++ codes " " ++ decision_text one.1)
 
+-- a target: a definition by the names of its module and its own, a device by its name, or the universal capability
+abbrev pub target_text : List (List ℕ) → Target → List ℕ
+target_text names (DefinitionOf module_name name) = pair_text module_name name
+target_text names (DeviceAt number) = device_text names number
+target_text names Universal = codes "cap"
+
+-- the targets of a chain, with a space between them
+abbrev pub chain_text : List (List ℕ) → List Target → List ℕ
+chain_text names chain = join_with_byte 32 (map (target_text names) chain)
+
+-- a line for each element of a set, with its chain
+abbrev pub explanation_line : List (List ℕ) → Explanation → List ℕ
+explanation_line names it = inner_line (target_text names it.target ++ codes ": " ++ chain_text names it.chain)
+
+-- what comes of a replay: that the lines are the trace, or the first that is not what must stand there
+abbrev pub outcome_text : Outcome → List ℕ
+outcome_text Agrees = codes "agrees"
+outcome_text (Differs number) = codes "differs at line " ++ decimal number
+
 -- the text of a reply that tells of a run under this word
 abbrev pub run_text : List ℕ → List (List ℕ) → List ℕ → List ℕ → List ℕ → List Event → Ending → ℕ → List ℕ
 run_text word names module_name name authority events ending steps =
@@ -136,6 +168,12 @@ reply_text names (AuditRefused module_name name code) = refused_pair_head (codes
 reply_text names (Guarded module_name name authority events ending steps) =
     run_text (codes "guard") names module_name name authority events ending steps
 reply_text names (GuardRefused module_name name code) = refused_pair_head (codes "guard") module_name name code
+reply_text names (Explained module_name name explanations) =
+    pair_head (codes "explain") module_name name ++ flat_map (explanation_line names) explanations
+reply_text names (ExplainRefused module_name name code) = refused_pair_head (codes "explain") module_name name code
+reply_text names (Replayed module_name name outcome) =
+    pair_head (codes "replay") module_name name ++ inner_line (outcome_text outcome)
+reply_text names (ReplayRefused module_name name code) = refused_pair_head (codes "replay") module_name name code
 
 -- the module is refused
 abbrev pub is_refused : ModuleVerdict → Bool
@@ -148,8 +186,13 @@ is_unfinished (Ends (Done shown)) = false
 is_unfinished (Ends OutOfFuel) = true
 is_unfinished IsStopped = true
 
--- The reply tells of a refusal: that of the command, or of a module, or of what is to be a certificate; or that the fuel
--- of a run or a task ran out. What is denied is none.
+-- the lines are not the trace
+abbrev pub is_different : Outcome → Bool
+is_different Agrees = false
+is_different (Differs number) = true
+
+-- The reply tells of a refusal: that of the command, or of a module, or of what is to be a certificate; that the fuel of a
+-- run or a task ran out; or that lines are not the trace. What is denied is none.
 abbrev pub is_refusal : Reply → Bool
 is_refusal (PutDone name) = false
 is_refusal (PutRefused name code) = true
@@ -170,3 +213,7 @@ is_refusal (Audited module_name name decisions) = false
 is_refusal (AuditRefused module_name name code) = true
 is_refusal (Guarded module_name name authority events ending steps) = is_unfinished ending
 is_refusal (GuardRefused module_name name code) = true
+is_refusal (Explained module_name name explanations) = false
+is_refusal (ExplainRefused module_name name code) = true
+is_refusal (Replayed module_name name outcome) = is_different outcome
+is_refusal (ReplayRefused module_name name code) = true

@@ -5,8 +5,9 @@ use Rattle.cc_policy.specs.declared.policy.Rule.{Rule}
 
 -- What is asked of the present modules, once they are checked: the verdicts of all; the signatures of a module; the
 -- certificate of a definition; a run of a definition with so much fuel; the interleaved run of definitions by a
--- schedule, with so much fuel for all together; what the rules in force decide for a definition; and a run of a
--- definition that they permit.
+-- schedule, with so much fuel for all together; what the rules in force decide for a definition; a run of a definition
+-- that they permit; why each device is in the signature of a definition; and whether the lines of a text are the trace of
+-- a run of a definition with so much fuel.
 pub data Question : Type 0 where
   CheckModules : Question
   ShowSignature : (name : List ℕ) → Question
@@ -15,6 +16,8 @@ pub data Question : Type 0 where
   RunTasks : (fuel : ℕ) (schedule : List ℕ) (tasks : List (List ℕ × List ℕ)) → Question
   AuditDefinition : (module_name name : List ℕ) → Question
   GuardDefinition : (module_name name : List ℕ) (fuel : ℕ) → Question
+  ExplainDefinition : (module_name name : List ℕ) → Question
+  ReplayDefinition : (module_name name : List ℕ) (fuel : ℕ) (text : List ℕ) → Question
 
 -- a command: a module gets a text, a module is removed, rules take the place of those in force, a text is to be judged
 -- as a certificate, or something is asked

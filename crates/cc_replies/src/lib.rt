@@ -1,13 +1,16 @@
 //! The text of replies to commands that put, remove and check modules, show signatures and certificates, run definitions,
-//! and audit and guard them by a policy.
+//! audit and guard them by a policy, and compare lines with runs of them.
 #![tactic(auto)]
 
 pub mod certificates;
+pub mod chains;
 pub mod derivations;
 pub mod examples;
+pub mod explanations;
 pub mod laws;
 pub mod modules;
 pub mod policies;
+pub mod replays;
 pub mod runs;
 pub mod signatures;
 pub mod tasks;

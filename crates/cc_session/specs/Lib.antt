@@ -3,4 +3,5 @@ pub mod Sessions
 pub mod Signatures
 pub mod EntryAnswers
 pub mod EntryParts
+pub mod LinkedModules
 pub mod StandingAnswers

@@ -164,8 +164,8 @@ fn reached_modules(
     Ok(modules)
 }
 
-// The modules of an entry of the module, in order.
-fn entry_modules(
+/// The present module and all that it reaches, in order, where these are the verdicts. Fails only for want of memory.
+pub(crate) fn entry_modules(
     alloc: Global,
     texts: &[(Name, SharedText)],
     last: &Last,

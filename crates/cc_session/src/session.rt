@@ -6,6 +6,7 @@ ghost use Rattle.std.specs.Map.{remove_entry};
 ghost use Rattle.std.specs.Str.{bytes_eq};
 ghost use Rattle.cc_core.specs.Views.{context_of};
 ghost use Rattle.cc_derive.specs.Accepting.{IsAcceptedIn};
+ghost use Rattle.cc_entry.specs.Modules.{module_of};
 ghost use Rattle.cc_graph.specs.Graph.{compare_names};
 ghost use Rattle.cc_judge.specs.Judgements.{stale_count, verdicts_of};
 ghost use Rattle.cc_judge.specs.Kept.{named_verdicts};
@@ -15,11 +16,12 @@ ghost use Rattle.cc_meta_modules.specs.PresentTexts.{text_of, AreVerdicts};
 ghost use Rattle.cc_meta_modules.specs.StandingDefinitions.{standing_in};
 ghost use Rattle.cc_module.specs.Judgements.{checked_definition_of};
 ghost use Rattle.cc_session.specs.EntryAnswers.{AnswersEntry};
+ghost use Rattle.cc_session.specs.LinkedModules.{AreLinked};
 ghost use Rattle.cc_session.specs.Sessions.{IsUpToDate, HasTexts, others_present};
 ghost use Rattle.cc_session.specs.Signatures.{signature_of, definition_in};
 ghost use Rattle.cc_session.specs.StandingAnswers.{AnswersStanding};
 
-use crate::entry::{EntryError, start_entry};
+use crate::entry::{EntryError, entry_modules, start_entry};
 use crate::refusals::{NoSuchModule, PutRefused, Refused};
 use crate::standing::{Standing, StandingError, standing_in};
 use crate::texts::{put_text, remove_text};
@@ -28,6 +30,7 @@ use cc_base::device::DeviceDecl;
 use cc_base::name::Name;
 use cc_base::steps::Steps;
 use cc_entry::entry::Entry;
+use cc_entry::modules::EntryModule;
 use cc_judge::findings::definition_named;
 use cc_judge::grounds::SharedText;
 use cc_judge::judging::judge_all;
@@ -225,6 +228,23 @@ impl Session {
         ensures accepted { IfOk result (λ answer. IsAcceptedIn (context_of answer.ctx) answer.def.now.checked) }
     {
         standing_in(self.alloc, self.devices.as_slice(), &self.last, module, def)
+    }
+
+    /// What the definitions of the module are linked from: the module and all that it reaches, in the order in which they
+    /// are linked. A module that is not accepted has no definitions.
+    ///
+    /// Fails only for want of memory.
+    pub fn linked(&self, module: &Name) -> Result<Vec<EntryModule>, AllocError>
+        requires { IsTrue self.now.checked }
+        ensures { IfOk result (λ modules. AreLinked self.now.devices self.now.present «module».now (map module_of modules.items)) }
+    {
+        entry_modules(
+            self.alloc,
+            self.present.as_slice(),
+            &self.last,
+            self.last.verdicts.as_slice(),
+            module,
+        )
     }
 
     /// The entry of the definition of the module: what its program is linked from, and the devices that it may operate.

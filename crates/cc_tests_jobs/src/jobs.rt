@@ -63,6 +63,11 @@ fn shown_command(alloc: Global, command: &Command) -> Result<String, AllocError>
         Command::Policy(policy) => shown_policy(alloc, policy),
         Command::Audit(owner, def) => format!(in alloc; "audit {owner} {def};"),
         Command::Guard(owner, def, fuel) => format!(in alloc; "guard {owner} {def} {fuel};"),
+        Command::Explain(owner, def) => format!(in alloc; "explain {owner} {def};"),
+        Command::Replay(owner, def, fuel, text) => {
+            let length = text.as_bytes().len();
+            format!(in alloc; "replay {owner} {def} {fuel} {length};")
+        }
     }
 }
 
@@ -194,6 +199,47 @@ fn jobs_of_certificates_and_policies(rt: HostRuntime) -> Result<(), Fail> {
         ("capc 1\nguard m.f\n", "bad 2"),
         ("capc 1\nguard m.f 1000001\n", "bad 2"),
         ("capc 1\npolicy 1\nallow m d\ndevice d console\n", "bad 4"),
+    ];
+    for (text, want) in cases {
+        assert_eq!(rt;
+            shown(rt.alloc(), text.as_bytes())?.as_str(),
+            want,
+            "of {text:?}"
+        );
+    }
+    Ok(())
+}
+
+#[test]
+fn jobs_of_explanations_and_traces(rt: HostRuntime) -> Result<(), Fail> {
+    let cases: [(&str, &str); 24] = [
+        (
+            "capc 1\nexplain m.f\nreplay m.f 1000000 3\n\nd read 1\ncheck\ncheck\nreplay m.g 0 0",
+            "explain m f;replay m f 1000000 16;check;replay m g 0 0;",
+        ),
+        ("capc 1\nreplay m.f 7 1\na\n", "replay m f 7 2;"),
+        ("capc 1\nreplay m.f 7 1\na", "bad 4"),
+        ("capc 1\nreplay m.f 7 2\na\n", "bad 4"),
+        ("capc 1\nreplay m.f 7 2\na\nb", "bad 5"),
+        ("capc 1\nreplay m.f 7 1\na\nb\n", "bad 4"),
+        ("capc 1\nreplay m.f 1000000 4194304\n", "bad 3"),
+        ("capc 1\nreplay m.f 1000000 4194305\n", "bad 2"),
+        ("capc 1\nreplay m.f 1000001 0\n", "bad 2"),
+        ("capc 1\nreplay m.f 7 01\na\n", "bad 2"),
+        ("capc 1\nreplay m.f 07 1\na\n", "bad 2"),
+        ("capc 1\nreplay m.f 7 00\n", "bad 2"),
+        ("capc 1\nreplay m.f 7\n", "bad 2"),
+        ("capc 1\nreplay m.f\n", "bad 2"),
+        ("capc 1\nreplay\n", "bad 2"),
+        ("capc 1\nreplay m 7 0\n", "bad 2"),
+        ("capc 1\nreplay m.f 7 0 0\n", "bad 2"),
+        ("capc 1\nreplay m.f  7 0\n", "bad 2"),
+        ("capc 1\nexplain m\n", "bad 2"),
+        ("capc 1\nexplain m.f 3\n", "bad 2"),
+        ("capc 1\nexplain m.f.g\n", "bad 2"),
+        ("capc 1\nexplain\n", "bad 2"),
+        ("capc 1\nExplain m.f\n", "bad 2"),
+        ("capc 1\nreplay m.f 7 0\ndevice d console\n", "bad 3"),
     ];
     for (text, want) in cases {
         assert_eq!(rt;

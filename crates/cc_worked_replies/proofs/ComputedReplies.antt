@@ -1,4 +1,4 @@
--- Replies to runs, tasks, audits and guards where the present texts are given, by computation.
+-- Replies to runs, tasks, audits, guards and replays where the present texts are given, by computation.
 use Rattle.std.proofs.Common.{◌≡◌, ◌∙◌, ℕ, Bool, List, [], ◌∷◌, length, map, Option, Some, None, Ok, Err, refl, sym, ap, subst, if◌then◌else◌}
 use Rattle.std.specs.Prelude.{Result}
 use Rattle.std.specs.Fmt.{digits}
@@ -22,12 +22,14 @@ use Rattle.cc_meta_modules.specs.ModuleVerdicts.{CheckedDefinition, Finding, NoM
 use Rattle.cc_meta_modules.specs.PresentTexts.{Texts, ArePresent, text_of, with_module, graph_of, finding_in, finding_for, findings_for, AreVerdicts}
 use Rattle.cc_meta_modules.specs.Readings.{imports_in, imports_of}
 use Rattle.cc_mnf.specs.CoreModules.{device_names}
+use Rattle.cc_words.specs.Words.{number_of, signed_of}
 use Rattle.cc_worked_texts.proofs.ComputedModules.{text_computing, text_verdict_in, text_verdict_in_steps}
 use Rattle.cc_worked_texts.proofs.QuickTokens.{quick_reading, same_reading}
 use Rattle.cc_policy.specs.declared.policy.Rule.{Rule}
 use Rattle.cc_replies.specs.PolicyReplies.{audit_told, guard_told}
-use Rattle.cc_replies.specs.ReplyTexts.{Reply, RunRefused, TasksRefused, AuditRefused, GuardRefused, line, reply_text, is_refusal}
-use Rattle.cc_replies.specs.Requests.{RunDefinition, RunTasks, AuditDefinition, GuardDefinition}
+use Rattle.cc_replies.specs.ReplayReplies.{replay_told}
+use Rattle.cc_replies.specs.ReplyTexts.{Reply, RunRefused, TasksRefused, AuditRefused, GuardRefused, ReplayRefused, line, reply_text, is_refusal}
+use Rattle.cc_replies.specs.Requests.{RunDefinition, RunTasks, AuditDefinition, GuardDefinition, ReplayDefinition}
 use Rattle.cc_replies.specs.RunReplies.{declared_run, run_told, IsEntryAnswer, Unstarted, unstarted_or, first_unstarted, HaveEntries, tasks_told, IsTasksAnswer}
 use Rattle.cc_worked_replies.specs.TextReplies.{RepliesUnder, RepliesWith}
 use Rattle.cc_replies.proofs.WorkedTexts.{HasItsVerdict, are_verdicts}
@@ -168,6 +170,11 @@ module _ (devices : List DeviceDecl) (texts : Texts) (verdicts : List ℕ → Mo
   guard_by rules module_name name fuel =
       answer_by module_name name (guard_told devices rules module_name name fuel) (GuardRefused module_name name)
 
+  -- that to a replay
+  abbrev pub replay_by : List ℕ → List ℕ → ℕ → List ℕ → Result CheckedDefinition Code → Reply
+  replay_by module_name name fuel text =
+      answer_by module_name name (replay_told (device_names devices) module_name name fuel text) (ReplayRefused module_name name)
+
   -- the entry before others, if there is a definition that is started
   abbrev with_entry : List ℕ → List ℕ → Result CheckedDefinition Code → List CheckedEntry → List CheckedEntry
   with_entry module_name name (Ok started) others = entry_by module_name name started ∷ others
@@ -255,6 +262,24 @@ module _ (devices : List DeviceDecl) (texts : Texts) (verdicts : List ℕ → Mo
       tells,
     )
 
+    -- and that to a replay
+    pub replay_replies : (module_name name : List ℕ) (fuel : ℕ) (text : List ℕ) (lines : List (List ℕ)) (refused : Bool)
+        → reply_text (device_names devices)
+        (replay_by module_name name fuel text (started_in texts verdicts module_name name)) ≡ flat_map line lines
+        → is_refusal (replay_by module_name name fuel text (started_in texts verdicts module_name name)) ≡ refused
+        → RepliesWith devices texts (ReplayDefinition module_name name fuel text) lines refused
+    replay_replies module_name name fuel text lines refused told tells = (
+      replay_by module_name name fuel text (started_in texts verdicts module_name name),
+      (
+        verdicts,
+        judged.are,
+        answer_is module_name name (replay_told (device_names devices) module_name name fuel text) (ReplayRefused module_name name)
+            (started_in texts verdicts module_name name) refl,
+      ),
+      told,
+      tells,
+    )
+
     have_first : (module_name name : List ℕ) (others : List (List ℕ × List ℕ)) (found : Result CheckedDefinition Code)
         → started_in texts verdicts module_name name ≡ found
         → unstarted_or module_name name found (first_unstarted texts verdicts others) ≡ None
@@ -299,5 +324,5 @@ module _ (devices : List DeviceDecl) (texts : Texts) (verdicts : List ℕ → Mo
 
 -- `unfolding reply_computing` lets `refl` compute the reply
 unfoldable pub reply_computing : Unit {0}
-unfolding text_computing quick_graph does_import reaches is_ready IsDistinct IsStrictlySortedBy int_wrap digits
+unfolding text_computing quick_graph does_import reaches is_ready IsDistinct IsStrictlySortedBy int_wrap digits signed_of number_of
 reply_computing = tt

@@ -4,3 +4,6 @@ pub mod WorkedShownTexts
 pub mod WorkedTasks
 pub mod WorkedPolicies
 pub mod WorkedCertificates
+pub mod WorkedReplays
+pub mod ComputedChains
+pub mod WorkedExplanations

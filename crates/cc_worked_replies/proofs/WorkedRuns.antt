@@ -144,7 +144,7 @@ same_names_run = record {
       (codes "run n.main" ∷ codes "  authority {out}" ∷ codes "  out print 2" ∷ codes "  done unit after 3 steps" ∷ []) false refl refl;
 }
 
-file_and_counter_judged : AreJudged three_devices example.file_and_counter (verdicts_of three_devices example.file_and_counter) alone (m ∷ [])
+pub file_and_counter_judged : AreJudged three_devices example.file_and_counter (verdicts_of three_devices example.file_and_counter) alone (m ∷ [])
 unfolding reply_computing
 file_and_counter_judged =
     are_judged three_devices 12 example.file_and_counter (verdicts_of three_devices example.file_and_counter) alone (m ∷ [])

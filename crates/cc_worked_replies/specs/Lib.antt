@@ -1,5 +1,7 @@
 pub mod CertificateExamples
+pub mod ExplainExamples
 pub mod PolicyExamples
+pub mod ReplayExamples
 pub mod RunExamples
 pub mod ShownTexts
 pub mod TaskExamples

@@ -1,6 +1,7 @@
 use Rattle.cc_job.proofs.WorkedJobs.{shortest_job}
 use Rattle.cc_job.proofs.WorkedLimits.{long_job}
 use Rattle.cc_job.proofs.WorkedPolicies.{certificate_job, policy_job}
+use Rattle.cc_job.proofs.WorkedTraces.{trace_job}
 use Rattle.cc_job.proofs.laws.worked_jobs.Goals as goal
 
 pub returns-clause-shortest : goal.returns-clause-shortest
@@ -14,3 +15,6 @@ returns-clause-certificate c = certificate_job
 
 pub returns-clause-policy : goal.returns-clause-policy
 returns-clause-policy c = policy_job
+
+pub returns-clause-trace : goal.returns-clause-trace
+returns-clause-trace c = trace_job

@@ -1,5 +1,6 @@
 use Rattle.cc_job.proofs.WorkedLimits as worked
 use Rattle.cc_job.proofs.WorkedPolicies as policies
+use Rattle.cc_job.proofs.WorkedTraces as traces
 use Rattle.cc_job.proofs.laws.worked_limits.Goals as goal
 
 pub returns-clause-schedule : goal.returns-clause-schedule
@@ -61,3 +62,18 @@ returns-clause-fuel_of_guards c = policies.guard_fuel_limit
 
 pub returns-clause-forms_of_audits : goal.returns-clause-forms_of_audits
 returns-clause-forms_of_audits c = policies.audit_forms
+
+pub returns-clause-fuel_of_replays : goal.returns-clause-fuel_of_replays
+returns-clause-fuel_of_replays c = traces.replay_fuel_limit
+
+pub returns-clause-trace_lines : goal.returns-clause-trace_lines
+returns-clause-trace_lines c = traces.trace_line_limit
+
+pub returns-clause-trace_counts : goal.returns-clause-trace_counts
+returns-clause-trace_counts c = traces.trace_line_counts
+
+pub returns-clause-forms_of_replays : goal.returns-clause-forms_of_replays
+returns-clause-forms_of_replays c = traces.replay_forms
+
+pub returns-clause-forms_of_explanations : goal.returns-clause-forms_of_explanations
+returns-clause-forms_of_explanations c = traces.explain_forms

@@ -1,4 +1,4 @@
-use Rattle.cc_meta_limits.proofs.CertifiedModules.{modules_certified, present_certified, lines_of_definitions_whole}
+use Rattle.cc_meta_limits.proofs.CertifiedModules.{modules_certified, present_certified, literals_of_definitions_written, lines_of_definitions_whole}
 use Rattle.cc_meta_limits.proofs.JobDevices.{job_devices_named}
 use Rattle.cc_meta_limits.proofs.ProgramContexts.{contexts_of_programs}
 use Rattle.cc_meta_limits.proofs.laws.modules_have_certificates.Goals as goal
@@ -9,5 +9,6 @@ returns c = record {
   present = present_certified;
   contexts = contexts_of_programs;
   devices = job_devices_named;
+  literals = literals_of_definitions_written;
   one_line = lines_of_definitions_whole;
 }

@@ -1,0 +1,45 @@
+-- What is told of a signature explains it.
+use Rattle.std.specs.Prelude.{◌≡◌, ◌↔◌, ℕ, List, Some, Ok}
+use Rattle.std.specs.List.{Contains}
+use Rattle.cc_base.specs.declared.device.DeviceDecl.{DeviceDecl}
+use Rattle.cc_capture.specs.Sets.{Member}
+use Rattle.cc_capture.specs.declared.var.Elem.{Elem}
+use Rattle.cc_explain.specs.Chains.{IsChain}
+use Rattle.cc_meta_links.specs.PresentLinks.{Target, DefinitionOf, element_of, entry_in}
+use Rattle.cc_meta_modules.specs.ModuleLaws.{NamesOfDevicesDiffer}
+use Rattle.cc_meta_modules.specs.ModuleVerdicts.{ModuleVerdict}
+use Rattle.cc_meta_modules.specs.PresentTexts.{Texts, ArePresent, AreVerdicts}
+use Rattle.cc_meta_modules.specs.StandingDefinitions.{Standing, standing_in}
+use Rattle.cc_replies.specs.ExplainReplies.{Explains}
+use Rattle.cc_replies.specs.Replies.{Replies}
+use Rattle.cc_replies.specs.ReplyTexts.{Explanation, Explained}
+use Rattle.cc_replies.specs.Requests.{JobState, ExplainDefinition, Ask}
+
+-- There is a line for the element, with the first of the shortest chains that lead to it from another target.
+abbrev pub HasLine : (Target → List Target) → Target → List Explanation → Elem → Type 0
+HasLine entry from explanations element =
+    (one : Explanation) × Contains explanations one × Explains entry from element one
+
+-- These are the lines about the outermost set of the signature of a definition of an accepted present module: an element
+-- stands in the set exactly where it has a line, and also exactly where a chain of links leads to it.
+pub record ExplainsSignature (devices : List DeviceDecl) (texts : Texts) (module_name name : List ℕ)
+    (explanations : List Explanation) : Type 0 where
+  pub verdicts : List ℕ → ModuleVerdict
+  pub are : AreVerdicts devices texts verdicts
+  pub it : Standing
+  pub stands : standing_in texts verdicts module_name name ≡ Ok it
+  pub lines : (element : Elem)
+      → Member element it.definition.accepted.signature.set
+      ↔ HasLine (entry_in devices texts verdicts) (DefinitionOf module_name name) explanations element
+  pub chains : (element : Elem)
+      → Member element it.definition.accepted.signature.set
+      ↔ ((target : Target) × (chain : List Target) × (element_of target ≡ Some element)
+      × IsChain (entry_in devices texts verdicts) (DefinitionOf module_name name) target chain)
+
+-- So does each reply that explains a signature.
+abbrev pub ExplainedSignaturesAreExplained : Type 0
+ExplainedSignaturesAreExplained =
+    (devices : List DeviceDecl) (state : JobState) → NamesOfDevicesDiffer devices → ArePresent state.texts
+    → (module_name name owner definition : List ℕ) (explanations : List Explanation)
+    → Replies devices state (Ask (ExplainDefinition module_name name)) (Explained owner definition explanations)
+    → ExplainsSignature devices state.texts module_name name explanations

@@ -1,0 +1,66 @@
+-- What is said of lines that agree with a definition is so, and the lines of a run that was shown agree.
+use Rattle.std.specs.Prelude.{◌≡◌, ◌≢◌, ℕ, List}
+use Rattle.cc_base.specs.Literals.{Literal}
+use Rattle.cc_base.specs.declared.device.DeviceDecl.{DeviceDecl}
+use Rattle.cc_base.specs.declared.literal.Op.{Op}
+use Rattle.cc_device.specs.Events.{Event, Operated, IsWellScoped}
+use Rattle.cc_job.specs.Jobs.{IsJob}
+use Rattle.cc_job.specs.declared.job.Job.{Job}
+use Rattle.cc_meta_entries.specs.PresentEntries.{CheckedEntry, program_entry}
+use Rattle.cc_meta_files.specs.PresentFiles.{IsPresentEntry}
+use Rattle.cc_meta_modules.specs.ModuleLaws.{NamesOfDevicesDiffer}
+use Rattle.cc_meta_modules.specs.PresentTexts.{Texts, ArePresent}
+use Rattle.cc_meta_runs.specs.Links.{program_start}
+use Rattle.cc_meta_runs.specs.Machine.{Configuration, step, Stuck}
+use Rattle.cc_meta_runs.specs.Runs.{Ending, IsStopped}
+use Rattle.cc_meta_runs.specs.Soundness.{IsListed}
+use Rattle.cc_meta_runs.specs.SoundRuns.{IsAmong}
+use Rattle.cc_mnf.specs.CoreModules.{device_names}
+use Rattle.cc_replay.specs.AnsweredRuns.{GoesOnTo, AnsweredRun, ending_after, trace_lines, trace_of}
+use Rattle.cc_replay.specs.ReplayLaws.{written_lines}
+use Rattle.cc_replay.specs.declared.replaying.Replayed.TheVariants.{Agrees}
+use Rattle.cc_replies.specs.Replies.{Replies}
+use Rattle.cc_replies.specs.ReplyTexts.{Reply, Ran, Replayed}
+use Rattle.cc_replies.specs.Requests.{JobState, RunDefinition, ReplayDefinition, Ask}
+use Rattle.cc_words.specs.Lines.{lines_of}
+
+-- The lines of the text are the trace of a run of the program of a present entry of the module, with so much fuel, whose
+-- devices are answered from outside. Whatever they were answered, it operates devices of the entry's authority alone, its
+-- events are well scoped, and nothing that the program comes to is stuck.
+pub record IsSafeTraceOf (devices : List DeviceDecl) (texts : Texts) (module_name : List ℕ) (fuel : ℕ) (text : List ℕ) :
+    Type 0 where
+  pub entry : CheckedEntry
+  pub present : IsPresentEntry devices texts entry
+  pub of_module : entry.module_name ≡ module_name
+  pub it : AnsweredRun fuel (program_start (program_entry entry))
+  pub is_trace : lines_of text ≡ trace_of (device_names devices) it
+  pub authority : (device : ℕ) (operation : Op) (literal : Literal)
+      → IsAmong (Operated device operation literal) it.events → IsListed device entry.authority
+  pub scopes : IsWellScoped it.events
+  pub never_stuck : (now : Configuration) (steps : ℕ) (events : List Event)
+      → GoesOnTo steps (program_start (program_entry entry)) events now → step now ≢ Stuck
+  pub not_stopped : ending_after it ≢ IsStopped
+
+-- Each reply that says that lines agree says so of such a trace.
+abbrev pub AgreeingTracesKeepTheAuthority : Type 0
+AgreeingTracesKeepTheAuthority =
+    (devices : List DeviceDecl) (state : JobState) → NamesOfDevicesDiffer devices → ArePresent state.texts
+    → (module_name name owner definition : List ℕ) (fuel : ℕ) (text : List ℕ)
+    → Replies devices state (Ask (ReplayDefinition module_name name fuel text)) (Replayed owner definition Agrees)
+    → IsSafeTraceOf devices state.texts module_name fuel text
+
+-- What a job shows of a run, its events and its end as lines, each with a line feed, agrees when it is replayed with the
+-- same fuel while the same texts are present.
+abbrev pub ShownRunsAreReplayed : Type 0
+ShownRunsAreReplayed =
+    (bytes : List ℕ) (job : Job) → IsJob bytes job → (state other : JobState) → ArePresent state.texts
+    → other.texts ≡ state.texts
+    → (module_name name owner definition : List ℕ) (fuel : ℕ) (authority : List ℕ) (events : List Event)
+    (ending : Ending) (steps : ℕ)
+    → Replies job.devices state (Ask (RunDefinition module_name name fuel))
+    (Ran owner definition authority events ending steps)
+    → (reply : Reply)
+    → Replies job.devices other
+    (Ask (ReplayDefinition module_name name fuel
+    (written_lines (trace_lines (device_names job.devices) events ending steps)))) reply
+    → reply ≡ Replayed module_name name Agrees
