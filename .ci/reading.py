@@ -1,7 +1,7 @@
 #!/usr/bin/env python3
-"""Which definitions the contract of `capc` rests on: what has to be believed of the program, and nothing else.
+"""Which definitions the contracts of `capc` and `certify` rest on: what has to be believed, and nothing else.
 
-From the clauses of the function `capc` (crates/capc/src/run.rt) each name is followed to the item that it stands for, from
+From the clauses of the function (`capc` of crates/capc/src/run.rt) each name is followed to the item that it stands for, from
 this item each name again, and so on. What is reached are items of the files in specs/, and types and traits of the program
 that stand in clauses as what they are. What the library `std` defines is followed no further. A word of an item that is the
 name of another item of its file, or of one that the file uses, is taken for that one: so too much may be reached, and never
@@ -11,13 +11,15 @@ Usage: .ci/reading.py           compares the list with docs/reading.md; ends wit
        .ci/reading.py --write   writes docs/reading.md
        .ci/reading.py --why F   tells for each item of the file F (crates/CRATE/specs/FILE.antt) by which one it is reached
 """
+import functools
 import os
 import re
 import sys
 
 TOP = os.path.dirname(os.path.dirname(os.path.abspath(__file__)))
 PAGE = os.path.join(TOP, "docs", "reading.md")
-ROOT = ("crates/capc/src/run.rt", "capc")
+CAPC = ("crates/capc/src/run.rt", "capc")
+CERTIFY = ("crates/certify/src/run.rt", "certify")
 NAME = r"[^\s(){}\[\],;.]+"
 OPENERS = r"(?:(?:pattern|opaque|abbrev|unfoldable|pub|data|record|mutual)\b ?)+"
 
@@ -27,6 +29,7 @@ def read(path):
         return file.read()
 
 
+@functools.cache
 def uses(text):
     """The names that `use` lines bring in, each with its module and its own name; and the modules that have another name."""
     names, modules = {}, {}
@@ -47,6 +50,7 @@ def bare(text):
     return re.sub(r"^\s*(?:pub )?(?:ghost )?use .*$|--.*$|//.*$", "", text, flags=re.M)
 
 
+@functools.cache
 def tokens(text):
     """The names of the text, and those that stand behind another one and a dot."""
     text = bare(text)
@@ -139,10 +143,11 @@ def said(text):
 
 
 class Reading:
-    """What is reached from the roots: for each item by which one it was reached first."""
+    """What is reached from the clauses: for each item by which one it was reached first."""
+
+    files = {}
 
     def __init__(self):
-        self.files = {}
         self.reached = {}
         self.waiting = []
 
@@ -170,6 +175,8 @@ class Reading:
         specs = self.file(path)
         if specs and name in specs.items:
             self.reach(path, name, by)
+        elif specs and name in specs.names:
+            self.reach_module(*specs.names[name], by, must)
         elif must:
             sys.exit(f"{by[0]}: no {name} in {module}")
 
@@ -273,12 +280,12 @@ def table(paths, row, head):
     return rows
 
 
-def of_contract(clauses):
-    """What these clauses of the root rest on."""
+def of_clauses(path, function, clauses=None):
+    """What the clauses of a function rest on: those of the names, or all."""
     reading = Reading()
-    for (name, clause), text in reading.file(ROOT[0]).clauses.items():
-        if name == ROOT[1] and clause in clauses:
-            reading.follow_text(ROOT[0], f"{name}: {clause}", text)
+    for (name, clause), text in reading.file(path).clauses.items():
+        if name == function and (clauses is None or clause in clauses):
+            reading.follow_text(path, f"{name} {clause}".strip(), text)
     reading.go()
     return reading
 
@@ -288,11 +295,14 @@ def cited_laws():
     found = []
     for line in read("docs/proved.md").splitlines():
         crate = None
-        for one in re.finditer(r"`(?:crates/(\w+)/)?((?:src/)?\w*(?:/\w+)*\.rt|src)`", line.rsplit(" | ", 1)[-1]):
+        for one in re.finditer(r"`(?:crates/(\w+)/)?((?:src/)?[\w/]*\.rt|src)`", line.rsplit(" | ", 1)[-1]):
             crate = one.group(1) or crate
-            path = f"crates/{crate}/" + ("" if one.group(2).startswith("src") else "src/") + one.group(2)
-            files = [path] if path.endswith(".rt") else [path + "/" + name for name in sorted(os.listdir(os.path.join(TOP, path))) if name.endswith(".rt")]
-            found += [file for file in files if os.path.exists(os.path.join(TOP, file)) and Program(file).laws and file not in found]
+            path = f"crates/{crate}/src" + re.sub("^(?:src)?/?(?=.)", "/", re.sub("^src$", "", one.group(2)))
+            if os.path.isdir(os.path.join(TOP, path)):
+                files = [f"{path}/{name}" for name in sorted(os.listdir(os.path.join(TOP, path))) if name.endswith(".rt")]
+            else:
+                files = [path]
+            found += [file for file in files if file not in found and Reading().file(file) and Reading().file(file).laws]
     return found
 
 
@@ -301,66 +311,79 @@ def of_laws():
     reading = Reading()
     for path in cited_laws():
         for (name, clause), text in reading.file(path).clauses.items():
-            reading.follow_text(path, name, text)
+            reading.follow_text(path, f"{name} {clause}".strip(), text)
     reading.go()
     return reading
 
 
+def counted(reading, paths):
+    lines = sum(reading.file(path).lines for path in paths)
+    return f"{len(paths)} files of {lines:,} lines, of which {sum(map(reading.lines_reached, paths)):,} are reached"
+
+
 def page():
-    """The whole reading of the contract, that of the laws, and the text of the page."""
-    sound, call = of_contract({"sound"}), of_contract({"words", "call"})
-    whole, laws = of_contract({"words", "sound", "call"}), of_laws()
-    paths = whole.specs()
-    others = [path for path in laws.specs() if path not in paths]
+    """The readings of the two contracts and of the laws, and the text of the page."""
+    sound, call = of_clauses(*CAPC, {"sound"}), of_clauses(*CAPC, {"words", "call"})
+    capc, certify, laws = of_clauses(*CAPC), of_clauses(*CERTIFY), of_laws()
+    parts = {"sound": sound.specs(), "call": call.specs(), "certify": certify.specs()}
+    of_capc = capc.specs()
+    of_certify = [path for path in certify.specs() if path not in of_capc]
+    others = [path for path in laws.specs() if path not in of_capc + of_certify]
+    head = ["| File | Lines | Reached | For | What it has |", "|---|---|---|---|---|"]
 
-    def lines(reading, files):
-        return f"{len(files)} files of {sum(reading.file(path).lines for path in files):,} lines, of which {sum(map(reading.lines_reached, files)):,} are reached"
+    def row(reading):
+        def of_file(path):
+            file = reading.file(path)
+            wanted = ", ".join(name for name, files in parts.items() if path in files)
+            return f"| `{path}` | {file.lines} | {reading.lines_reached(path)} | {wanted or '-'} | {file.said} |"
 
-    def row(path):
-        file = whole.file(path)
-        clauses = [name for name, part in (("sound", sound), ("call", call)) if path in part.specs()]
-        return f"| `{path}` | {file.lines} | {whole.lines_reached(path)} | {', '.join(clauses)} | {file.said} |"
+        return of_file
 
-    def other_row(path):
-        return f"| `{path}` | {laws.file(path).lines} | {laws.file(path).said} |"
-
+    types = {path: sorted(set(names) | set(certify.types().get(path, []))) for path, names in {**certify.types(), **capc.types()}.items()}
     out = [
         "# What has to be believed",
         "",
         "Whoever believes the definitions of the first part, and what README says that the program rests on, has to read no code "
         "and no proof to believe the contract of the function `capc` (`crates/capc/src/run.rt`). They are found by following each "
         "name of its clauses to the item that it stands for, and so on from there (`.ci/reading.py`, which writes this page; the gate "
-        "compares them). A file is listed where an item of it is reached, with all its lines and those of the items that are. "
-        "[definitions.md](definitions.md) has the order in which to read them, with all other definitions.",
+        "compares them). A file is listed where an item of it is reached, with the number of all its lines, and of those of the items "
+        "that are. [definitions.md](definitions.md) has the order in which to read them, with all other definitions.",
         "",
         "## The contract of `capc`",
         "",
-        f"These are {lines(whole, paths)}, by the layers of `crates.txt`. The clause `sound` says of every job what its modules deserve "
-        f"and what their runs do: it rests on {lines(sound, sound.specs())}. The clauses `call` and `words` say what is read and written.",
-        *table(paths, row, ["| File | Lines | Reached | Clauses | What it has |", "|---|---|---|---|---|"]),
+        f"It rests on {counted(capc, of_capc)}; here they stand by the layers of `crates.txt`. The clause `sound` says of every job what "
+        f"its modules deserve and what their runs do, and rests on {counted(sound, sound.specs())}. The clauses `call` and `words` say "
+        "what is read and written.",
+        *table(of_capc, row(capc), head),
         "",
-        "### Types of the program",
+        "## The contract of `certify`",
+        "",
+        f"The program that judges certificates (`{CERTIFY[0]}`) rests on {counted(certify, certify.specs())}: on those above that are "
+        "for it, and on " + ("this one." if len(of_certify) == 1 else "these."),
+        *table(of_certify, row(certify), head),
+        "",
+        "## Types of the program",
         "",
         "These stand in the definitions above as what they are: a type with its variants and fields, or as its `impl Model` says, and a "
         "trait with its clauses.",
         "",
         "| File | Types and traits |",
         "|---|---|",
-        *(f"| `{path}` | {', '.join(f'`{name}`' for name in names)} |" for path, names in whole.types().items()),
+        *(f"| `{path}` | {', '.join(f'`{name}`' for name in types[path])} |" for path in sorted(types)),
         "",
         "## Other laws",
         "",
-        f"The laws that [proved.md](proved.md) cites, functions with a contract and nothing else, rest on some of the files above, and on "
-        f"{len(others)} more with {sum(laws.file(path).lines for path in others):,} lines, worked examples among them.",
-        *table(others, other_row, ["| File | Lines | What it has |", "|---|---|---|"]),
+        "The laws that [proved.md](proved.md) cites, functions with a contract and nothing else, rest on some of the files above, and on "
+        f"{counted(laws, others)}, worked examples among them.",
+        *table(others, row(laws), head),
     ]
-    return whole, laws, "\n".join(out) + "\n"
+    return (capc, certify, laws), "\n".join(out) + "\n"
 
 
 def main():
-    whole, laws, text = page()
+    readings, text = page()
     if sys.argv[1:2] == ["--why"]:
-        reading = whole if any(path == sys.argv[2] for path, _ in whole.reached) else laws
+        reading = next((one for one in readings if sys.argv[2] in one.specs()), readings[0])
         for at in [one for one in reading.reached if one[0] == sys.argv[2]]:
             chain = []
             while at:
