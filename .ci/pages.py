@@ -4,6 +4,8 @@
 - Each link leads to a file that exists, and to a heading of it where it names one.
 - Each path between backticks exists: from the top, from `crates/`, or of a crate that its line, or else its section, names.
 - docs/definitions.md links to each file of definitions once.
+- README.md and docs/certificates.md show their examples as they are.
+- In crates.txt each crate stands behind those that it names, and in docs/architecture.md under its layer.
 - In the tables of docs/developing.md each name of a file stands in its crate's folder.
 - In a row of docs/rules.md that has one link to a file, the names between backticks before it stand in that file.
 - Each clause and function that docs/proved.md and README.md name in a row stands in a file or crate that the row names.
@@ -120,6 +122,31 @@ def check_rules():
                 fail(page, number, f"no {name} in {links[0]}")
 
 
+def check_crates():
+    """In crates.txt each crate stands behind those that it names, and docs/architecture.md has it under its layer."""
+    page, layer, before = "docs/architecture.md", "", []
+    sections = dict(re.findall(r"^## (.*)\n((?:(?!## ).*\n)*)", read(page), re.M))
+    for number, line in enumerate(read("crates.txt").splitlines(), 1):
+        if line.startswith("# "):
+            layer = line[2:]
+        elif line:
+            crate, _, others = line.partition(":")
+            for other in others.split():
+                if other in CRATES and other not in before:
+                    fail("crates.txt", number, f"{other} stands behind {crate}")
+            if f"`{crate}`" not in sections.get(layer, ""):
+                fail(page, 1, f"no {crate} under {layer}")
+            before.append(crate)
+
+
+def check_shown():
+    """What a page shows of a file is what the file has."""
+    for page, file in (("README.md", "overreach.job"), ("README.md", "overreach.out"), ("docs/certificates.md", "identity.cert")):
+        shown = "\n".join("    " + line if line else "" for line in read("examples/" + file).rstrip("\n").split("\n"))
+        if shown not in read(page):
+            fail(page, 1, f"examples/{file} is not shown as it is")
+
+
 def check_tables():
     """In rows of docs/developing.md with a crate, definitions, code and proofs each name is a file of the crate's folder."""
     page = "docs/developing.md"
@@ -156,7 +183,9 @@ def main():
         check_links_and_paths(page)
     check_definitions()
     check_rules()
+    check_shown()
     check_tables()
+    check_crates()
     check_clauses("docs/proved.md")
     check_clauses("README.md")
     for failure in failures:
