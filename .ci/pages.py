@@ -133,7 +133,7 @@ def check_crates():
             crate, _, others = line.partition(":")
             for other in others.split():
                 if other in CRATES and other not in before:
-                    fail("crates.txt", number, f"{other} stands behind {crate}")
+                    fail("crates.txt", number, f"{crate} names {other}, which does not stand before it")
             if f"`{crate}`" not in sections.get(layer, ""):
                 fail(page, 1, f"no {crate} under {layer}")
             before.append(crate)
