@@ -276,7 +276,9 @@ def table(paths, row, head):
     for layer, crates in layers().items():
         of_layer = [path for crate in crates for path in paths if path.split("/")[1] == crate]
         if of_layer:
-            rows += ["", f"### {layer}", "", *head, *map(row, of_layer)]
+            lines = sum(Reading().file(path).lines for path in of_layer)
+            files = "1 file" if len(of_layer) == 1 else f"{len(of_layer)} files"
+            rows += ["", f"### {layer}", "", f"{files}, {lines:,} lines.", "", *head, *map(row, of_layer)]
     return rows
 
 
