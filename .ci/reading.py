@@ -130,7 +130,10 @@ class Program:
             clauses = re.split(r"^    (?=(?:requires|ensures)\b)", function.group(0), flags=re.M)
             for clause in clauses[1:]:
                 said = re.match(r"\w+ (\w+)", clause)
-                self.clauses[name, said.group(1) if said else ""] = clauses[0] + clause
+                # the types of the signature count where the clause speaks of what they are of
+                of_call = set(re.findall(r"(\w+):", clauses[0])) | {"result"}
+                speaks = of_call & set(re.findall(r"\w+", bare(clause).partition("{")[2]))
+                self.clauses[name, said.group(1) if said else ""] = (clauses[0] if speaks else "") + clause
         self.laws = bool(self.clauses) and not re.search(r"^\s*\{$|\bfn\b.*\{$|\b(?:struct|enum)\b", text, re.M)
 
 
