@@ -1,0 +1,406 @@
+#!/usr/bin/env python3
+"""Which definitions the contracts of `capc` and `certify` rest on: what has to be believed, and nothing else.
+
+From the clauses of the function (`capc` of crates/capc/src/run.rt) each name is followed to the item that it stands for, from
+this item each name again, and so on. What is reached are items of the files in specs/, and types and traits of the program
+that stand in clauses as what they are. What the library `std` defines is followed no further. A word of an item that is the
+name of another item of its file, or of one that the file uses, is taken for that one: so too much may be reached, and never
+too little. The same is done for the laws that docs/proved.md cites: functions with a contract and nothing else.
+
+Usage: .ci/reading.py           compares the list with docs/reading.md; ends with 1 where they differ
+       .ci/reading.py --write   writes docs/reading.md
+       .ci/reading.py --why F   tells for each item of the file F (crates/CRATE/specs/FILE.antt) by which one it is reached
+"""
+import functools
+import os
+import re
+import sys
+
+TOP = os.path.dirname(os.path.dirname(os.path.abspath(__file__)))
+PAGE = os.path.join(TOP, "docs", "reading.md")
+CAPC = ("crates/capc/src/run.rt", "capc")
+CERTIFY = ("crates/certify/src/run.rt", "certify")
+NAME = r"[^\s(){}\[\],;.]+"
+OPENERS = r"(?:(?:pattern|opaque|abbrev|unfoldable|pub|data|record|mutual)\b ?)+"
+
+
+def read(path):
+    with open(os.path.join(TOP, path), encoding="utf-8") as file:
+        return file.read()
+
+
+@functools.cache
+def uses(text):
+    """The names that `use` lines bring in, each with its module and its own name; and the modules that have another name."""
+    names, modules = {}, {}
+    for line in re.finditer(r"^\s*(?:pub )?(?:ghost )?use ([\w.◌-]+?)(?:\.\{([^}]*)\}| as (\w+))?;?$", text, re.M):
+        module, listed, other = line.groups()
+        if other:
+            modules[other] = module
+        for one in (listed or "").split(","):
+            words = one.split()
+            if words:
+                names[words[-1]] = (module, words[0])
+    return names, modules
+
+
+def bare(text):
+    """The text without comments, `use` lines and strings."""
+    text = re.sub(r"\"(?:[^\"\\]|\\.)*\"", '""', text)
+    return re.sub(r"^\s*(?:pub )?(?:ghost )?use .*$|--.*$|//.*$", "", text, flags=re.M)
+
+
+@functools.cache
+def tokens(text):
+    """The names of the text, and those that stand behind another one and a dot."""
+    text = bare(text)
+    dotted = set(re.findall(rf"(?<!{NAME[:-1]}\.])(\w+)\.({NAME})", text))
+    return set(re.findall(NAME, re.sub(r"[;,]", " ", text))), dotted
+
+
+def parts(name):
+    """What stands in a text where the name, which may have gaps for operands, is used."""
+    return [part for part in name.split("◌") if part]
+
+
+class Specs:
+    """A file of definitions: its items by name, each with its text."""
+
+    def __init__(self, path):
+        self.path = path
+        text = read(path)
+        self.lines = text.count("\n")
+        self.names, self.modules = uses(text)
+        self.said = said(text)
+        blocks, current = [], []  # what stands before the first item is no block
+        for line in re.sub(r"^infix.*\n|^-- ----.*\n", "", text, flags=re.M).split("\n"):
+            if re.match(OPENERS, line) and not re.match(r"(?:pub )?(?:use|mod)\b", line) or re.match(rf"{NAME} :", line):
+                behind = current
+                current = [line]
+                blocks.append(current)
+                while behind and behind[-1].startswith("--"):
+                    current.insert(0, behind.pop())
+            else:
+                current.append(line)
+        self.items, self.own = {}, {}
+        for block in blocks:
+            item = "\n".join(block)
+            for name, is_local in self.defined(block):
+                self.items.setdefault(name, item)
+                if is_local:
+                    self.own.setdefault(name, name)
+
+    @staticmethod
+    def defined(block):
+        """The names that a block of lines gives, each with whether the block is taken to be meant where one stands bare."""
+        lines = [line for line in block if not line.lstrip().startswith("--")]
+        first = lines[0]
+        many = re.search(r"\b(?:mutual|data|record)\b", first)
+        if "mutual" not in first:
+            yield re.match(NAME, re.sub(OPENERS, "", first)).group(0), True
+        for line in lines[1:] if many else []:
+            inner = re.match(rf"\s+(pub )?(?:(?:data|record) ({NAME})|((?:{NAME} )+):\s)", line)
+            for name in (inner.group(2) or inner.group(3)).split() if inner else []:
+                is_type_or_function = inner.group(2) or (inner.group(1) and "mutual" in first)
+                yield name, bool(is_type_or_function or name[0].isupper() or "-" in name) and "record" not in first
+
+
+class Program:
+    """A file of the program: its types and traits by name, each with its text."""
+
+    def __init__(self, path):
+        self.path = path
+        text = read(path)
+        self.names, self.modules = uses(text)
+        self.rust = {}
+        crate = path.split("/")[1]
+        for line in re.finditer(r"^use ([\w:]+)(?:::\{([^}]*)\})?;$", text, re.M):
+            module, listed = line.groups()
+            for one in (listed.split(",") if listed else [module.rsplit("::", 1)[1]]):
+                words = one.split()
+                if words:
+                    base = module if listed else module.rsplit("::", 1)[0]
+                    self.rust[words[-1]] = (re.sub("^crate", crate, base), words[0])
+        self.items, self.clauses = {}, {}
+        for block in re.finditer(r"^(?:pub )?(struct|enum|trait) (\w+)(?:[^\n]*;$|.*?^\}$)|^(impl)(?:<[^\n]*>)? Model for (\w+).*?^\}$", text, re.M | re.S):
+            name = block.group(2) or block.group(4)
+            self.items[name] = self.items.get(name, "") + block.group(0) + "\n"
+        for function in re.finditer(r"^pub fn (\w+)(?:(?!^pub fn).)*?(?:^\{$|^\{\}$)", text, re.M | re.S):
+            name = function.group(1)
+            clauses = re.split(r"^    (?=(?:requires|ensures)\b)", function.group(0), flags=re.M)
+            for clause in clauses[1:]:
+                said = re.match(r"\w+ (\w+)", clause)
+                # the types of the signature count where the clause speaks of what they are of
+                of_call = set(re.findall(r"(\w+):", clauses[0])) | {"result"}
+                speaks = of_call & set(re.findall(r"\w+", bare(clause).partition("{")[2]))
+                self.clauses[name, said.group(1) if said else ""] = (clauses[0] if speaks else "") + clause
+        self.laws = bool(self.clauses) and not re.search(r"^\s*\{$|\bfn\b.*\{$|\b(?:struct|enum)\b", text, re.M)
+
+
+def said(text):
+    """The first sentence of the comment that a file begins with; two where the first one is short."""
+    head = re.match(r"(?:--.*\n)+", text)
+    words = " ".join(line[2:].strip() for line in head.group(0).splitlines()) if head else ""
+    sentences = re.split(r"(?<=[a-z0-9`)]\.) ", words)
+    return " ".join(sentences[: 2 if len(sentences[0]) < 40 else 1]).replace("|", "\\|")
+
+
+class Reading:
+    """What is reached from the clauses: for each item by which one it was reached first."""
+
+    files = {}
+
+    def __init__(self):
+        self.reached = {}
+        self.waiting = []
+
+    def file(self, path):
+        if path not in self.files:
+            exists = os.path.exists(os.path.join(TOP, path))
+            self.files[path] = (Specs if path.endswith(".antt") else Program)(path) if exists else None
+        return self.files[path]
+
+    def reach(self, path, name, by):
+        if (path, name) not in self.reached:
+            self.reached[path, name] = by
+            self.waiting.append((path, name))
+
+    def reach_module(self, module, name, by, must=True):
+        """The item of the name in a module as a `use` line names it; those of the library are not followed."""
+        words = module.split(".")
+        if words[0] != "Rattle" or words[2] != "specs" or not os.path.isdir(os.path.join(TOP, "crates", words[1])):
+            return
+        folder = "crates/" + words[1]
+        if words[3] == "declared":
+            self.reach_type(folder, words[4:], name, by)
+            return
+        path = folder + "/specs/" + "/".join(words[3:]) + ".antt"
+        specs = self.file(path)
+        if specs and name in specs.items:
+            self.reach(path, name, by)
+        elif specs and name in specs.names:
+            self.reach_module(*specs.names[name], by, must)
+        elif must:
+            sys.exit(f"{by[0]}: no {name} in {module}")
+
+    def reach_type(self, folder, words, name, by):
+        """The type or trait that a module of declared items is of."""
+        words = [word for word in words if word != "TheVariants"]
+        for last in range(len(words), 0, -1):
+            path = folder + "/src/" + "/".join(words[:last]) + ".rt"
+            if os.path.exists(os.path.join(TOP, path)):
+                self.reach(path, words[last] if last < len(words) else name, by)
+                return
+        self.reach(folder + "/src/lib.rt", words[0], by)
+
+    def reach_rust(self, module, name, by):
+        words = module.split("::")
+        folder = "crates/" + words[0]
+        if os.path.isdir(os.path.join(TOP, folder)):
+            stem = folder + "/src/" + ("/".join(words[1:]) or "lib")
+            path = stem + ".rt" if os.path.exists(os.path.join(TOP, stem + ".rt")) else stem + "/mod.rt"
+            file = self.file(path)
+            if file and name in file.items:
+                self.reach(path, name, by)
+            elif file and name in file.rust:
+                self.reach_rust(*file.rust[name], by)
+            elif file:
+                found = re.search(rf"^pub use ([\w:]+)::(?:{name}|\{{[^}}]*\b{name}\b[^}}]*\}});", read(path), re.M)
+                if found:
+                    self.reach_rust(words[0] + "::" + re.sub("^crate::", "", found.group(1)), name, by)
+
+    def follow(self, path, name):
+        file = self.file(path)
+        if file is None or name not in file.items:
+            sys.exit(f"{self.reached[path, name][0]}: no {name} in {path}")
+        self.follow_text(path, name, file.items[name])
+
+    def follow_text(self, path, name, item):
+        """Follows the names of an item, or of a clause."""
+        file, by = self.file(path), (path, name)
+        inner = uses(item)
+        plain, dotted = tokens(item)
+        for names in (file.names, inner[0]):
+            for known, (module, own) in names.items():
+                if all(any(part == token or (len(known) > len(part) and part in token) for token in plain) for part in parts(known)):
+                    self.reach_module(module, own, by)
+        for before, behind in dotted:
+            if before in file.modules:
+                self.reach_module(file.modules[before], behind, by, False)
+        if path.endswith(".antt"):
+            for known in file.own:
+                if known != name and all(part in plain for part in parts(known)):
+                    self.reach(path, known, by)
+        else:
+            for token in sorted(set(re.findall(r"\w+", bare(item)))):
+                if token in file.items and token != name:
+                    self.reach(path, token, by)
+                elif token in file.rust:
+                    self.reach_rust(*file.rust[token], by)
+
+    def go(self):
+        while self.waiting:
+            self.follow(*self.waiting.pop(0))
+
+    def specs(self):
+        """The files of definitions that were reached."""
+        return sorted({path for path, _ in self.reached if path.endswith(".antt")})
+
+    def types(self):
+        """The types and traits that were reached, by the file that has them."""
+        found = {}
+        for path, name in self.reached:
+            if path.endswith(".rt"):
+                found.setdefault(path, set()).add(name)
+        return {path: sorted(found[path]) for path in sorted(found)}
+
+    def lines_reached(self, path):
+        """How many lines the items have that were reached in the file, with their comments."""
+        file = self.file(path)
+        items = {file.items[name] for at, name in self.reached if at == path}
+        return sum(1 for item in items for line in item.split("\n") if line.strip())
+
+
+def layers():
+    """The crates by layers, as the comments of crates.txt name them."""
+    found = {}
+    layer = None
+    for line in read("crates.txt").splitlines():
+        if line.startswith("# "):
+            layer = line[2:]
+        elif line:
+            found.setdefault(layer, []).append(line.split(":")[0])
+    return found
+
+
+def table(paths, row, head):
+    """The rows of the files, by layers and crates."""
+    rows = []
+    for layer, crates in layers().items():
+        of_layer = [path for crate in crates for path in paths if path.split("/")[1] == crate]
+        if of_layer:
+            lines = sum(Reading().file(path).lines for path in of_layer)
+            files = "1 file" if len(of_layer) == 1 else f"{len(of_layer)} files"
+            rows += ["", f"### {layer}", "", f"{files}, {lines:,} lines.", "", *head, *map(row, of_layer)]
+    return rows
+
+
+def of_clauses(path, function, clauses=None):
+    """What the clauses of a function rest on: those of the names, or all."""
+    reading = Reading()
+    for (name, clause), text in reading.file(path).clauses.items():
+        if name == function and (clauses is None or clause in clauses):
+            reading.follow_text(path, f"{name} {clause}".strip(), text)
+    reading.go()
+    return reading
+
+
+def cited_laws():
+    """The files of laws that docs/proved.md cites; a path without a crate is one of the crate before it."""
+    found = []
+    for line in read("docs/proved.md").splitlines():
+        crate = None
+        for one in re.finditer(r"`(?:crates/(\w+)/)?((?:src/)?[\w/]*\.rt|src)`", line.rsplit(" | ", 1)[-1]):
+            crate = one.group(1) or crate
+            path = f"crates/{crate}/src" + re.sub("^(?:src)?/?(?=.)", "/", re.sub("^src$", "", one.group(2)))
+            if os.path.isdir(os.path.join(TOP, path)):
+                files = [f"{path}/{name}" for name in sorted(os.listdir(os.path.join(TOP, path))) if name.endswith(".rt")]
+            else:
+                files = [path]
+            found += [file for file in files if file not in found and Reading().file(file) and Reading().file(file).laws]
+    return found
+
+
+def of_laws():
+    """What the laws rest on that are cited."""
+    reading = Reading()
+    for path in cited_laws():
+        for (name, clause), text in reading.file(path).clauses.items():
+            reading.follow_text(path, f"{name} {clause}".strip(), text)
+    reading.go()
+    return reading
+
+
+def counted(reading, paths):
+    lines = sum(reading.file(path).lines for path in paths)
+    return f"{len(paths)} files of {lines:,} lines, of which {sum(map(reading.lines_reached, paths)):,} are reached"
+
+
+def page():
+    """The readings of the two contracts and of the laws, and the text of the page."""
+    sound, call = of_clauses(*CAPC, {"sound"}), of_clauses(*CAPC, {"words", "call"})
+    capc, certify, laws = of_clauses(*CAPC), of_clauses(*CERTIFY), of_laws()
+    parts = {"sound": sound.specs(), "call": call.specs(), "certify": certify.specs()}
+    of_capc = capc.specs()
+    of_certify = [path for path in certify.specs() if path not in of_capc]
+    others = [path for path in laws.specs() if path not in of_capc + of_certify]
+    head = ["| File | Lines | Reached | For | What it has |", "|---|---|---|---|---|"]
+
+    def row(reading):
+        def of_file(path):
+            file = reading.file(path)
+            wanted = ", ".join(name for name, files in parts.items() if path in files)
+            return f"| `{path}` | {file.lines} | {reading.lines_reached(path)} | {wanted or '-'} | {file.said} |"
+
+        return of_file
+
+    types = {path: sorted(set(names) | set(certify.types().get(path, []))) for path, names in {**certify.types(), **capc.types()}.items()}
+    out = [
+        "# What has to be believed",
+        "",
+        "Whoever believes the definitions of the first part, and what README says that the program rests on, has to read no code "
+        "and no proof to believe the contract of the function `capc` (`crates/capc/src/run.rt`). They are found by following each "
+        "name of its clauses to the item that it stands for, and so on from there (`.ci/reading.py`, which writes this page; the gate "
+        "compares them). A file is listed where an item of it is reached, with the number of all its lines, and of those of the items "
+        "that are. [definitions.md](definitions.md) has the order in which to read them, with all other definitions.",
+        "",
+        "## The contract of `capc`",
+        "",
+        f"It rests on {counted(capc, of_capc)}; here they stand by the layers of `crates.txt`. The clause `sound` says of every job what "
+        f"its modules deserve and what their runs do, and rests on {counted(sound, sound.specs())}. The clauses `call` and `words` say "
+        "what is read and written.",
+        *table(of_capc, row(capc), head),
+        "",
+        "## The contract of `certify`",
+        "",
+        f"The program that judges certificates (`{CERTIFY[0]}`) rests on {counted(certify, certify.specs())}: on those above that are "
+        "for it, and on " + ("this one." if len(of_certify) == 1 else "these."),
+        *table(of_certify, row(certify), head),
+        "",
+        "## Types of the program",
+        "",
+        "These stand in the definitions above as what they are: a type with its variants and fields, or as its `impl Model` says, and a "
+        "trait with its clauses.",
+        "",
+        "| File | Types and traits |",
+        "|---|---|",
+        *(f"| `{path}` | {', '.join(f'`{name}`' for name in types[path])} |" for path in sorted(types)),
+        "",
+        "## Other laws",
+        "",
+        "The laws that [proved.md](proved.md) cites, functions with a contract and nothing else, rest on some of the files above, and on "
+        f"{counted(laws, others)}, worked examples among them.",
+        *table(others, row(laws), head),
+    ]
+    return (capc, certify, laws), "\n".join(out) + "\n"
+
+
+def main():
+    readings, text = page()
+    if sys.argv[1:2] == ["--why"]:
+        reading = next((one for one in readings if sys.argv[2] in one.specs()), readings[0])
+        for at in [one for one in reading.reached if one[0] == sys.argv[2]]:
+            chain = []
+            while at:
+                chain.append(f"{at[1]} ({at[0]})")
+                at = reading.reached.get(at)
+            print(" <- ".join(chain))
+    elif sys.argv[1:] == ["--write"]:
+        with open(PAGE, "w", encoding="utf-8") as file:
+            file.write(text)
+    elif not os.path.exists(PAGE) or read("docs/reading.md") != text:
+        print("docs/reading.md is not what `.ci/reading.py --write` writes")
+        sys.exit(1)
+
+
+main()
