@@ -191,8 +191,7 @@ module _ (devices : List DeviceDecl) (texts : Texts) (verdicts : List ℕ → Mo
         → AreExplained entry (DefinitionOf module_name name) elements (map (explanation_named definitions) found)
     explained [] members found is = ap (map (explanation_named definitions)) is
     explained (e ∷ elements) members found (one, later, finds, rest, is) =
-        let first = explained_one e (members e (0, omega arith, refl)) one finds in
-        (
+        let first = explained_one e (members e (0, omega arith, refl)) one finds in (
           explanation_named definitions first.chain,
           map (explanation_named definitions) later,
           first.explains,
@@ -215,8 +214,7 @@ explanations_told devices texts differ sorted module_name name modules (graph_na
     let ms = linked devices texts verdicts differ sorted are module_name begun graph_names order in
     let same : modules ≡ ms = these verdicts are in
     let members : (e : Elem) → Contains set.list e → Member e it.definition.accepted.signature.set =
-    λ e among. subst (λ s. Member e s) set_is ((Member-list e set).1 among) in
-    (
+    λ e among. subst (λ s. Member e s) set_is ((Member-list e set).1 among) in (
       map (explanation_named (definition_names ms)) found,
       explained devices texts verdicts differ sorted are module_name name it stands graph_names order place
           (subst (λ m. slice_get (definition_names m) place ≡ Some (module_name, name)) same at) set.list members found

@@ -114,8 +114,7 @@ module _ (devices : List DeviceDecl) (rules : List Rule) (texts : Texts) (verdic
         → TellsExplanations devices texts verdicts names module_name name it.definition.accepted.signature.set.list text → refused ≡ false
         → IsReplied devices (holding_under rules texts) (Ask (ExplainDefinition module_name name)) old new result
     explain_shown it found names names_are (explanations, explained, said) tells =
-        shown (Ask (ExplainDefinition module_name name)) (Explained module_name name explanations)
-        (
+        shown (Ask (ExplainDefinition module_name name)) (Explained module_name name explanations) (
           verdicts,
           are,
           subst (λ r. IsExplainAnswer devices texts verdicts module_name name r (Explained module_name name explanations)) (sym found)
@@ -213,8 +212,7 @@ module _ (devices : List DeviceDecl) (rules : List Rule) (texts : Texts) (verdic
         → WritesWhole old new result (reply_text [] (ExplainRefused module_name name code))
         → IsReplied devices (holding_under rules texts) (Ask (ExplainDefinition module_name name)) old new result
     explain_not_shown code is written =
-        replied devices (holding_under rules texts) (Ask (ExplainDefinition module_name name)) (ExplainRefused module_name name code)
-        (
+        replied devices (holding_under rules texts) (Ask (ExplainDefinition module_name name)) (ExplainRefused module_name name code) (
           verdicts,
           are,
           subst (λ r. IsExplainAnswer devices texts verdicts module_name name r (ExplainRefused module_name name code)) (sym is) refl,

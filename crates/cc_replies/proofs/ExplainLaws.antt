@@ -140,8 +140,8 @@ explain_answer devices texts verdicts differ sorted are module_name name (Ok it)
     let from = DefinitionOf module_name name in
     let set = it.definition.accepted.signature.set in
     let (explanations, is) = explained_all entry from set.list (λ element among.
-      let linked = (elements_are_linked devices texts verdicts differ sorted are module_name name it stands element).0 ((Member-list element set).1 among) in
-      let (chain, first) = first_chains_exist Target same_target same_target-true same_target-itself entry linked.0 from linked.1 linked.3 in
-      (record { target = linked.0; chain = chain }, record { is_element = linked.2; has_chain = first })) in
+    let linked = (elements_are_linked devices texts verdicts differ sorted are module_name name it stands element).0 ((Member-list element set).1 among) in
+    let (chain, first) = first_chains_exist Target same_target same_target-true same_target-itself entry linked.0 from linked.1 linked.3 in
+    (record { target = linked.0; chain = chain }, record { is_element = linked.2; has_chain = first })) in
     (Explained module_name name explanations, (explanations, is, refl))
 explain_answer devices texts verdicts differ sorted are module_name name (Err code) stands = (ExplainRefused module_name name code, refl)

@@ -27,8 +27,7 @@ three_modules_explained =
     (explanation_by console_and_counter runs.three_modules three_verdicts app main (DeviceAt 0)
     ∷ explanation_by console_and_counter runs.three_modules three_verdicts app main (DeviceAt 1) ∷ [])
     (codes "explain app.main" ∷ codes "  out: app.main logger.line out" ∷ codes "  hits: app.main counter.next hits" ∷ [])
-    refl
-    (
+    refl (
       explanation_by console_and_counter runs.three_modules three_verdicts app main (DeviceAt 0),
       explanation_by console_and_counter runs.three_modules three_verdicts app main (DeviceAt 1) ∷ [],
       explains console_and_counter runs.three_modules three_verdicts app main (DeviceAt 0) (Variable (Free 0))
@@ -91,8 +90,7 @@ chain_explained =
     (Variable (Free 0) ∷ [])
     (explanation_by console_and_counter example.chain chain_verdicts app main (DeviceAt 0) ∷ [])
     (codes "explain app.main" ∷ codes "  out: app.main m3.f3 m2.f2 m1.f1 out" ∷ [])
-    refl
-    (
+    refl (
       explanation_by console_and_counter example.chain chain_verdicts app main (DeviceAt 0),
       [],
       explains console_and_counter example.chain chain_verdicts app main (DeviceAt 0) (Variable (Free 0))
@@ -116,8 +114,7 @@ universal_explained = record {
       explain_replies console example.universal (verdicts_of console example.universal) alone (m ∷ []) universal_judged m (codes "any")
       (Cap ∷ []) (explanation_by console example.universal (verdicts_of console example.universal) m (codes "any") Universal ∷ [])
       (codes "explain m.any" ∷ codes "  cap: m.any cap" ∷ [])
-      refl
-      (
+      refl (
         explanation_by console example.universal (verdicts_of console example.universal) m (codes "any") Universal,
         [],
         explains console example.universal (verdicts_of console example.universal) m (codes "any") Universal Cap (Universal ∷ []) refl refl,
