@@ -71,7 +71,7 @@ fn known_kind(alloc: Global, text: &str, known: &mut Known) -> Result<TokenKind,
         return Ok(kind);
     }
     let kind = word_kind(alloc, text)?;
-    known.remember(alloc, text, &kind)?;
+    known.remember(text, &kind)?;
     Ok(kind)
 }
 
