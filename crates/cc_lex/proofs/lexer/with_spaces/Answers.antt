@@ -16,8 +16,11 @@ sizes c =
 
 pub overflow_add-result : goal.overflow_add-result
 overflow_add-result c =
-    omega (arith, (with-spaces c.args.after.now c.args.front c.size_in-spaces.result c.utf8.after c.requires
-    (c.size_in-spaces.ensures ∙ ap (λ bs. size_of (front_in classes.Spaces (chars bs))) c.range_from.ensures.value)).characters)
+    omega (
+      arith,
+      (with-spaces c.args.after.now c.args.front c.size_in-spaces.result c.utf8.after c.requires
+          (c.size_in-spaces.ensures ∙ ap (λ bs. size_of (front_in classes.Spaces (chars bs))) c.range_from.ensures.value)).characters,
+    )
 
 pub overflow_add-result-2 : goal.overflow_add-result-2
 overflow_add-result-2 c = omega (arith, (sizes c).bytes)
