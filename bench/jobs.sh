@@ -3,23 +3,27 @@
 # with 256 modules that is read and checked, and the memory that this takes; a row of modules, each of which imports the
 # one before it, and the same for half of them; edits of one module with a check behind each, and half as many, also
 # among 200 and 100 modules of 5,000 bytes, and beside 60 and 30 modules that import 2,700 definitions of one each; the
-# first check of these; and a row of 200 in which one module is edited so that its signature stays. It fails where there
-# is no program, or where an answer is wrong.
+# first check of these; a row of 200 in which one module is edited so that its signature stays; and ordinary jobs: 256
+# modules of 5,000 bytes and of 15,000 bytes, 5,000 definitions, and 1,700 functions, each of which calls the one before
+# it. It fails where there is no program, where an answer is wrong, where the first check of the modules that import 2,700
+# definitions takes more than 150 ms, or 20 edits beside them, with that check, more than 600 ms. Where another program is
+# named that does the same, it is measured too, and it fails where an ordinary job takes more than twice as long as by that.
 # Build the program first: cd crates/capc && rt run
-# Usage: bench/jobs.sh [PROGRAM [RUNS]]
+# Usage: bench/jobs.sh [PROGRAM [RUNS [OTHER]]]
 set -u
 program=${1:-$(dirname "$0")/../crates/capc/out/capc}
 [ -x "$program" ] || { echo "bench/jobs.sh: there is no program $program: build it first" >&2; exit 1; }
-PYTHONPATH=$(dirname "$0") PYTHONDONTWRITEBYTECODE=1 exec python3 - "$program" "${2:-5}" <<'PY'
+PYTHONPATH=$(dirname "$0") PYTHONDONTWRITEBYTECODE=1 exec python3 - "$program" "${2:-5}" "${3:-}" <<'PY'
 import sys
 
 import measuring
-from rows import link, put, row
+from rows import link, ordinary, put, row
 
-program, runs = sys.argv[1], int(sys.argv[2])
+program, runs, other = sys.argv[1], int(sys.argv[2]), sys.argv[3]
+missed = []
 
 
-def measured(job, last):
+def measured(job, last, program=program):
     """The shortest time of the runs in milliseconds, and the memory in MB; the last line of the output has to be this."""
     best, most, status, line = measuring.measured(program, job, runs)
     if status != 0 or line != last:
@@ -27,17 +31,47 @@ def measured(job, last):
     return best, most
 
 
-def halves(words, job_of, size, last_of):
+def bar(words, took, most):
+    """Keeps that so many milliseconds are too many, if they are."""
+    if took > most:
+        missed.append('%s: %.1f ms, where %.1f ms is the most' % (words, took, most))
+
+
+def halves(words, job_of, size, last_of, most=None):
     whole, half = (measured(job_of(n), last_of(n))[0] for n in (size, size // 2))
     print('%s: %.1f ms for %d, %.1f ms for half of them' % (words, whole, size, half))
+    if most is not None:
+        bar(words, whole, most)
+
+
+def against(words, job, last, took):
+    """Measures the other program, if one is named, by which the job may take half of this at least."""
+    if other:
+        theirs = measured(job, last, other)[0]
+        print('  %.2f times what the other program takes, which is %.1f ms' % (took / theirs, theirs))
+        bar(words, took, 2 * theirs)
+
+
+def beside(words, job_of, size, last_of):
+    """For so many and for half of them, and the first beside the other program."""
+    whole, half = (measured(job_of(n), last_of(n))[0] for n in (size, size // 2))
+    print('%s: %.1f ms for %d, %.1f ms for half of them' % (words, whole, size, half))
+    against(words, job_of(size), last_of(size), whole)
 
 
 # modules of 15,000 bytes with comments and 250 definitions, and empty lines up to the greatest length of a job
 text = ['// %s' % ('x' * 96)] * 60 + ['def d%d = fun (x: Int) => x * %d + %d' % (i, i, i) for i in range(250)]
-large = 'capc 1\n' + ''.join(put('m%03d' % number, text) for number in range(256)) + 'check\n'
-large = large.ljust(4194304, '\n')
-took, memory = measured(large, '  m255 ok')
-print('a job of %d bytes with 256 modules: %.1f ms, %.1f MB' % (len(large), took, memory))
+
+
+def large(modules):
+    job = 'capc 1\n' + ''.join(put('m%03d' % number, text) for number in range(modules)) + 'check\n'
+    return job.ljust(modules * 16384, '\n')
+
+
+took, memory = measured(large(256), '  m255 ok')
+half = measured(large(128), '  m127 ok')[0]
+print('a job of %d bytes with 256 modules: %.1f ms, %.1f MB, %.1f ms for half of them' % (len(large(256)), took, memory, half))
+against('a job of 4 MiB', large(256), '  m255 ok', took)
 
 halves('modules in a row of imports', lambda n: 'capc 1\n' + row(n) + 'check\n', 256, lambda n: '  m%03d ok' % (n - 1))
 halves('edits of one module with a check behind each',
@@ -72,9 +106,23 @@ def behind(words, job_of, modules, edits, last_of):
 
 
 behind('an edit of one among modules of 5,000 bytes, and a check', edited, 200, 40, lambda n: '  m%03d ok' % (n - 1))
-halves('modules that import 2,700 definitions', lambda n: importing(n, 0), 60, lambda n: '  n ok')
+halves('modules that import 2,700 definitions', lambda n: importing(n, 0), 60, lambda n: '  n ok', 150)
+halves('the same with 20 edits of another module', lambda n: importing(n, 20), 60, lambda n: '  n ok', 600)
 behind('an edit of one beside modules that import 2,700 definitions, and a check', importing, 60, 20, lambda n: '  n ok')
 before = measured('capc 1\n' + row(200) + 'check\n', '  m199 ok')[0]
 after = measured('capc 1\n' + row(200) + 'check\n' + link(100, 'x + 2') + 'check\n', '  m199 ok')[0]
 print('an edit of one module among 200 in a row, which keeps its signature: %.1f ms more than %.1f ms' % (after - before, before))
+
+devices = 'capc 1\ndevice out console\ndevice keys file 1 2 3\ndevice hits counter\n'
+for parts, size in ((3, '5,000'), (9, '15,000')):
+    beside('modules of %s bytes' % size, lambda n: devices + ordinary(n, parts) + 'check\n', 256,
+           lambda n: '  m%03d ok' % (n - 1))
+beside('definitions of a module', lambda n: devices + put('m', ['def d%d=%d' % (i, i % 10) for i in range(n)]) + 'check\n',
+       5000, lambda n: '  m ok')
+beside('functions that each call the one before it',
+       lambda n: devices + put('m', ['def f0 = fun (x: Int) => out.print(x)']
+                               + ['def f%d=fun(x:Int)=>f%d(x)' % (i + 1, i) for i in range(n)]) + 'check\n',
+       1700, lambda n: '  m ok')
+if missed:
+    sys.exit('bench/jobs.sh: too slow:\n' + '\n'.join('  ' + line for line in missed))
 PY

@@ -136,7 +136,29 @@ fn place_of(modules: &[(Name, Names)], name: &Name) -> Option<usize>
     modules.binary_search_by(|module| module.0.cmp(name)).ok()
 }
 
-// The places of the modules of the names.
+// Whether the module of the name stands at the place.
+fn is_at(modules: &[(Name, Names)], at: usize, name: &Name) -> bool
+    ensures { result ≡ true → (at < length modules.now) × (bytes_eq (name_at modules.now at) name.now ≡ true) }
+{
+    match modules.get(at) {
+        Some(module) => module.0 == *name,
+        None => false,
+    }
+}
+
+// The place of the module of the name, which may be this one.
+fn place_near(modules: &[(Name, Names)], near: usize, name: &Name) -> Option<usize>
+    requires { IsImportMap modules.now }
+    ensures { MatchOption result ((place : ℕ) → place < length modules.now → bytes_eq (name_at modules.now place) name.now ≡ false) (λ found. (found < length modules.now) × ((place : ℕ) → place < length modules.now → bytes_eq (name_at modules.now place) name.now ≡ nat_eq place found)) }
+{
+    if is_at(modules, near, name) {
+        Some(near)
+    } else {
+        place_of(modules, name)
+    }
+}
+
+// The places of the modules of the names. One name comes again and again, mostly.
 fn places_of(alloc: Global, modules: &[(Name, Names)], names: &[Name]) -> Result<Row, AllocError>
     requires { IsImportMap modules.now }
     ensures width { IfOk result (λ row. length row ≡ width_for (length modules.now)) }
@@ -144,9 +166,11 @@ fn places_of(alloc: Global, modules: &[(Name, Names)], names: &[Name]) -> Result
     ensures inside { IfOk result (λ row. (place : ℕ) → length modules.now ≤ place → has_bit row place ≡ false) }
 {
     let mut row = Row::new(alloc, modules.len())?;
+    let mut near = 0;
     for name in names {
-        if let Some(place) = place_of(modules, name) {
+        if let Some(place) = place_near(modules, near, name) {
             row.put(place);
+            near = place;
         }
     }
     Ok(row)

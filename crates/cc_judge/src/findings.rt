@@ -8,7 +8,7 @@ ghost use Rattle.cc_meta_modules.specs.PresentTexts.{ArePresent, graph_of};
 ghost use Rattle.cc_module.specs.Findings.{finding_of};
 ghost use Rattle.cc_module.specs.Judgements.{checked_definition_of, module_verdict_of};
 ghost use Rattle.cc_parse.specs.Trees.{import_syntax};
-ghost use Rattle.cc_judge.specs.Found.{IsFoundIn, IsFoundFor, AreFoundFor};
+ghost use Rattle.cc_judge.specs.Found.{IsFoundIn, IsSource, IsFoundFor, AreFoundFor};
 
 use crate::grounds::SharedText;
 use crate::last::Last;
@@ -69,29 +69,79 @@ fn finding_by(plan: &Option<Plan>, last: &Last, def: &Name) -> Result<Finding, A
     }
 }
 
-// What is found for an import of the module of the name.
-fn finding(
+/// Where the module stands that is imported from.
+#[derive(Clone, Copy)]
+pub(crate) enum Source {
+    /// It is not present.
+    Absent,
+    /// It is present, and reaches back.
+    Cycle,
+    /// It is present at this place, and does not reach back.
+    At(usize),
+}
+
+// Where the module stands that the module of the name imports from.
+fn source_of(
     texts: &[(Name, SharedText)],
     graph: &ImportGraph,
+    name: &Name,
+    source: &Name,
+) -> Source
+    requires present { ArePresent texts.now }
+    requires graph { graph.now ≡ graph_of texts.now }
+    ensures { IsSource texts.now name.now source.now result }
+{
+    match place_of_text(texts, source) {
+        Some(at) => {
+            if graph.reaches(source, name) {
+                Source::Cycle
+            } else {
+                Source::At(at)
+            }
+        }
+        None => Source::Absent,
+    }
+}
+
+// The same, where it is known of one module already, which may be this one.
+fn source_again(
+    texts: &[(Name, SharedText)],
+    graph: &ImportGraph,
+    name: &Name,
+    known: &Name,
+    found: Source,
+    source: &Name,
+) -> Source
+    requires present { ArePresent texts.now }
+    requires graph { graph.now ≡ graph_of texts.now }
+    requires known { IsSource texts.now name.now known.now found }
+    ensures { IsSource texts.now name.now source.now result }
+{
+    if *known == *source {
+        found
+    } else {
+        source_of(texts, graph, name, source)
+    }
+}
+
+// What is found for an import of the module of the name, where it is known where the module stands that it imports from.
+fn finding(
+    texts: &[(Name, SharedText)],
     last: &Last,
     plans: &[Option<Plan>],
     name: &Name,
+    source: Source,
     import: &Import,
 ) -> Result<Finding, AllocError>
     requires present { ArePresent texts.now }
-    requires graph { graph.now ≡ graph_of texts.now }
     requires count { length plans.now ≡ length texts.now }
+    requires source { IsSource texts.now name.now import.now.module source }
     ensures { IfOk result (λ f. IsFoundFor texts.now last.now.verdicts.items plans.now name.now (import_syntax import.now) (finding_of f)) }
 {
-    match place_of_text(texts, &import.module) {
-        Some(at) => {
-            if graph.reaches(&import.module, name) {
-                Ok(Finding::Cycle)
-            } else {
-                finding_by(&plans[at], last, &import.def)
-            }
-        }
-        None => Ok(Finding::Unknown),
+    match source {
+        Source::Absent => Ok(Finding::Unknown),
+        Source::Cycle => Ok(Finding::Cycle),
+        Source::At(at) => finding_by(&plans[at], last, &import.def),
     }
 }
 
@@ -113,8 +163,12 @@ pub(crate) fn findings(
     ensures { IfOk result (λ found. AreFoundFor texts.now last.now.verdicts.items plans.now name.now (map import_syntax imports.now) (map finding_of found.items)) }
 {
     let mut found = Vec::with_capacity(alloc, imports.len())?;
+    let mut known = name;
+    let mut source = source_of(texts, graph, name, known);
     for import in imports {
-        let one = finding(texts, graph, last, plans, name, import)?;
+        source = source_again(texts, graph, name, known, source, &import.module);
+        known = &import.module;
+        let one = finding(texts, last, plans, name, source, import)?;
         found.push(one)?;
     }
     Ok(found)

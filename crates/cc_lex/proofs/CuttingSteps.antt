@@ -1,8 +1,10 @@
 -- The loop over a text: the tokens so far, and what is found in the rest.
-use Rattle.std.proofs.Common.{◌≡◌, ℕ, ◌+◌, ◌-◌, ◌<◌, Bool, true, false, cond, ◌||◌, ◌==◌, one-add, List, [], ◌∷◌, ◌++◌, take, drop, length, refl, sym, ap, ◌∙◌, arith, Option, Some, None, Ok, Err, encode_utf8, append_assoc, append-nil, length-drop, take-append-drop}
+use Rattle.std.proofs.Common.{◌≡◌, ℕ, zero, suc, ◌+◌, ◌-◌, ◌<◌, Bool, true, false, cond, ◌||◌, ◌==◌, one-add, List, [], ◌∷◌, ◌++◌, take, drop, length, refl, sym, ap, ◌∙◌, arith, Option, Some, None, Ok, Err, encode_utf8, append_assoc, append-nil, length-drop, take-append-drop}
 use Rattle.std.specs.Str.{chars, IsUtf8}
 use Rattle.std.specs.List.{list_all, prefix_len}
-use Rattle.std.proofs.lemmas.List.Folds.{length-prefix_len}
+use Rattle.std.proofs.lemmas.List.{length-take-le}
+use Rattle.std.proofs.lemmas.List.Folds.{length-prefix_len, list_all-append}
+use Rattle.std.proofs.lemmas.List.Sums.{prefix_len-le-length}
 use Rattle.std.proofs.lemmas.Bool.Decides.{nat_tests}
 use Rattle.std.proofs.lemmas.Str.{chars_past_char, IsUtf8-past_char}
 use Rattle.cc_base.specs.declared.place.Place.{Place}
@@ -14,7 +16,8 @@ use Rattle.cc_lex.specs.Lexical.{is_white, place_after, place_past, start, byte_
 use Rattle.cc_lex.specs.Cutting.{blank_of, token_of, spanned_front, cut, stop, size_of, sized, joined, columns_past, stays_in_line, is_space, front_in, Finds, FindsFront, Gives}
 use Rattle.cc_lex.proofs.CuttingLaws.{cut-jump, found-none}
 use Rattle.cc_lex.proofs.TextFronts.{IsBehind, behind-front, chars-none, length-past}
-use Rattle.cc_lex.proofs.Sizes.{sized-blank, sized-no_blank}
+use Rattle.cc_lex.proofs.Booleans.{both_true}
+use Rattle.cc_lex.proofs.Sizes.{sized-blank, sized-no_blank, take-two, size-within}
 use Rattle.cc_lex.proofs.Prefixes.{prefix-passes}
 use Rattle.cc_lex.proofs.Blanks.{white-first}
 use Rattle.cc_lex.proofs.InLines.{all-weaker, token-in_line, blank-in_line, place-in_line, place-append}
@@ -72,6 +75,42 @@ front-token p o c cs ts us t more e found size new =
 pub front-none : (p : Place) (o c : ℕ) (cs : List ℕ) (ts us : List SpannedLexeme) (error : LexError) → None ≡ sized cs (blank_of c cs) → Finds spanned_front p (Err error) (token_of p o c cs) → FindsFront p o c cs ts (Err error) us
 front-none p o c cs ts us (Refused diag) e found = (found.1, found-none p o c cs (sized-no_blank c cs e) found.0)
 front-none p o c cs ts us NoMemory e found = tt
+
+-- a token, and the spaces behind it
+
+abbrev added : ℕ → ℕ → ℕ
+added zero m = m
+added (suc n) m = suc (added n m)
+
+added-is : (n m : ℕ) → added n m ≡ n + m
+added-is zero m = let all : m ≡ 0 + m = omega arith in all
+added-is (suc n) m = let rest = added-is n m in omega arith
+
+skip-behind : (n : ℕ) (p : Place) (o : ℕ) (cs : List ℕ) → cut (added n (prefix_len is_space (drop n cs))) p o cs ≡ cut n p o cs
+skip-behind zero p o cs = skip-spaces p o cs
+skip-behind (suc n) p o [] = refl
+skip-behind (suc n) p o (c ∷ cs) = skip-behind n (place_after p c) (o + length (encode_utf8 c)) cs
+
+pub front-spaces :
+    (p : Place) (o c : ℕ) (cs : List ℕ) (ts us : List SpannedLexeme) (front whole : Size) → FindsFront p o c cs ts (Ok front) us
+    → whole ≡ size_of (take (front.characters + prefix_len is_space (drop front.characters cs)) cs) → FindsFront p o c cs ts (Ok whole) us
+front-spaces p o c cs ts us front whole finds size =
+    let n = front.characters in
+    let ds = drop n cs in
+    let m = prefix_len is_space ds in
+    let next = o + length (encode_utf8 c) in
+    let first = size-within cs front finds.0 in
+    let behind = prefix_len-le-length is_space ds in
+    let left = length-drop n cs in
+    let count : whole.characters ≡ n + m = ap (λ s. s.characters) size ∙ length-take-le (n + m) cs (omega arith) in
+    let parts = take-two n m cs first in
+    let spaces : list_all stays_in_line (take m ds) ≡ true = all-weaker is_space stays_in_line space-stays (take m ds) (prefix-passes is_space ds) in
+    let in_line : list_all stays_in_line (take (n + m) cs) ≡ true = ap (list_all stays_in_line) parts ∙ (list_all-append stays_in_line (take n cs) (take m ds) ∙ both_true (list_all stays_in_line (take n cs)) (list_all stays_in_line (take m ds)) finds.1 spaces) in
+    let skips : cut n (place_after p c) next cs ≡ cut (n + m) (place_after p c) next cs = sym (skip-behind n (place_after p c) next cs) ∙ ap (λ i. cut i (place_after p c) next cs) (added-is n m) in (
+      size ∙ ap (λ i. size_of (take i cs)) (sym count),
+      ap (λ i. list_all stays_in_line (take i cs)) count ∙ in_line,
+      finds.2 ∙ (ap (joined us) skips ∙ ap (λ i. joined us (cut i (place_after p c) next cs)) (sym count)),
+    )
 
 -- the loop
 

@@ -1,10 +1,11 @@
 -- The sizes of fronts of a text.
-use Rattle.std.proofs.Common.{◌≡◌, ℕ, ◌+◌, ◌-◌, ◌≤◌, ◌<◌, Bool, true, false, cond, ◌&&◌, ◌==◌, nat_le, ltb, List, [], ◌∷◌, ◌++◌, length, take, drop, refl, sym, ap, ◌∙◌, arith, Option, Some, None, length-append, append_assoc, append-nil}
+use Rattle.std.proofs.Common.{◌≡◌, ℕ, ◌+◌, ◌-◌, ◌≤◌, ◌<◌, Bool, true, false, cond, ◌&&◌, ◌==◌, nat_le, ltb, List, [], ◌∷◌, ◌++◌, length, take, drop, refl, sym, ap, ◌∙◌, arith, Option, Some, None, length-append, append_assoc, append-nil, take-append-drop}
 use Rattle.std.specs.Str.{chars, IsUtf8}
 use Rattle.std.specs.List.{list_all, prefix_len}
 use Rattle.std.proofs.lemmas.List.{take_at, length_push, length-take-le}
+use Rattle.std.proofs.Math.Seq.{take-append-add}
 use Rattle.std.proofs.lemmas.List.Folds.{length-prefix_len, list_all-append}
-use Rattle.std.proofs.lemmas.Str.{encodes-append, encode_ascii, chars_past_char, IsUtf8-past_char, length-le-encodes}
+use Rattle.std.proofs.lemmas.Str.{encodes-append, encodes-chars, encode_ascii, chars_past_char, IsUtf8-past_char, length-le-encodes}
 use Rattle.std.proofs.lemmas.Bool.Decides.{nat_tests, Decides-ltb}
 use Rattle.cc_base.specs.Names.{first_passes}
 use Rattle.cc_lex.specs.declared.size.Size.{Size}
@@ -16,7 +17,7 @@ use Rattle.cc_lex.specs.declared.token.Symbol.{Symbol}
 use Rattle.cc_lex.specs.declared.token.Symbol.TheVariants as symbols
 use Rattle.cc_lex.specs.Forms.{symbol_text, stands_in_string}
 use Rattle.cc_lex.specs.Lexical.{byte_count}
-use Rattle.cc_lex.specs.Cutting.{Front, front_of, blank_of, pair_symbol, long_symbol, symbol_front, string_front, size_of, sized, sized_front, is_in, front_in, IsPastOne}
+use Rattle.cc_lex.specs.Cutting.{Front, front_of, blank_of, pair_symbol, long_symbol, symbol_front, string_front, size_of, sized, sized_front, is_in, is_space, front_in, IsPastOne}
 use Rattle.cc_lex.proofs.Booleans.{both_true}
 use Rattle.cc_lex.proofs.Constructors.{some_is, none_is_some}
 use Rattle.cc_lex.proofs.Prefixes.{prefix-exact}
@@ -87,6 +88,57 @@ read-all class text rest n w at past e =
     let all = ap length at.bytes in
     let bytes : w - length rest ≡ byte_count at.read = omega arith in
     rw (front, at.count, bytes) refl
+
+-- a front with the spaces behind it
+
+pub take-two : (n m : ℕ) (cs : List ℕ) → n ≤ length cs → take (n + m) cs ≡ take n cs ++ take m (drop n cs)
+take-two n m cs l =
+    ap (take (n + m)) (sym (take-append-drop n cs))
+    ∙ (ap (λ k. take (k + m) (take n cs ++ drop n cs)) (sym (length-take-le n cs l)) ∙ take-append-add (take n cs) (drop n cs) m)
+
+-- the size of the first n characters has them all
+pub size-within : (cs : List ℕ) (front : Size) → front ≡ size_of (take front.characters cs) → front.characters ≤ length cs
+size-within cs front e =
+    let count : front.characters ≡ length (take front.characters cs) = ap (λ s. s.characters) e in
+    let sizes = length-append (take front.characters cs) (drop front.characters cs) in
+    let all = ap length (take-append-drop front.characters cs) in
+    omega arith
+
+-- the sum of both sizes is one of a front of the text, and not beyond it
+pub record IsWithSpaces (after : List ℕ) (front spaces : Size) : Type 0 where
+  pub characters : front.characters + spaces.characters ≤ length after
+  pub bytes : front.bytes + spaces.bytes ≤ length after
+  pub size : record { characters = front.characters + spaces.characters; bytes = front.bytes + spaces.bytes }
+      ≡ size_of (take (front.characters + prefix_len is_space (drop front.characters (chars after))) (chars after))
+
+pub with-spaces :
+    (after : List ℕ) (front spaces : Size) → IsUtf8 after → front ≡ size_of (take front.characters (chars after))
+    → spaces ≡ size_of (front_in classes.Spaces (chars (drop front.bytes after))) → IsWithSpaces after front spaces
+with-spaces after front spaces u e h =
+    let cs = chars after in
+    let n = front.characters in
+    let ds = drop n cs in
+    let m = prefix_len is_space ds in
+    let at = behind-front after n front.bytes u (ap (λ s. s.bytes) e) in
+    let behind : spaces ≡ size_of (take m ds) = h ∙ ap (λ xs. size_of (front_in classes.Spaces xs)) at.behind in
+    let whole = take-two n m cs (size-within cs front e) in
+    let lengths = length-append (take n cs) (take m ds) in
+    let length_whole = ap length whole in
+    let front_count : n ≡ length (take n cs) = ap (λ s. s.characters) e in
+    let spaces_count : spaces.characters ≡ length (take m ds) = ap (λ s. s.characters) behind in
+    let front_bytes : front.bytes ≡ byte_count (take n cs) = ap (λ s. s.bytes) e in
+    let spaces_bytes : spaces.bytes ≡ byte_count (take m ds) = ap (λ s. s.bytes) behind in
+    let characters : n + spaces.characters ≡ length (take (n + m) cs) = omega arith in
+    let byte_parts : byte_count (take (n + m) cs) ≡ byte_count (take n cs) + byte_count (take m ds) = ap byte_count whole ∙ (ap length (encodes-append (take n cs) (take m ds)) ∙ length-append (encodes (take n cs)) (encodes (take m ds))) in
+    let bytes : front.bytes + spaces.bytes ≡ byte_count (take (n + m) cs) = omega arith in
+    let text_parts : byte_count cs ≡ byte_count (take (n + m) cs) + byte_count (drop (n + m) cs) = ap byte_count (sym (take-append-drop (n + m) cs)) ∙ (ap length (encodes-append (take (n + m) cs) (drop (n + m) cs)) ∙ length-append (encodes (take (n + m) cs)) (encodes (drop (n + m) cs))) in
+    let text_bytes : byte_count cs ≡ length after = ap length (encodes-chars after u) in
+    let few = length-le-encodes (take (n + m) cs) in
+    record {
+      characters = omega arith;
+      bytes = omega arith;
+      size = λ j. record { characters = characters j; bytes = bytes j };
+    }
 
 -- what is sized
 

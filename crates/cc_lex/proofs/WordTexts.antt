@@ -6,8 +6,10 @@ use Rattle.std.proofs.lemmas.Slice.Eq.{bytes_eq-Decides}
 use Rattle.std.proofs.lemmas.Bool.Decides.{same_from_decides, Decides-ltb, Decides-eqb}
 use Rattle.cc_lex.proofs.Booleans.{both, opposite, if_false}
 use Rattle.cc_lex.specs.declared.token.Word.{Word}
+use Rattle.cc_lex.specs.declared.token.Word.TheVariants as words
 use Rattle.cc_lex.specs.Forms.{word_text}
-use Rattle.cc_lex.specs.Cutting.{all_words, word_of}
+use Rattle.cc_lex.specs.Lexemes.{WordLexeme}
+use Rattle.cc_lex.specs.Cutting.{all_words, word_of, word_or_name}
 use lib.Utf8.{encodes}
 
 abbrev is_ascii_text : List ℕ → Bool
@@ -67,3 +69,70 @@ word_of-chars bs u = find-chars word_text all_words bs refl u
 
 pub word_of-length : (n : ℕ) (bs : List ℕ) (o : Option Word) → IsUtf8 bs → length bs ≡ n → o ≡ find (λ word. bytes_eq (word_text word) bs) (of_length word_text n all_words) → o ≡ word_of (chars bs)
 word_of-length n bs o u l e = e ∙ (find-of_length word_text all_words bs n l ∙ word_of-chars bs u)
+
+-- a word is the one with its letters
+
+ascii-word : (w : Word) → is_ascii_text (word_text w) ≡ true
+ascii-word words.Import = refl
+ascii-word words.Def = refl
+ascii-word words.Rec = refl
+ascii-word words.Fun = refl
+ascii-word words.Val = refl
+ascii-word words.If = refl
+ascii-word words.Then = refl
+ascii-word words.Else = refl
+ascii-word words.Box = refl
+ascii-word words.Unbox = refl
+ascii-word words.Boundary = refl
+ascii-word words.Exit = refl
+ascii-word words.Repeat = refl
+ascii-word words.True = refl
+ascii-word words.False = refl
+ascii-word words.Unit = refl
+ascii-word words.Cap = refl
+ascii-word words.UnitType = refl
+ascii-word words.BoolType = refl
+ascii-word words.IntType = refl
+ascii-word words.StrType = refl
+ascii-word words.AnyType = refl
+ascii-word words.ConsoleType = refl
+ascii-word words.FileType = refl
+ascii-word words.CounterType = refl
+ascii-word words.ExitType = refl
+ascii-word words.BoxType = refl
+
+word_of-text : (w : Word) → word_of (word_text w) ≡ Some w
+unfolding word_of
+word_of-text words.Import = refl
+word_of-text words.Def = refl
+word_of-text words.Rec = refl
+word_of-text words.Fun = refl
+word_of-text words.Val = refl
+word_of-text words.If = refl
+word_of-text words.Then = refl
+word_of-text words.Else = refl
+word_of-text words.Box = refl
+word_of-text words.Unbox = refl
+word_of-text words.Boundary = refl
+word_of-text words.Exit = refl
+word_of-text words.Repeat = refl
+word_of-text words.True = refl
+word_of-text words.False = refl
+word_of-text words.Unit = refl
+word_of-text words.Cap = refl
+word_of-text words.UnitType = refl
+word_of-text words.BoolType = refl
+word_of-text words.IntType = refl
+word_of-text words.StrType = refl
+word_of-text words.AnyType = refl
+word_of-text words.ConsoleType = refl
+word_of-text words.FileType = refl
+word_of-text words.CounterType = refl
+word_of-text words.ExitType = refl
+word_of-text words.BoxType = refl
+
+pub word-spelled : (w : Word) (bs : List ℕ) → bytes_eq (word_text w) bs ≡ true → WordLexeme w ≡ word_or_name (chars bs) (word_of (chars bs))
+word-spelled w bs h =
+    let same : word_text w ≡ bs = (bytes_eq-Decides (word_text w) bs).0 h in
+    let plain : chars bs ≡ word_text w = ap chars (sym same) ∙ chars-IsAscii (word_text w) (IsAscii-text (word_text w) (ascii-word w)) in
+    rw (plain, word_of-text w) refl

@@ -8,7 +8,7 @@ use Rattle.cc_base.specs.Names.{first_passes, reserved_words, is_reserved, spell
 use Rattle.cc_lex.specs.declared.token.Word.{Word}
 use Rattle.cc_lex.specs.Forms.{word_text, IsWord}
 use Rattle.cc_lex.specs.Cutting.{all_words, word_of}
-use Rattle.cc_lex.proofs.Booleans.{both_true, opposite}
+use Rattle.cc_lex.proofs.Booleans.{both, both_true, neither, not_true, opposite}
 
 module _ {W : Type 0} (text_of : W → List ℕ) where
   choice-none : (w : W) (o : Option W) (b : Bool) → cond b (Some w) o ≡ None → (b ≡ false) × (o ≡ None)
@@ -53,3 +53,17 @@ name_of-none cs h k =
 pub refused_name : (cs : List ℕ) (o : Option Word) → o ≡ word_of cs → ((word : Word) → o ≡ Some word → ⊥) → IsWord cs → spells_name cs ≡ false → ⊥
 refused_name cs None e none h k = opposite (spells_name cs) (name_of-none cs h (sym e)) k
 refused_name cs (Some word) e none h k = none word refl
+
+module _ {W : Type 0} (text_of : W → List ℕ) where
+  none-found : (ws : List W) (cs : List ℕ) → list_any (λ w. bytes_eq w cs) (map text_of ws) ≡ false → find (λ w. bytes_eq (text_of w) cs) ws ≡ None
+  none-found [] cs h = refl
+  none-found (w ∷ ws) cs h =
+      let parts = neither (bytes_eq (text_of w) cs) (list_any (λ v. bytes_eq v cs) (map text_of ws)) h in
+      rw parts.0 (none-found ws cs parts.1)
+
+-- a name is no reserved word
+pub word_of-name : (cs : List ℕ) → IsName cs → word_of cs ≡ None
+unfolding word_of is_reserved reserved_words
+word_of-name cs h =
+    none-found word_text all_words cs
+    (not_true (is_reserved cs) (both (first_passes is_xid_start cs && list_all is_xid_continue cs) (not (is_reserved cs)) h).1)

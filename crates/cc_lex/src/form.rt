@@ -4,7 +4,7 @@ ghost use Rattle.unicode_ident.specs.Ident.{is_xid_start};
 ghost use Rattle.cc_lex.specs.Lexical.{is_white};
 ghost use Rattle.cc_lex.specs.Cutting.{short_symbol, pair_symbol, long_symbol, symbol_front, string_front, front_of, blank_of, sized, sized_front};
 
-use crate::size::{Class, Size, begins_with, size_in};
+use crate::size::{Class, Size, begins_with, first_and_rest, size_in};
 use crate::token::Symbol;
 
 /// What a token is cut from, before it is asked which token it is.
@@ -119,8 +119,8 @@ fn pair_symbol(first: char, second: char) -> Option<Symbol>
 fn long_symbol(first: char, after: &str) -> Option<Symbol>
     ensures { result ≡ long_symbol first (chars after.now) }
 {
-    match after.chars().next() {
-        Some(second) => pair_symbol(first, second),
+    match first_and_rest(after) {
+        Some((second, _)) => pair_symbol(first, second),
         None => None,
     }
 }

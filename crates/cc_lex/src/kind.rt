@@ -1,5 +1,6 @@
-ghost use Rattle.std.specs.Prelude.{◌≡◌, IfOk};
+ghost use Rattle.std.specs.Prelude.{◌≡◌, false, IfOk, Some};
 ghost use Rattle.std.specs.Str.{chars};
+ghost use Rattle.cc_base.specs.Names.{spells_name};
 ghost use Rattle.cc_lex.specs.declared.form.Form.TheVariants as forms;
 ghost use Rattle.cc_lex.specs.Lexemes.{lexeme_of, TextLexeme};
 ghost use Rattle.cc_lex.specs.Forms.{IsDigits, IsWord, IsOfForm};
@@ -8,7 +9,7 @@ ghost use Rattle.cc_lex.specs.Cutting.{number_of, inside, word_of, word_or_name,
 use crate::error::LexError;
 use crate::form::Form;
 use crate::known::Known;
-use crate::token::TokenKind;
+use crate::token::{TokenKind, Word};
 use crate::words::word_of;
 use cc_base::code::{Code, Diag};
 use cc_base::name::{Name, NameError};
@@ -23,17 +24,27 @@ fn number_of(text: &str) -> Option<i64>
     text.parse::<i64>().ok()
 }
 
+// The reserved word that these letters are, which are no name.
+fn reserved_word(text: &str) -> Word
+    requires word { IsWord (chars text.now) }
+    requires refused { spells_name (chars text.now) ≡ false }
+    ensures { Some result ≡ word_of (chars text.now) }
+{
+    match word_of(text) {
+        Some(word) => word,
+        None => unreachable!(),
+    }
+}
+
+// Names are sought first, since there are more of them.
 fn word_kind(alloc: Global, text: &str) -> Result<TokenKind, AllocError>
     requires { IsWord (chars text.now) }
     ensures { IfOk result (λ kind. lexeme_of kind ≡ word_or_name (chars text.now) (word_of (chars text.now))) }
 {
-    if let Some(word) = word_of(text) {
-        return Ok(TokenKind::Word(word));
-    }
     match Name::read(alloc, text) {
         Ok(name) => Ok(TokenKind::Name(name)),
         Err(NameError::NoMemory) => Err(AllocError),
-        Err(NameError::NotAName) => unreachable!(),
+        Err(NameError::NotAName) => Ok(TokenKind::Word(reserved_word(text))),
     }
 }
 
@@ -71,7 +82,7 @@ fn known_kind(alloc: Global, text: &str, known: &mut Known) -> Result<TokenKind,
         return Ok(kind);
     }
     let kind = word_kind(alloc, text)?;
-    known.remember(alloc, text, &kind)?;
+    known.remember(text, &kind)?;
     Ok(kind)
 }
 

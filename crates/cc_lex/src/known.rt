@@ -1,45 +1,38 @@
 //! What words and names of a text were read as, so that one that comes again is not read again.
 
-ghost use Rattle.std.specs.Prelude.{◌≡◌, IfOk, IfSome};
-ghost use Rattle.std.specs.Rc.{rc_str_bytes};
+ghost use Rattle.std.specs.Prelude.{◌≡◌, IfOk, IfSome, None};
 ghost use Rattle.std.specs.Str.{chars};
 ghost use Rattle.cc_lex.specs.Lexemes.{lexeme_of};
 ghost use Rattle.cc_lex.specs.Cutting.{word_of, word_or_name};
 
-use crate::token::TokenKind;
+use crate::token::{TokenKind, Word};
+use crate::words::word_text;
+use cc_base::name::Name;
 use std::alloc::{AllocError, Global};
-use std::rc::RcStr;
 
 // So many are remembered at most, and one for so many bytes of a text.
 const GREATEST_COUNT: usize = 256;
 
 const BYTES_EACH: usize = 16;
 
-// The letters of a word or a name, with what they are.
+// A name, which is no reserved word.
 #[derive(Drop)]
-struct Spelling {
-    letters: RcStr,
-    kind: TokenKind,
-    ghost is: { lexeme_of kind ≡ word_or_name (chars (rc_str_bytes letters)) (word_of (chars (rc_str_bytes letters))) },
+struct KnownName {
+    name: Name,
+    ghost is: { word_of name ≡ None },
+}
+
+// A word or a name that was read.
+#[derive(Drop)]
+enum Spelling {
+    Word(Word),
+    Name(KnownName),
 }
 
 /// Words and names of a text that were read. Letters have one place, which others may take from them.
 #[derive(Drop)]
 pub struct Known {
     places: Vec<Option<Spelling>>,
-}
-
-// The same kind. Texts are shared.
-fn shared(kind: &TokenKind) -> Result<TokenKind, AllocError>
-    ensures { IfOk result (λ same. lexeme_of same ≡ lexeme_of kind.now) }
-{
-    match kind {
-        TokenKind::Name(name) => Ok(TokenKind::Name(name.clone()?)),
-        TokenKind::Number(number) => Ok(TokenKind::Number(*number)),
-        TokenKind::Text(text) => Ok(TokenKind::Text(text.clone()?)),
-        TokenKind::Word(word) => Ok(TokenKind::Word(*word)),
-        TokenKind::Symbol(symbol) => Ok(TokenKind::Symbol(*symbol)),
-    }
 }
 
 // The place of the letters among so many.
@@ -54,24 +47,55 @@ fn place_of(letters: &str, count: usize) -> usize {
     }
 }
 
-// What the letters are, where the spelling is theirs.
-fn kind_if_of(spelling: &Spelling, letters: &str) -> Result<Option<TokenKind>, AllocError>
+// The word, where it has these letters.
+fn word_if_of(word: Word, letters: &str) -> Option<TokenKind>
+    ensures { IfSome result (λ kind. lexeme_of kind ≡ word_or_name (chars letters.now) (word_of (chars letters.now))) }
+{
+    if word_text(word) == letters {
+        Some(TokenKind::Word(word))
+    } else {
+        None
+    }
+}
+
+// The name, where it has these letters. Its text is shared.
+fn name_if_of(known: &KnownName, letters: &str) -> Result<Option<TokenKind>, AllocError>
     ensures { IfOk result (λ k. IfSome k (λ kind. lexeme_of kind ≡ word_or_name (chars letters.now) (word_of (chars letters.now)))) }
 {
-    if spelling.letters.as_str() == letters {
-        Ok(Some(shared(&spelling.kind)?))
+    if known.name.as_str() == letters {
+        Ok(Some(TokenKind::Name(known.name.clone()?)))
     } else {
         Ok(None)
     }
 }
 
-// The letters with what they are.
-fn spelling_of(alloc: Global, letters: &str, kind: &TokenKind) -> Result<Spelling, AllocError>
+// What the letters are, where the spelling is theirs.
+fn kind_if_of(spelling: &Spelling, letters: &str) -> Result<Option<TokenKind>, AllocError>
+    ensures { IfOk result (λ k. IfSome k (λ kind. lexeme_of kind ≡ word_or_name (chars letters.now) (word_of (chars letters.now)))) }
+{
+    match spelling {
+        Spelling::Word(word) => Ok(word_if_of(*word, letters)),
+        Spelling::Name(known) => name_if_of(known, letters),
+    }
+}
+
+// The name, to be remembered. Its text is shared.
+fn known_name(name: &Name) -> Result<KnownName, AllocError>
+    requires { word_of name.now ≡ None }
+{
+    let name = name.clone()?;
+    Ok(KnownName { name })
+}
+
+// The spelling of a kind with these letters, if it is a word or a name.
+fn spelling_of(letters: &str, kind: &TokenKind) -> Result<Option<Spelling>, AllocError>
     requires { lexeme_of kind.now ≡ word_or_name (chars letters.now) (word_of (chars letters.now)) }
 {
-    let kind = shared(kind)?;
-    let letters = RcStr::from_str(alloc, letters)?;
-    Ok(Spelling { letters, kind })
+    match kind {
+        TokenKind::Word(word) => Ok(Some(Spelling::Word(*word))),
+        TokenKind::Name(name) => Ok(Some(Spelling::Name(known_name(name)?))),
+        TokenKind::Number(_) | TokenKind::Text(_) | TokenKind::Symbol(_) => Ok(None),
+    }
 }
 
 impl Known {
@@ -96,17 +120,12 @@ impl Known {
     }
 
     /// Remembers what the letters are. Fails only for want of memory.
-    pub fn remember(
-        &mut self,
-        alloc: Global,
-        letters: &str,
-        kind: &TokenKind,
-    ) -> Result<(), AllocError>
+    pub fn remember(&mut self, letters: &str, kind: &TokenKind) -> Result<(), AllocError>
         requires { lexeme_of kind.now ≡ word_or_name (chars letters.now) (word_of (chars letters.now)) }
     {
         let place = place_of(letters, self.places.len());
         if place < self.places.len() {
-            self.places[place] = Some(spelling_of(alloc, letters, kind)?);
+            self.places[place] = spelling_of(letters, kind)?;
         }
         Ok(())
     }

@@ -1,8 +1,9 @@
-ghost use Rattle.std.specs.Prelude.{◌≡◌, ◌+◌, ◌++◌, take, length, map, IfOk, encode_utf8};
+ghost use Rattle.std.specs.Prelude.{◌≡◌, ◌+◌, ◌++◌, take, drop, length, map, IfOk, encode_utf8};
+ghost use Rattle.std.specs.List.{prefix_len};
 ghost use Rattle.std.specs.Str.{chars};
 ghost use Rattle.std.specs.Str.Lossy.{utf8_valid_len};
 ghost use Rattle.cc_lex.specs.Lexical.{place_after, place_past, start, spanned_of, Lexes};
-ghost use Rattle.cc_lex.specs.Cutting.{token_of, spanned_front, size_of, columns_past, Finds, FindsFront, Gives, cut};
+ghost use Rattle.cc_lex.specs.Cutting.{token_of, spanned_front, size_of, columns_past, is_space, Finds, FindsFront, Gives, cut};
 
 use crate::error::LexError;
 use crate::form::{blank_of, front_of, is_white};
@@ -13,6 +14,9 @@ use crate::token::{Token, Tokens};
 use cc_base::code::{Code, Diag};
 use cc_base::place::Place;
 use std::alloc::{AllocError, Global};
+
+// Texts have more bytes than this for each token, mostly.
+const BYTES_A_TOKEN: usize = 3;
 
 fn next_place(place: Place, character: char) -> Result<Place, AllocError>
     ensures { IfOk result (λ next. next ≡ place_after place character) }
@@ -88,6 +92,18 @@ fn token_of(
     }
 }
 
+// The size of the front with the white space behind it that does not end the line.
+fn with_spaces(after: &str, front: Size) -> Size
+    requires { front ≡ size_of (take front.characters (chars after.now)) }
+    ensures { result ≡ size_of (take (front.characters + prefix_len is_space (drop front.characters (chars after.now))) (chars after.now)) }
+{
+    let spaces = size_in(Class::Spaces, &after[front.bytes..]);
+    Size {
+        characters: front.characters + spaces.characters,
+        bytes: front.bytes + spaces.bytes,
+    }
+}
+
 // Finds what begins with the first character, and adds its token, if it is one. The size of what more belongs to it.
 fn find_front(
     alloc: Global,
@@ -112,7 +128,7 @@ fn find_front(
         Ok(front) => {
             let (token, more) = front;
             tokens.push(token)?;
-            Ok(more)
+            Ok(with_spaces(after, more))
         }
         Err(error) => Err(error),
     }
@@ -122,7 +138,7 @@ fn cut(alloc: Global, text: &str) -> Result<Tokens, LexError>
     ensures found { Gives result (cut 0 start 0 (chars text.now)) }
     ensures end { IfOk result (λ tokens. tokens.end ≡ place_past start (chars text.now)) }
 {
-    let mut tokens = Vec::new(alloc);
+    let mut tokens = Vec::with_capacity(alloc, text.len() / BYTES_A_TOKEN)?;
     let mut known = Known::new(alloc, text.len())?;
     let mut place = Place { line: 1, col: 1 };
     let mut offset: u32 = 0;

@@ -29,9 +29,9 @@ pub enum Class {
     Spaces,
 }
 
-/// The first character of a text, and what follows it.
-#[inline]
-pub fn first_and_rest(text: &str) -> Option<(char, &str)>
+// The same, whichever the first character is.
+#[inline(never)]
+fn decoded(text: &str) -> Option<(char, &str)>
     ensures { MatchOption result (length text.now ≡ 0) (λ it. text.now ≡ encode_utf8 it.0 ++ it.1.now) }
 {
     let mut characters = text.chars();
@@ -41,13 +41,30 @@ pub fn first_and_rest(text: &str) -> Option<(char, &str)>
     }
 }
 
+/// The first character of a text, and what follows it.
+#[inline]
+pub fn first_and_rest(text: &str) -> Option<(char, &str)>
+    ensures { MatchOption result (length text.now ≡ 0) (λ it. text.now ≡ encode_utf8 it.0 ++ it.1.now) }
+{
+    match text.as_bytes() {
+        [] => None,
+        [byte, ..] => {
+            if byte.is_ascii() {
+                Some((*byte as char, &text[1..]))
+            } else {
+                decoded(text)
+            }
+        }
+    }
+}
+
 /// Whether the text begins with the character.
 #[inline]
 pub fn begins_with(text: &str, character: char) -> bool
     ensures { result ≡ first_passes (λ c. c == character) (chars text.now) }
 {
-    match text.chars().next() {
-        Some(first) => first == character,
+    match first_and_rest(text) {
+        Some((first, _)) => first == character,
         None => false,
     }
 }

@@ -35,7 +35,8 @@ const WORDS: [Word; 27] = [
     Word::BoxType,
 ];
 
-fn word_text(word: Word) -> &'static str
+/// The letters of the word.
+pub fn word_text(word: Word) -> &'static str
     ensures { result.now ≡ word_text word }
 {
     match word {

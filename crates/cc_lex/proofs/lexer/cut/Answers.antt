@@ -4,7 +4,7 @@ use Rattle.cc_lex.proofs.CuttingSteps.{begins, step, smaller, behind-more, gives
 use Rattle.cc_lex.proofs.lexer.cut.Goals as goal
 
 pub loop-first-init : goal.loop-first-init
-loop-first-init c = begins c.args.text.now _ c.utf8.text (ap (map spanned_of) c.new-tokens.ensures.items)
+loop-first-init c = begins c.args.text.now _ c.utf8.text (ap (map spanned_of) c.in_ok-tokens.ensures.items)
 
 pub returns-in-Err-clause-found : goal.returns-in-Err-clause-found
 returns-in-Err-clause-found c =
