@@ -81,6 +81,16 @@ def derived(levels):
     return measured('capc 1\nput m 1\ndef main = fun (x: Int) => %s\nderive m.main\n' % text, ': (_0: Int) -> Int')
 
 
+def refused(count):
+    """A derivation by a chain of so many type parameters, of whose nodes there are more than twice as many with each."""
+    text = 'def f=fun(c:Console^{cap})=>fun[X0<:(z:Int)->Int]=>fun[Y0<:Int]=>'
+    for k in range(1, count + 1):
+        text += 'fun[X%d<:(p:(a:X%d)->(b:X%d)->Int)->Int]=>' % (k, k - 1, k - 1)
+        text += 'fun[Y%d<:(a:(z:Y%d)->Int)->(b:(z:Y%d)->Int)->Int]=>' % (k, k - 1, k - 1)
+    text += 'fun(x:X%d)=>val r:(z:Y%d)->Int=x;unit' % (count, count)
+    return measured('capc 1\nput m 1\n%s\nderive m.f\n' % text, 'refused E36')
+
+
 hosted = ('capc 1\n%sput m 1\ndef main = fun (u: Unit) => %s\npolicy 256\n%sallow * *\n'
           % (''.join('device d%d counter\n' % k for k in range(16)),
              ''.join('val n%d = d%d.tick(); ' % (k, k) for k in range(16)) + 'unit', 'deny m2 d20\n' * 255))
@@ -102,6 +112,7 @@ shown('a million steps that print all along', run_of(166000, 'out.print(i)', 498
 shown('eight tasks with fuel 1,000,000', tasks_of(60000, 500000), tasks_of(60000, 1000000), 200)
 shown('1,000 runs of 1,000 steps of 40 modules', many_runs(500), many_runs(1000), 500)
 shown('a derivation of 57,330 nodes', derived(11), derived(12), 200)
+shown('a derivation of more than 2^46 nodes', refused(22), refused(45), 150)
 shown('1,400 policies of 256 rules, audits and guards', policies(700), policies(1400), 800)
 shown('320,000 audits of 16 devices by 256 rules', audits(160000), audits(320000), 12000)
 base = measured(wide(128), ' ok')[0], measured(wide(256), ' ok')[0]

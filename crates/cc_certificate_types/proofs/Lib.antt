@@ -1,3 +1,4 @@
+pub mod GatheredSets
 pub mod Positions
 pub mod Rooms
 pub mod WordTurns

@@ -17,6 +17,7 @@ ghost use Rattle.cc_certificate_text.specs.Reading.{
   some_set_at,
   set_at,
 };
+ghost use Rattle.cc_capture.specs.Sets.{from_list};
 ghost use Rattle.cc_capture.specs.declared.var.Elem.TheVariants as elems;
 ghost use Rattle.cc_certificate_types.specs.Agreement.{Agrees};
 ghost use Rattle.cc_certificate_types.specs.Numberings.{locals_of, follows};
@@ -231,6 +232,19 @@ fn stand_in_order(locals: Locals, elems: &[Elem]) -> bool
     true
 }
 
+// The set of the elements, put into it from the last one on. In the text of a set the numbers of local variables rise,
+// and in the order of elements their indices fall: so each of them stands behind those that are in the set already.
+fn gathered(alloc: Global, elems: Vec<Elem>) -> Result<CapSet, AllocError>
+    ensures { IfOk result (λ set. set ≡ from_list elems.items) }
+{
+    let mut left = elems;
+    let mut set = CapSet::new(alloc);
+    while let Some(elem) = left.pop() {
+        set.insert(elem)?;
+    }
+    Ok(set)
+}
+
 // The set of what stands between the braces.
 #[tactic(auto, unfolding(cc_certificate_text::specs::Reading::set_of))]
 fn set_of(
@@ -251,7 +265,7 @@ fn set_of(
     if !stand_in_order(locals, elems.as_slice()) {
         return Ok(None);
     }
-    let set = CapSet::from_elems(alloc, elems.as_slice())?;
+    let set = gathered(alloc, elems)?;
     Ok(Some(set))
 }
 

@@ -1,5 +1,5 @@
 -- What is made of the derivation of an accepted definition is made of the canonical one, which is valid.
-use Rattle.std.proofs.Common.{◌≡◌, ℕ, ◌+◌, ◌≤◌, Bool, sym, subst, arith}
+use Rattle.std.proofs.Common.{◌≡◌, ℕ, ◌+◌, ◌≤◌, sym, subst, arith}
 use Rattle.cc_core.specs.Contexts.{Context}
 use Rattle.cc_core.specs.Derivations.{OfType, Derivation, IsValidTyping, Concludes}
 use Rattle.cc_core.specs.Views.{type_of, note_of, term_of}
@@ -8,8 +8,6 @@ use Rattle.cc_sets.specs.CanonicalDerivations.{shape_derived, definition_derived
 use Rattle.cc_sets.specs.Verdicts.{Accepted}
 use Rattle.cc_meta_checking.proofs.DerivedDefinitions.{definitions_valid}
 use Rattle.cc_meta_derivation.proofs.StayingDefinitions.{definitions_stay}
-use Rattle.cc_derive_subtyping.specs.declared.trees.Tree.{Tree}
-use Rattle.cc_derive_subtyping.specs.Trees.{IsTree}
 use Rattle.cc_derive.specs.Accepting.{IsAcceptedIn, checked_derived}
 
 -- what is accepted
@@ -17,14 +15,14 @@ abbrev accepted_of : Checked → Accepted
 accepted_of checked =
     record { note = note_of checked.note; filled = term_of checked.filled.value; type = type_of checked.ty; signature = type_of checked.sig }
 
-pub accepted_tree : (build : Bool) (tree : Tree) (g : Context) (checked : Checked) → IsAcceptedIn g checked
-    → ((m : ℕ) → 4294967295 ≤ m → IsTree build tree (definition_derived (shape_derived m) g (note_of checked.note) (term_of checked.filled.value) (type_of checked.sig)))
-    → IsTree build tree (checked_derived g checked)
-accepted_tree build tree g checked a made =
+pub accepted_made : (Made : Derivation → Type 0) (g : Context) (checked : Checked) → IsAcceptedIn g checked
+    → ((m : ℕ) → 4294967295 ≤ m → Made (definition_derived (shape_derived m) g (note_of checked.note) (term_of checked.filled.value) (type_of checked.sig)))
+    → Made (checked_derived g checked)
+accepted_made Made g checked a made =
     let s = definitions_stay a.devices a.globals a.definition (accepted_of checked) a.fits a.accepted in
     let m : ℕ = s.0 + 4294967295 in
     let is = subst (λ (h : Context). definition_derived (shape_derived m) h (note_of checked.note) (term_of checked.filled.value) (type_of checked.sig) ≡ checked_derived h checked) (sym a.is) (s.1 m (omega arith)) in
-    subst (λ (d : Derivation). IsTree build tree d) is (made m (omega arith))
+    subst Made is (made m (omega arith))
 
 pub accepted_valid : (g : Context) (checked : Checked) (d : Derivation) → IsAcceptedIn g checked → d ≡ checked_derived g checked
     → IsValidTyping g (term_of checked.filled.value) d × Concludes d (OfType (type_of checked.sig))

@@ -1,5 +1,5 @@
 -- What is made of terms with parts.
-use Rattle.std.proofs.Common.{◌≡◌, Bool, ◌∷◌, ap, ◌∙◌, subst}
+use Rattle.std.proofs.Common.{◌≡◌, ◌∷◌, ap, ◌∙◌, subst}
 use Rattle.cc_capture.specs.Sets.{Set}
 use Rattle.cc_core.specs.Captured.{captured_variables}
 use Rattle.cc_core.specs.Contexts.{TypeEntry, Context, entry_of}
@@ -11,8 +11,9 @@ use Rattle.cc_sets.specs.CanonicalDerivations.{Deriving, typed, noted_derived, l
 use Rattle.cc_sets.specs.Inference.{shape_in, type_in, exit_entry}
 use Rattle.cc_derive.specs.declared.nodes.Typing.{Typing}
 use Rattle.cc_derive.specs.Typings.{IsTyping, function_over, type_function_over}
+use Rattle.cc_derive_subtyping.specs.declared.trees.Making.{Making}
 
-pub function_term : (build : Bool) (derive : Deriving) (x part : Typing) (g inner : Context) (takes read : CapturingType) (body : Term) (captured : Set)
+pub function_term : (build : Making) (derive : Deriving) (x part : Typing) (g inner : Context) (takes read : CapturingType) (body : Term) (captured : Set)
     → inner ≡ entry_of read ∷ g → read ≡ type_in g takes → captured ≡ captured_variables (FunctionTerm takes.shape takes.set body)
     → IsTyping build part (term_derived derive inner body)
     → ((d : Derivation) → IsTyping build part d → IsTyping build x (function_over g read captured d))
@@ -24,7 +25,7 @@ function_term build derive x part g inner takes read body captured is e f p h =
     subst (λ (c : Set). IsTyping build x (function_over g (type_in g takes) c d)) f
     (subst (λ (t : CapturingType). IsTyping build x (function_over g t captured d)) e (h d p'))
 
-pub type_function_term : (build : Bool) (derive : Deriving) (x part : Typing) (g inner : Context) (bound read : Shape) (body : Term) (captured : Set)
+pub type_function_term : (build : Making) (derive : Deriving) (x part : Typing) (g inner : Context) (bound read : Shape) (body : Term) (captured : Set)
     → inner ≡ TypeEntry read ∷ g → read ≡ shape_in g bound → captured ≡ captured_variables (TypeFunctionTerm bound body)
     → IsTyping build part (term_derived derive inner body)
     → ((d : Derivation) → IsTyping build part d → IsTyping build x (type_function_over g read captured d))
@@ -36,7 +37,7 @@ type_function_term build derive x part g inner bound read body captured is e f p
     subst (λ (c : Set). IsTyping build x (type_function_over g (shape_in g bound) c d)) f
     (subst (λ (s : Shape). IsTyping build x (type_function_over g s captured d)) e (h d p'))
 
-pub let_term : (build : Bool) (derive : Deriving) (x found named part : Typing) (g inner : Context) (note : Note) (right body : Term)
+pub let_term : (build : Making) (derive : Deriving) (x found named part : Typing) (g inner : Context) (note : Note) (right body : Term)
     → IsTyping build found (term_derived derive g right)
     → ((d : Derivation) → IsTyping build found d → IsTyping build named (noted_derived derive g note d))
     → inner ≡ entry_of (type_of named.ty) ∷ g
@@ -49,7 +50,7 @@ let_term build derive x found named part g inner note right body p n is q h =
     let under : inner ≡ entry_of (typed d) ∷ g = is ∙ ap (λ (t : CapturingType). entry_of t ∷ g) p'.gives in
     h d (term_derived derive (entry_of (typed d) ∷ g) body) p' (subst (λ (h : Context). IsTyping build part (term_derived derive h body)) under q)
 
-pub boundary_term : (build : Bool) (derive : Deriving) (x part : Typing) (g inner : Context) (gives read : Shape) (body : Term)
+pub boundary_term : (build : Making) (derive : Deriving) (x part : Typing) (g inner : Context) (gives read : Shape) (body : Term)
     → inner ≡ exit_entry read ∷ g → read ≡ shape_in g gives → IsTyping build part (term_derived derive inner body)
     → ((d : Derivation) → IsTyping build part d → IsTyping build x (boundary_node derive g read d))
     → IsTyping build x (term_derived derive g (Boundary gives body))

@@ -1,5 +1,5 @@
 -- What the program makes of typing derivations, which serves proofs.
-use Rattle.std.specs.Prelude.{◌≡◌, Bool, length}
+use Rattle.std.specs.Prelude.{◌≡◌, length}
 use Rattle.cc_capture.specs.Sets.{Set}
 use Rattle.cc_core.specs.Contexts.{Context}
 use Rattle.cc_base.specs.declared.literal.Base.TheVariants as bases
@@ -10,13 +10,14 @@ use Rattle.cc_core.specs.Substitution.{closed, closed_set}
 use Rattle.cc_core.specs.Views.{type_of}
 use Rattle.cc_sets.specs.CanonicalDerivations.{Deriving, typed, raised, operand_derived}
 use Rattle.cc_sets.specs.Inference.{set_in}
-use Rattle.cc_derive_subtyping.specs.Trees.{IsTree}
+use Rattle.cc_derive_subtyping.specs.Trees.{IsMade}
 use Rattle.cc_derive.specs.declared.nodes.Typing.{Typing}
+use Rattle.cc_derive_subtyping.specs.declared.trees.Making.{Making}
 
 -- the derivation gives the type, and the tree is made of it
-pub record IsTyping (build : Bool) (typing : Typing) (derivation : Derivation) : Type 0 where
+pub record IsTyping (build : Making) (typing : Typing) (derivation : Derivation) : Type 0 where
   pub gives : type_of typing.ty ≡ typed derivation
-  pub made : IsTree build typing.tree derivation
+  pub made : IsMade build typing.tree derivation
 
 -- a function that takes this, over the derivation of its body, where it captures these
 abbrev pub function_over : Context → CapturingType → Set → Derivation → Derivation

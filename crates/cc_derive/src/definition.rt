@@ -1,12 +1,12 @@
 //! The canonical derivation of an accepted definition.
 
-ghost use Rattle.std.specs.Prelude.{◌≡◌, ◌-◌, ◌^◌, ℕ, ◌≤◌, min, IfOk};
+ghost use Rattle.std.specs.Prelude.{◌≡◌, ◌-◌, ◌^◌, ℕ, ◌≤◌, min, nat_lt, IfOk};
 ghost use Rattle.cc_core.specs.Derivations.{OfType, IsValidTyping, Concludes};
 ghost use Rattle.cc_core.specs.Views.{type_of, note_of, term_of, context_of};
 ghost use Rattle.cc_sets.specs.CanonicalDerivations.{definition_derived, shape_derived};
 ghost use Rattle.cc_sets.specs.DerivationSizes.{nodes};
 ghost use Rattle.cc_derivation.specs.Views.{der_of};
-ghost use Rattle.cc_derive_subtyping.specs.Trees.{IsTree};
+ghost use Rattle.cc_derive_subtyping.specs.Trees.{IsTree, IsMade};
 ghost use Rattle.cc_derive.specs.Accepting.{IsAcceptedIn, checked_derived};
 
 use crate::ends::noted;
@@ -14,9 +14,22 @@ use crate::nodes::{Typing, raise_if};
 use crate::terms::derive_term;
 use cc_core::{Checked, Ctx};
 use cc_derivation::Der;
-use cc_derive_subtyping::Tree;
+use cc_derive_subtyping::{Making, Tree};
 use std::alloc::{AllocError, Global};
 use std::rc::Rc;
+
+// The derivation of a filled right side as it stands in the context, made as it is to be.
+fn derive_as(alloc: Global, build: Making, ctx: &Ctx, checked: &Checked) -> Result<Tree, AllocError>
+    ensures { IfOk result (λ t. (m : ℕ) → 4294967295 ≤ m
+        → IsMade build t (definition_derived (shape_derived m) (context_of ctx.now) (note_of checked.now.note)
+        (term_of checked.now.filled.value) (type_of checked.now.sig))) }
+{
+    let found = derive_term(alloc, build, ctx, &checked.filled)?;
+    let named = noted(alloc, build, ctx, &checked.note, found)?;
+    let signed = raise_if(alloc, build, ctx, named, checked.sig.clone()?)?;
+    let Typing { ty: _, tree } = signed;
+    Ok(tree)
+}
 
 /// The derivation of a filled right side as it stands in the context, up to the type that others see, built or counted
 /// alone. Where the definition is accepted there, it is the canonical one. What does not match has a node that is no
@@ -33,10 +46,11 @@ pub fn derive_filled(
         → IsTree build t (definition_derived (shape_derived m) (context_of ctx.now) (note_of checked.now.note)
         (term_of checked.now.filled.value) (type_of checked.now.sig))) }
 {
-    let found = derive_term(alloc, build, ctx, &checked.filled)?;
-    let named = noted(alloc, build, ctx, &checked.note, found)?;
-    let signed = raise_if(alloc, build, ctx, named, checked.sig.clone()?)?;
-    let Typing { ty: _, tree } = signed;
+    let making = Making {
+        whole: build,
+        limit: u64::MAX,
+    };
+    let tree = derive_as(alloc, making, ctx, checked)?;
     Ok(tree)
 }
 
@@ -66,4 +80,26 @@ pub fn der_size(alloc: Global, ctx: &Ctx, checked: &Checked) -> Result<u64, Allo
 {
     let tree = derive_filled(alloc, false, ctx, checked)?;
     Ok(tree.nodes)
+}
+
+/// Whether that derivation has more nodes than so many. No derivation is built, and what would be shared is counted once
+/// for all its places. Of a comparison of functions that has more by what they take, no more is counted.
+///
+/// Fails only for want of memory, as which a comparison of more than 2^32 - 1 levels counts.
+pub fn has_more_nodes(
+    alloc: Global,
+    ctx: &Ctx,
+    checked: &Checked,
+    most: u32,
+) -> Result<bool, AllocError>
+    requires { IsAcceptedIn (context_of ctx.now) checked.now }
+    ensures { IfOk result (λ b. b ≡ nat_lt most (nodes (checked_derived (context_of ctx.now) checked.now))) }
+{
+    let most = u64::from(most);
+    let making = Making {
+        whole: false,
+        limit: most + 1,
+    };
+    let tree = derive_as(alloc, making, ctx, checked)?;
+    Ok(tree.nodes > most)
 }

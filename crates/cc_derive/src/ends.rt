@@ -20,6 +20,7 @@ use cc_capture::{CapSet, Var};
 use cc_core::substitution::close_type;
 use cc_core::{Ctx, Note, Shape, Ty};
 use cc_derivation::Rule;
+use cc_derive_subtyping::Making;
 use std::alloc::{AllocError, Global};
 use std::rc::Rc;
 
@@ -60,7 +61,7 @@ fn type_function_type(
 /// A function that takes this, over its body, which captures these outside of its binder.
 pub(crate) fn function_end(
     alloc: Global,
-    build: bool,
+    build: Making,
     ctx: &Ctx,
     takes: Ty,
     captured: &CapSet,
@@ -79,7 +80,7 @@ pub(crate) fn function_end(
 /// A type function of the bound, over its body, which captures these outside of its binder.
 pub(crate) fn type_function_end(
     alloc: Global,
-    build: bool,
+    build: Making,
     ctx: &Ctx,
     bound: Rc<Shape>,
     captured: &CapSet,
@@ -98,7 +99,7 @@ pub(crate) fn type_function_end(
 /// What is written for a type is what the type is widened to.
 pub(crate) fn noted(
     alloc: Global,
-    build: bool,
+    build: Making,
     ctx: &Ctx,
     note: &Note,
     part: Typing,
@@ -132,7 +133,7 @@ fn avoided(alloc: Global, ctx: &Ctx, named: &Ty, ty: &Ty) -> Result<Ty, AllocErr
 // The body of a let, widened where avoiding the variable changes its type.
 fn left_behind(
     alloc: Global,
-    build: bool,
+    build: Making,
     ctx: &Ctx,
     inner: &Ctx,
     named: &Ty,
@@ -149,7 +150,7 @@ fn left_behind(
 /// A let of what is named and the body.
 pub(crate) fn let_end(
     alloc: Global,
-    build: bool,
+    build: Making,
     ctx: &Ctx,
     inner: &Ctx,
     named: Typing,
@@ -170,7 +171,7 @@ pub(crate) fn let_end(
 // A choice of two branches, both widened to the type.
 fn choose(
     alloc: Global,
-    build: bool,
+    build: Making,
     ctx: &Ctx,
     test: Var,
     ty: Ty,
@@ -197,7 +198,7 @@ fn choose(
 /// A choice of two branches, by what is written for it.
 pub(crate) fn choice(
     alloc: Global,
-    build: bool,
+    build: Making,
     ctx: &Ctx,
     note: &Note,
     test: Var,
@@ -222,7 +223,7 @@ pub(crate) fn choice(
 /// A boundary that gives the shape, over its body.
 pub(crate) fn boundary_end(
     alloc: Global,
-    build: bool,
+    build: Making,
     ctx: &Ctx,
     inner: &Ctx,
     gives: Rc<Shape>,

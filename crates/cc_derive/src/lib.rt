@@ -10,4 +10,4 @@ mod rows;
 mod terms;
 mod variables;
 
-pub use definition::{der_size, derive, derive_filled};
+pub use definition::{der_size, derive, derive_filled, has_more_nodes};

@@ -4,7 +4,7 @@ ghost use Rattle.std.specs.Prelude.{◌≡◌, ℕ, ◌≤◌, IfOk};
 ghost use Rattle.cc_core.specs.Derivations.{Derivation, Node, NoPremise, one, two, three, OfType};
 ghost use Rattle.cc_core.specs.Views.{type_of, context_of};
 ghost use Rattle.cc_derivation.specs.Views.{rule_of};
-ghost use Rattle.cc_derive_subtyping.specs.Trees.{IsTree};
+ghost use Rattle.cc_derive_subtyping.specs.Trees.{IsMade};
 ghost use Rattle.cc_sets.specs.CanonicalDerivations as plain;
 ghost use Rattle.cc_derive.specs.Typings.{IsTyping};
 
@@ -14,7 +14,9 @@ use cc_core::same::same_type;
 use cc_core::{Ctx, Ty};
 use cc_derivation::Rule;
 use cc_derive_subtyping::derive_types;
-use cc_derive_subtyping::trees::{Tree, no_parts, one_part, three_parts, two_parts, typing_node};
+use cc_derive_subtyping::trees::{
+    Making, Tree, no_parts, one_part, three_parts, two_parts, typing_node,
+};
 use std::alloc::{AllocError, Global};
 
 /// What is made of a derivation that a term has a type, and the type.
@@ -25,7 +27,7 @@ pub(crate) struct Typing {
 }
 
 /// A node without premises.
-pub(crate) fn leaf(alloc: Global, build: bool, rule: Rule, ty: Ty) -> Result<Typing, AllocError>
+pub(crate) fn leaf(alloc: Global, build: Making, rule: Rule, ty: Ty) -> Result<Typing, AllocError>
     ensures { IfOk result (λ t. IsTyping build t (Node (rule_of rule) NoPremise (OfType (type_of ty)))) }
 {
     let tree = typing_node(alloc, rule, no_parts(alloc, build), &ty)?;
@@ -35,12 +37,12 @@ pub(crate) fn leaf(alloc: Global, build: bool, rule: Rule, ty: Ty) -> Result<Typ
 /// A node over one premise.
 pub(crate) fn over_one(
     alloc: Global,
-    build: bool,
+    build: Making,
     rule: Rule,
     first: Tree,
     ty: Ty,
 ) -> Result<Typing, AllocError>
-    ensures { IfOk result (λ t. (d : Derivation) → IsTree build first d
+    ensures { IfOk result (λ t. (d : Derivation) → IsMade build first d
         → IsTyping build t (Node (rule_of rule) (one d) (OfType (type_of ty)))) }
 {
     let parts = one_part(alloc, build, first)?;
@@ -51,13 +53,13 @@ pub(crate) fn over_one(
 /// A node over two premises.
 pub(crate) fn over_two(
     alloc: Global,
-    build: bool,
+    build: Making,
     rule: Rule,
     first: Tree,
     second: Tree,
     ty: Ty,
 ) -> Result<Typing, AllocError>
-    ensures { IfOk result (λ t. (d e : Derivation) → IsTree build first d → IsTree build second e
+    ensures { IfOk result (λ t. (d e : Derivation) → IsMade build first d → IsMade build second e
         → IsTyping build t (Node (rule_of rule) (two d e) (OfType (type_of ty)))) }
 {
     let parts = two_parts(alloc, build, first, second)?;
@@ -68,15 +70,15 @@ pub(crate) fn over_two(
 /// A node over three premises.
 pub(crate) fn over_three(
     alloc: Global,
-    build: bool,
+    build: Making,
     rule: Rule,
     first: Tree,
     second: Tree,
     third: Tree,
     ty: Ty,
 ) -> Result<Typing, AllocError>
-    ensures { IfOk result (λ t. (d e f : Derivation) → IsTree build first d → IsTree build second e
-        → IsTree build third f → IsTyping build t (Node (rule_of rule) (three d e f) (OfType (type_of ty)))) }
+    ensures { IfOk result (λ t. (d e f : Derivation) → IsMade build first d → IsMade build second e
+        → IsMade build third f → IsTyping build t (Node (rule_of rule) (three d e f) (OfType (type_of ty)))) }
 {
     let parts = three_parts(alloc, build, first, second, third)?;
     let tree = typing_node(alloc, rule, parts, &ty)?;
@@ -84,7 +86,7 @@ pub(crate) fn over_three(
 }
 
 /// What is made of a term that has no derivation.
-pub(crate) fn nothing(alloc: Global, build: bool) -> Result<Typing, AllocError>
+pub(crate) fn nothing(alloc: Global, build: Making) -> Result<Typing, AllocError>
     ensures { IfOk result (λ t. IsTyping build t plain.nothing_derived) }
 {
     let ty = base_type(alloc, Base::Unit)?;
@@ -94,7 +96,7 @@ pub(crate) fn nothing(alloc: Global, build: bool) -> Result<Typing, AllocError>
 /// The derivation of the term with its type widened.
 pub(crate) fn raise(
     alloc: Global,
-    build: bool,
+    build: Making,
     ctx: &Ctx,
     part: Typing,
     ty: Ty,
@@ -110,7 +112,7 @@ pub(crate) fn raise(
 /// The same where the type differs.
 pub(crate) fn raise_if(
     alloc: Global,
-    build: bool,
+    build: Making,
     ctx: &Ctx,
     part: Typing,
     ty: Ty,

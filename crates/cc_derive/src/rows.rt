@@ -12,7 +12,7 @@ ghost use Rattle.cc_core.specs.Views.{shape_of, type_of, context_of};
 ghost use Rattle.cc_sets.specs.CanonicalDerivations as plain;
 ghost use Rattle.cc_sets.specs.Exposing.{exposed};
 ghost use Rattle.cc_sets.specs.Inference.{base_type};
-ghost use Rattle.cc_derive_subtyping.specs.Trees.{IsTree};
+ghost use Rattle.cc_derive_subtyping.specs.Trees.{IsMade};
 ghost use Rattle.cc_derive.specs.Typings.{IsTyping};
 
 use crate::bases::{base_answered, base_given, base_taken, base_type, pure_type};
@@ -24,14 +24,14 @@ use cc_capture::{CapSet, Var};
 use cc_core::substitution::{subst_type, subst_var};
 use cc_core::{Ctx, Shape, Ty};
 use cc_derivation::Rule;
-use cc_derive_subtyping::{Tree, derive_shapes};
+use cc_derive_subtyping::{Making, Tree, derive_shapes};
 use std::alloc::{AllocError, Global};
 use std::rc::Rc;
 
 /// A box of a variable.
 pub(crate) fn boxed(
     alloc: Global,
-    build: bool,
+    build: Making,
     ctx: &Ctx,
     content: Var,
 ) -> Result<Typing, AllocError>
@@ -70,7 +70,7 @@ fn applied_to_shape(alloc: Global, gives: &Rc<Ty>, argument: &Rc<Shape>) -> Resu
 // An application of a function that takes and gives these.
 fn apply(
     alloc: Global,
-    build: bool,
+    build: Making,
     ctx: &Ctx,
     function: Var,
     argument: Var,
@@ -96,7 +96,7 @@ fn apply(
 /// A function applied to a variable.
 pub(crate) fn application(
     alloc: Global,
-    build: bool,
+    build: Making,
     ctx: &Ctx,
     function: Var,
     argument: Var,
@@ -113,7 +113,7 @@ pub(crate) fn application(
 // An application of a type function of this shape.
 fn apply_type(
     alloc: Global,
-    build: bool,
+    build: Making,
     ctx: &Ctx,
     function: Var,
     argument: &Rc<Shape>,
@@ -138,7 +138,7 @@ fn apply_type(
 /// A type function applied to a shape.
 pub(crate) fn type_application(
     alloc: Global,
-    build: bool,
+    build: Making,
     ctx: &Ctx,
     function: Var,
     argument: &Rc<Shape>,
@@ -171,7 +171,7 @@ fn box_of(alloc: Global, ty: &Ty) -> Result<Rc<Shape>, AllocError>
 // Opening a box of this shape under the set.
 fn unbox(
     alloc: Global,
-    build: bool,
+    build: Making,
     ctx: &Ctx,
     set: CapSet,
     content: Var,
@@ -195,7 +195,7 @@ fn unbox(
 /// The content of a box, opened under the set.
 pub(crate) fn unboxing(
     alloc: Global,
-    build: bool,
+    build: Making,
     ctx: &Ctx,
     set: CapSet,
     content: Var,
@@ -211,7 +211,7 @@ pub(crate) fn unboxing(
 /// An operator on two numbers.
 pub(crate) fn primitive(
     alloc: Global,
-    build: bool,
+    build: Making,
     ctx: &Ctx,
     operator: Operator,
     left: Var,
@@ -242,7 +242,7 @@ fn function_on_numbers(alloc: Global) -> Result<Rc<Shape>, AllocError>
 /// So many calls of a function on the numbers from 0.
 pub(crate) fn repetition(
     alloc: Global,
-    build: bool,
+    build: Making,
     ctx: &Ctx,
     count: Var,
     function: Var,
@@ -262,9 +262,9 @@ pub(crate) fn repetition(
 }
 
 // The receiver of an operation.
-fn receiver(alloc: Global, build: bool, ctx: &Ctx, receiver: Var) -> Result<Tree, AllocError>
+fn receiver(alloc: Global, build: Making, ctx: &Ctx, receiver: Var) -> Result<Tree, AllocError>
     ensures { IfOk result (λ t. (m : ℕ) → 4294967295 ≤ m
-        → IsTree build t (plain.head_derived (plain.shape_derived m) (context_of ctx.now) receiver)) }
+        → IsMade build t (plain.head_derived (plain.shape_derived m) (context_of ctx.now) receiver)) }
 {
     let shape = exposed_shape(alloc, ctx, receiver)?;
     head(alloc, build, ctx, receiver, &shape)
@@ -273,7 +273,7 @@ fn receiver(alloc: Global, build: bool, ctx: &Ctx, receiver: Var) -> Result<Tree
 // An operation with an argument of the base shape.
 fn operate_on(
     alloc: Global,
-    build: bool,
+    build: Making,
     ctx: &Ctx,
     operation: Op,
     device: Var,
@@ -293,7 +293,7 @@ fn operate_on(
 // An operation without an argument.
 fn operate_alone(
     alloc: Global,
-    build: bool,
+    build: Making,
     ctx: &Ctx,
     operation: Op,
     device: Var,
@@ -310,7 +310,7 @@ fn operate_alone(
 /// An operation of a device.
 pub(crate) fn operation(
     alloc: Global,
-    build: bool,
+    build: Making,
     ctx: &Ctx,
     operation: Op,
     device: Var,
@@ -335,7 +335,7 @@ pub(crate) fn operation(
 // Leaving the boundary of an exit of this shape.
 fn leave_through(
     alloc: Global,
-    build: bool,
+    build: Making,
     ctx: &Ctx,
     gives: Ty,
     exit: Var,
@@ -362,7 +362,7 @@ fn leave_through(
 /// Leaving the boundary of an exit with a value.
 pub(crate) fn leave(
     alloc: Global,
-    build: bool,
+    build: Making,
     ctx: &Ctx,
     gives: Ty,
     exit: Var,

@@ -23,11 +23,12 @@ use cc_capture::{CapSet, Var};
 use cc_core::captured::cv;
 use cc_core::{Ctx, Form, Node};
 use cc_derivation::Rule;
+use cc_derive_subtyping::Making;
 use std::alloc::{AllocError, Global};
 use std::rc::Rc;
 
 // A literal.
-fn literal(alloc: Global, build: bool, literal: &Lit) -> Result<Typing, AllocError>
+fn literal(alloc: Global, build: Making, literal: &Lit) -> Result<Typing, AllocError>
     ensures { IfOk result (λ t. IsTyping build t
         (derivations.Node derivations.t-lit derivations.NoPremise
         (derivations.OfType (base_type (typing.base_of (literal_of literal.now)))))) }
@@ -60,7 +61,7 @@ fn argument_in(ctx: &Ctx, argument: Option<Var>) -> Option<Var>
 #[cycle(terms)]
 pub(crate) fn derive_term(
     alloc: Global,
-    build: bool,
+    build: Making,
     ctx: &Ctx,
     node: &Rc<Node>,
 ) -> Result<Typing, AllocError>
@@ -73,7 +74,12 @@ pub(crate) fn derive_term(
 }
 
 #[cycle(terms)]
-fn derive_form(alloc: Global, build: bool, ctx: &Ctx, node: &Rc<Node>) -> Result<Typing, AllocError>
+fn derive_form(
+    alloc: Global,
+    build: Making,
+    ctx: &Ctx,
+    node: &Rc<Node>,
+) -> Result<Typing, AllocError>
     ensures { IfOk result (λ t. (m : ℕ) → 4294967295 ≤ m
         → IsTyping build t (plain.term_derived (plain.shape_derived m) (context_of ctx.now)
         (term_of node.now.value))) }

@@ -5,7 +5,7 @@ ghost use Rattle.cc_core.specs.Shapes.{BaseShape};
 ghost use Rattle.cc_core.specs.Views.{shape_of, type_of, context_of};
 ghost use Rattle.cc_sets.specs.CanonicalDerivations as plain;
 ghost use Rattle.cc_sets.specs.Exposing.{exposed};
-ghost use Rattle.cc_derive_subtyping.specs.Trees.{IsTree};
+ghost use Rattle.cc_derive_subtyping.specs.Trees.{IsMade};
 ghost use Rattle.cc_derive.specs.Typings.{IsTyping};
 
 use crate::bases::variable_set;
@@ -15,14 +15,14 @@ use cc_base::literal::Base;
 use cc_capture::Var;
 use cc_core::{Ctx, Shape, Ty};
 use cc_derivation::Rule;
-use cc_derive_subtyping::Tree;
+use cc_derive_subtyping::{Making, Tree};
 use std::alloc::{AllocError, Global};
 use std::rc::Rc;
 
 /// A variable.
 pub(crate) fn variable(
     alloc: Global,
-    build: bool,
+    build: Making,
     ctx: &Ctx,
     variable: Var,
 ) -> Result<Typing, AllocError>
@@ -36,14 +36,14 @@ pub(crate) fn variable(
 /// A head, whose shape is exposed to the shape.
 pub(crate) fn head(
     alloc: Global,
-    build: bool,
+    build: Making,
     ctx: &Ctx,
     head: Var,
     shape: &Rc<Shape>,
 ) -> Result<Tree, AllocError>
     requires { shape_of shape.now.value ≡ exposed (context_of ctx.now) (plain.shape_at (context_of ctx.now) head) }
     ensures { IfOk result (λ t. (m : ℕ) → 4294967295 ≤ m
-        → IsTree build t (plain.head_derived (plain.shape_derived m) (context_of ctx.now) head)) }
+        → IsMade build t (plain.head_derived (plain.shape_derived m) (context_of ctx.now) head)) }
 {
     let part = variable(alloc, build, ctx, head)?;
     let shape = shape.clone()?;
@@ -56,13 +56,13 @@ pub(crate) fn head(
 /// A variable that is compared with the type.
 pub(crate) fn given(
     alloc: Global,
-    build: bool,
+    build: Making,
     ctx: &Ctx,
     given: Var,
     ty: Ty,
 ) -> Result<Tree, AllocError>
     ensures { IfOk result (λ t. (m : ℕ) → 4294967295 ≤ m
-        → IsTree build t (plain.given_derived (plain.shape_derived m) (context_of ctx.now) given (type_of ty))) }
+        → IsMade build t (plain.given_derived (plain.shape_derived m) (context_of ctx.now) given (type_of ty))) }
 {
     let part = variable(alloc, build, ctx, given)?;
     let raised = raise(alloc, build, ctx, part, ty)?;
@@ -73,13 +73,13 @@ pub(crate) fn given(
 /// An operand of the shape.
 pub(crate) fn operand(
     alloc: Global,
-    build: bool,
+    build: Making,
     ctx: &Ctx,
     operand: Var,
     shape: Rc<Shape>,
 ) -> Result<Tree, AllocError>
     ensures { IfOk result (λ t. (m : ℕ) → 4294967295 ≤ m
-        → IsTree build t (plain.operand_derived (plain.shape_derived m) (context_of ctx.now) operand
+        → IsMade build t (plain.operand_derived (plain.shape_derived m) (context_of ctx.now) operand
         (shape_of shape.value))) }
 {
     let set = variable_set(alloc, operand)?;
@@ -89,13 +89,13 @@ pub(crate) fn operand(
 /// An operand of the base shape.
 pub(crate) fn base_operand(
     alloc: Global,
-    build: bool,
+    build: Making,
     ctx: &Ctx,
     variable: Var,
     base: Base,
 ) -> Result<Tree, AllocError>
     ensures { IfOk result (λ t. (m : ℕ) → 4294967295 ≤ m
-        → IsTree build t (plain.operand_derived (plain.shape_derived m) (context_of ctx.now) variable
+        → IsMade build t (plain.operand_derived (plain.shape_derived m) (context_of ctx.now) variable
         (BaseShape base))) }
 {
     let shape = Rc::new(alloc, Shape::Base(base))?;

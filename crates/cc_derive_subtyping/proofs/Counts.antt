@@ -5,7 +5,7 @@ use Rattle.cc_core.specs.Derivations.{Derivation, Premises, NoPremise, Premise}
 use Rattle.cc_capture.specs.declared.var.Elem.{Elem}
 use Rattle.cc_sets.specs.CanonicalDerivations.{premises_for}
 use Rattle.cc_sets.specs.DerivationSizes.{nodes, nodes_of}
-use Rattle.cc_derive_subtyping.specs.Trees.{listed_before, listed, capped}
+use Rattle.cc_derive_subtyping.specs.Trees.{listed_before, listed}
 
 -- one more at the end
 pub listed_before-append : (ds : List Derivation) (d : Derivation) (rest : Premises)
@@ -28,13 +28,6 @@ pub premises_for-listed : (derive : Elem → Derivation) (es : List Elem)
     → premises_for derive es ≡ listed (map derive es)
 premises_for-listed derive [] = refl
 premises_for-listed derive (e ∷ es) = ap (Premise (derive e)) (premises_for-listed derive es)
-
--- sums that stop at the greatest number
-pub capped_sum : (a b c d : ℕ) → a ≡ capped c → b ≡ capped d → capped (a + b) ≡ capped (c + d)
-capped_sum a b c d e f = omega arith
-
-pub capped_more : (a c : ℕ) → a ≡ capped c → capped (a + 1) ≡ capped (1 + c)
-capped_more a c e = omega arith
 
 -- the last one of a list is taken off it
 pub listed_before-popped : {X : Type 0} (xs ys : List X) (x : X) (f : X → Derivation) (rest : Premises) → xs ≡ ys ++ x ∷ []

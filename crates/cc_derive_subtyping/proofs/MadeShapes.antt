@@ -1,5 +1,5 @@
 -- Nodes over the comparisons of two shapes, by the forms of the shapes.
-use Rattle.std.proofs.Common.{◌≡◌, ℕ, zero, suc, ◌-◌, ◌≤◌, Bool, ◌∷◌, length, Some, refl, sym, ap, ◌∙◌, arith}
+use Rattle.std.proofs.Common.{◌≡◌, ℕ, zero, suc, ◌-◌, ◌≤◌, ◌∷◌, length, Some, refl, sym, ap, ◌∙◌, arith}
 use Rattle.cc_capture.specs.declared.var.Var.{Var}
 use Rattle.cc_core.specs.Contexts.{TypeEntry, Context, entry_of}
 use Rattle.cc_core.specs.Derivations.{ByTransitivity, ByTypeVariable, ByFunction, ByTypeFunction, ByBox, ShapeBelow, Derivation, Node, NoPremise, one, two}
@@ -8,7 +8,8 @@ use Rattle.cc_core.specs.Substitution.{opened_type}
 use Rattle.cc_sets.specs.CanonicalDerivations.{Deriving, type_derived, alike_derived, bound_derived, functions_derived, type_functions_derived, boxes_derived, shape_derived}
 use Rattle.cc_derive_subtyping.specs.declared.trees.Tree.{Tree}
 use Rattle.cc_derive_subtyping.specs.Steps.{step_derived}
-use Rattle.cc_derive_subtyping.specs.Trees.{IsTree}
+use Rattle.cc_derive_subtyping.specs.Trees.{IsMade}
+use Rattle.cc_derive_subtyping.specs.declared.trees.Making.{Making}
 
 pub functions_node : (derive : Deriving) (g : Context) (takes gives others other_gives : CapturingType) (l r : Shape)
     → l ≡ FunctionShape takes.shape takes.set gives.shape gives.set
@@ -37,9 +38,9 @@ variable_node derive g v bound l r e =
     λ i. Node ByTransitivity (two (Node ByTypeVariable NoPremise (ShapeBelow (e i) bound)) (derive g bound r)) (ShapeBelow (e i) r)
 
 -- one level
-pub level_entered : (build : Bool) (tree : Tree) (steps m : ℕ) (g : Context) (l r : Shape) → (steps ≡ 0 → ⊥) → steps ≤ m
-    → ((k : ℕ) → steps - 1 ≤ k → IsTree build tree (step_derived (shape_derived k) g l r))
-    → IsTree build tree (shape_derived m g l r)
+pub level_entered : (build : Making) (tree : Tree) (steps m : ℕ) (g : Context) (l r : Shape) → (steps ≡ 0 → ⊥) → steps ≤ m
+    → ((k : ℕ) → steps - 1 ≤ k → IsMade build tree (step_derived (shape_derived k) g l r))
+    → IsMade build tree (shape_derived m g l r)
 unfolding shape_derived
 level_entered build tree steps zero g l r some le made = absurd (some (omega arith))
 level_entered build tree steps (suc m) g l r some le made = made m (omega arith)

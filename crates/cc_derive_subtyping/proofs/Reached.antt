@@ -15,9 +15,10 @@ use Rattle.cc_core.specs.Derivations.{BySet, SetBelow, Derivation, Node}
 use Rattle.cc_sets.specs.CanonicalDerivations.{member_derived, premises_for, elements_derived, element_derived, set_derived}
 use Rattle.cc_derive_subtyping.specs.declared.trees.Tree.{Tree}
 use Rattle.cc_derive_subtyping.specs.Tables.{IsTable, reached_derived, declared_in, declared_derived}
-use Rattle.cc_derive_subtyping.specs.Trees.{IsTree, listed}
+use Rattle.cc_derive_subtyping.specs.Trees.{IsMade, listed}
 use Rattle.cc_derive_subtyping.proofs.Counts.{premises_for-listed}
 use Rattle.cc_derive_subtyping.proofs.Tabled.{contained, elements_alike, members_derived, reached_known, by_declared}
+use Rattle.cc_derive_subtyping.specs.declared.trees.Making.{Making}
 
 get_or_front : {X : Type 0} (xs : List X) (x d : X) (k : ℕ) → k < length xs → get_or (xs ++ x ∷ []) k d ≡ get_or xs k d
 get_or_front [] x d k h = absurd (omega arith)
@@ -29,29 +30,29 @@ get_or_last [] x d = refl
 get_or_last (y ∷ xs) x d = get_or_last xs x d
 
 -- no position, and one more
-pub table_none : (build : Bool) (g : Context) (right : Set) → IsTable build g right []
+pub table_none : (build : Making) (g : Context) (right : Set) → IsTable build g right []
 table_none build g right = record { at = λ p d h. absurd (omega arith) }
 
-pub table_more : (build : Bool) (g : Context) (right : Set) (table : List Tree) (tree : Tree) → IsTable build g right table
-    → IsTree build tree (element_derived g right (Variable (Free (length table)))) → IsTable build g right (table ++ tree ∷ [])
+pub table_more : (build : Making) (g : Context) (right : Set) (table : List Tree) (tree : Tree) → IsTable build g right table
+    → IsMade build tree (element_derived g right (Variable (Free (length table)))) → IsTable build g right (table ++ tree ∷ [])
 table_more build g right table tree old new = record {
   at = λ p d h.
-      elim (cases_lt p (length table)) as (λ _. IsTree build (get_or (table ++ tree ∷ []) p d) (element_derived g right (Variable (Free p)))) [
-        | inl below ↦ subst (λ (t : Tree). IsTree build t (element_derived g right (Variable (Free p)))) (sym (get_or_front table tree d p below)) (old.at p d below)
+      elim (cases_lt p (length table)) as (λ _. IsMade build (get_or (table ++ tree ∷ []) p d) (element_derived g right (Variable (Free p)))) [
+        | inl below ↦ subst (λ (t : Tree). IsMade build t (element_derived g right (Variable (Free p)))) (sym (get_or_front table tree d p below)) (old.at p d below)
         | inr beyond ↦
             let n = length-append table (tree ∷ []) in
             let is : length table ≡ p = omega arith in
-            subst (λ (q : ℕ). IsTree build (get_or (table ++ tree ∷ []) q d) (element_derived g right (Variable (Free q)))) is
-            (subst (λ (t : Tree). IsTree build t (element_derived g right (Variable (Free (length table))))) (sym (get_or_last table tree d)) new)
+            subst (λ (q : ℕ). IsMade build (get_or (table ++ tree ∷ []) q d) (element_derived g right (Variable (Free q)))) is
+            (subst (λ (t : Tree). IsMade build t (element_derived g right (Variable (Free (length table))))) (sym (get_or_last table tree d)) new)
       ];
 }
 
 -- an element that is known
-pub reached_at : (build : Bool) (g : Context) (right : Set) (table : List Tree) (p : ℕ) (tree : Tree) → IsTable build g right table
+pub reached_at : (build : Making) (g : Context) (right : Set) (table : List Tree) (p : ℕ) (tree : Tree) → IsTable build g right table
     → true ≡ nat_lt p (length table) → tree ≡ get_or table p tree → p < length table
-    → IsTree build tree (element_derived g right (Variable (Free p)))
+    → IsMade build tree (element_derived g right (Variable (Free p)))
 reached_at build g right table p tree known lt is below =
-    subst (λ (t : Tree). IsTree build t (element_derived g right (Variable (Free p)))) (sym is) (known.at p tree below)
+    subst (λ (t : Tree). IsMade build t (element_derived g right (Variable (Free p)))) (sym is) (known.at p tree below)
 
 pub reached_is : (g : Context) (right : Set) (known p : ℕ) → p < known
     → element_derived g right (Variable (Free p)) ≡ reached_derived known g right (Variable (Free p))

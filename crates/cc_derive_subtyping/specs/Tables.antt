@@ -1,6 +1,6 @@
 -- How the variables of a context are below one set, found one by one from the oldest on. What stands here goes the way of
 -- the code and serves proofs.
-use Rattle.std.specs.Prelude.{ℕ, ◌<◌, nat_lt, Bool, List, length, Option, Some, None, if◌then◌else◌, slice_index_or}
+use Rattle.std.specs.Prelude.{ℕ, ◌<◌, nat_lt, List, length, Option, Some, None, if◌then◌else◌, slice_index_or}
 use Rattle.cc_capture.specs.declared.var.Var.TheVariants.{Free}
 use Rattle.cc_capture.specs.declared.var.Elem.{Elem}
 use Rattle.cc_capture.specs.declared.var.Elem.TheVariants.{Var as Variable}
@@ -9,8 +9,9 @@ use Rattle.cc_core.specs.Captured.{variable_set}
 use Rattle.cc_core.specs.Contexts.{Bind, TermEntry, TypeEntry, Context}
 use Rattle.cc_core.specs.Derivations.{ByVariable, SetBelow, Derivation, Node, one}
 use Rattle.cc_sets.specs.CanonicalDerivations.{member_derived, elements_derived, element_derived}
+use Rattle.cc_derive_subtyping.specs.declared.trees.Making.{Making}
 use Rattle.cc_derive_subtyping.specs.declared.trees.Tree.{Tree}
-use Rattle.cc_derive_subtyping.specs.Trees.{IsTree}
+use Rattle.cc_derive_subtyping.specs.Trees.{IsMade}
 
 -- An element is below the set as the variables of the first positions are, so many, and another as a member.
 abbrev pub reached_derived : ℕ → Context → Set → Elem → Derivation
@@ -34,6 +35,6 @@ declared_derived context right position (Some declared) =
 declared_derived context right position None = member_derived right (Variable (Free position))
 
 -- the trees are made of how the variables of the first positions are below the set
-pub record IsTable (build : Bool) (context : Context) (right : Set) (table : List Tree) : Type 0 where
+pub record IsTable (build : Making) (context : Context) (right : Set) (table : List Tree) : Type 0 where
   pub at : (position : ℕ) (other : Tree) → position < length table
-      → IsTree build (slice_index_or table position other) (element_derived context right (Variable (Free position)))
+      → IsMade build (slice_index_or table position other) (element_derived context right (Variable (Free position)))

@@ -8,4 +8,4 @@ pub mod trees;
 
 pub use sets::derive_sets;
 pub use shapes::{derive_shapes, derive_types};
-pub use trees::{Parts, Tree};
+pub use trees::{Making, Parts, Tree};

@@ -8,10 +8,10 @@ ghost use Rattle.cc_core.specs.Contexts.{Context};
 ghost use Rattle.cc_core.specs.Views.{bind_of, context_of};
 ghost use Rattle.cc_sets.specs.CanonicalDerivations.{elements_derived, element_derived, set_derived};
 ghost use Rattle.cc_derive_subtyping.specs.Tables.{IsTable, reached_derived, declared_in, declared_derived};
-ghost use Rattle.cc_derive_subtyping.specs.Trees.{IsTree};
+ghost use Rattle.cc_derive_subtyping.specs.Trees.{IsMade};
 
 use crate::trees::{
-    Tree, element_node, no_parts, one_part, set_node, share, variable_node, with_part,
+    Making, Tree, element_node, no_parts, one_part, set_node, share, variable_node, with_part,
 };
 use cc_capture::{CapSet, Elem, Var};
 use cc_core::{Bind, Ctx};
@@ -21,12 +21,12 @@ use std::alloc::{AllocError, Global};
 // below it as a member.
 fn reach(
     alloc: Global,
-    build: bool,
+    build: Making,
     table: &[Tree],
     elem: Elem,
     right: &CapSet,
 ) -> Result<Tree, AllocError>
-    ensures { IfOk result (λ t. (context : Context) → IsTable build context right.now table.now → IsTree build t (reached_derived (length table.now) context right.now elem)) }
+    ensures { IfOk result (λ t. (context : Context) → IsTable build context right.now table.now → IsMade build t (reached_derived (length table.now) context right.now elem)) }
 {
     if let Elem::Var(variable) = elem {
         if let Var::Free(position) = variable {
@@ -41,12 +41,12 @@ fn reach(
 // How the left set is below the right one, where it is known how the variables of the first positions are.
 fn reach_all(
     alloc: Global,
-    build: bool,
+    build: Making,
     table: &[Tree],
     left: &CapSet,
     right: &CapSet,
 ) -> Result<Tree, AllocError>
-    ensures { IfOk result (λ t. (context : Context) → IsTable build context right.now table.now → IsTree build t (elements_derived (reached_derived (length table.now) context right.now) left.now right.now)) }
+    ensures { IfOk result (λ t. (context : Context) → IsTable build context right.now table.now → IsMade build t (elements_derived (reached_derived (length table.now) context right.now) left.now right.now)) }
 {
     let mut parts = no_parts(alloc, build);
     for elem in left.iter() {
@@ -70,14 +70,14 @@ fn declared_set(bind: &Bind) -> Option<&CapSet>
 // How the variable of the position is below the right set, by the entry, where it is no member.
 fn reach_declared(
     alloc: Global,
-    build: bool,
+    build: Making,
     bind: &Bind,
     position: u32,
     table: &[Tree],
     right: &CapSet,
 ) -> Result<Tree, AllocError>
     requires { length table.now ≡ position }
-    ensures { IfOk result (λ t. (context : Context) → IsTable build context right.now table.now → IsTree build t (declared_derived context right.now position (declared_in (bind_of bind.now)))) }
+    ensures { IfOk result (λ t. (context : Context) → IsTable build context right.now table.now → IsMade build t (declared_derived context right.now position (declared_in (bind_of bind.now)))) }
 {
     match declared_set(bind) {
         Some(declared) => {
@@ -92,14 +92,14 @@ fn reach_declared(
 // How the variable of the position is below the right set.
 fn reach_position(
     alloc: Global,
-    build: bool,
+    build: Making,
     ctx: &Ctx,
     position: u32,
     table: &[Tree],
     right: &CapSet,
 ) -> Result<Tree, AllocError>
     requires { length table.now ≡ position }
-    ensures { IfOk result (λ t. IsTable build (context_of ctx.now) right.now table.now → IsTree build t (element_derived (context_of ctx.now) right.now (Variable (Free position)))) }
+    ensures { IfOk result (λ t. IsTable build (context_of ctx.now) right.now table.now → IsMade build t (element_derived (context_of ctx.now) right.now (Variable (Free position)))) }
 {
     let elem = Elem::Var(Var::Free(position));
     if right.contains(elem) {
@@ -114,7 +114,7 @@ fn reach_position(
 // How each variable of the context is below the right set, the oldest first.
 fn reach_context(
     alloc: Global,
-    build: bool,
+    build: Making,
     ctx: &Ctx,
     right: &CapSet,
 ) -> Result<Vec<Tree>, AllocError>
@@ -134,12 +134,12 @@ fn reach_context(
 /// Fails only for want of memory.
 pub fn derive_sets(
     alloc: Global,
-    build: bool,
+    build: Making,
     ctx: &Ctx,
     left: &CapSet,
     right: &CapSet,
 ) -> Result<Tree, AllocError>
-    ensures { IfOk result (λ t. IsTree build t (set_derived (context_of ctx.now) left.now right.now)) }
+    ensures { IfOk result (λ t. IsMade build t (set_derived (context_of ctx.now) left.now right.now)) }
 {
     if left.is_subset(right) {
         return reach_all(alloc, build, &[], left, right);

@@ -1,7 +1,7 @@
 //! That a shape or a type is below another, as their comparison goes. What is made of each comparison is that of the
 //! canonical derivation with any number of steps that is not below the number of levels that were allowed.
 
-ghost use Rattle.std.specs.Prelude.{◌≡◌, ℕ, ◌≤◌, ◌∷◌, length, IfOk};
+ghost use Rattle.std.specs.Prelude.{◌≡◌, ℕ, ◌≤◌, ◌∷◌, false, length, IfOk, IsTrue};
 ghost use Rattle.cc_core.specs.Contexts.{TypeEntry, entry_of};
 ghost use Rattle.cc_core.specs.Shapes.{FunctionShape, TypeFunctionShape, BoxShape, TypeVariable};
 ghost use Rattle.cc_core.specs.Substitution.{opened_type};
@@ -11,10 +11,10 @@ ghost use Rattle.cc_sets.specs.Comparison as compared;
 ghost use Rattle.cc_derivation.specs.Views.{rule_of};
 ghost use Rattle.cc_core.specs.Derivations.{Node, NoPremise, ShapeBelow};
 ghost use Rattle.cc_derive_subtyping.specs.Steps.{step_derived};
-ghost use Rattle.cc_derive_subtyping.specs.Trees.{IsTree};
+ghost use Rattle.cc_derive_subtyping.specs.Trees.{IsMade};
 
 use crate::sets::derive_sets;
-use crate::trees::{Tree, no_parts, one_part, shape_node, two_parts, type_node};
+use crate::trees::{Making, Tree, no_parts, one_part, shape_node, two_parts, type_node};
 use cc_capture::Var;
 use cc_core::same::same_shape;
 use cc_core::substitution::instantiate;
@@ -27,12 +27,12 @@ use std::rc::Rc;
 // A node without premises.
 fn leaf(
     alloc: Global,
-    build: bool,
+    build: Making,
     rule: Rule,
     left: &Rc<Shape>,
     right: &Rc<Shape>,
 ) -> Result<Tree, AllocError>
-    ensures { IfOk result (λ t. IsTree build t (Node (rule_of rule) NoPremise (ShapeBelow (shape_of left.now.value) (shape_of right.now.value)))) }
+    ensures { IfOk result (λ t. IsMade build t (Node (rule_of rule) NoPremise (ShapeBelow (shape_of left.now.value) (shape_of right.now.value)))) }
 {
     shape_node(alloc, rule, no_parts(alloc, build), left, right)
 }
@@ -79,7 +79,7 @@ fn with_type_variable(alloc: Global, ctx: &Ctx, bound: &Rc<Shape>) -> Result<Ctx
 #[cycle(shapes)]
 fn variable_below(
     alloc: Global,
-    build: bool,
+    build: Making,
     ctx: &Ctx,
     left: &Rc<Shape>,
     variable: Var,
@@ -87,7 +87,7 @@ fn variable_below(
     steps: u32,
 ) -> Result<Tree, AllocError>
     requires { shape_of left.now.value ≡ TypeVariable variable }
-    ensures { IfOk result (λ t. (m : ℕ) → steps ≤ m → IsTree build t (plain.bound_derived (plain.shape_derived m) (context_of ctx.now) variable (compared.bound_of (context_of ctx.now) variable) (shape_of right.now.value))) }
+    ensures { IfOk result (λ t. (m : ℕ) → steps ≤ m → IsMade build t (plain.bound_derived (plain.shape_derived m) (context_of ctx.now) variable (compared.bound_of (context_of ctx.now) variable) (shape_of right.now.value))) }
 {
     match bound_of(ctx, variable) {
         Some(bound) => {
@@ -100,34 +100,39 @@ fn variable_below(
     }
 }
 
-// Functions: what the right one takes is below what the left one does, and then what they give.
+// Whether the tree is counted alone, and its nodes have reached the limit.
+fn has_enough(build: Making, tree: &Tree) -> bool
+    ensures { IsTrue result → (build.whole ≡ false) × (build.limit ≤ tree.now.nodes) }
+{
+    !build.whole && build.limit <= tree.nodes
+}
+
+// What functions give, under what the right one takes.
 #[cycle(shapes)]
-fn functions_below(
+fn given_below(
     alloc: Global,
-    build: bool,
+    build: Making,
     ctx: &Ctx,
-    takes: &Ty,
-    gives: &Ty,
     others: &Ty,
+    gives: &Ty,
     other_gives: &Ty,
     steps: u32,
-) -> Result<(Tree, Tree), AllocError>
-    ensures { IfOk result (λ t. (m : ℕ) → steps ≤ m
-        → IsTree build t.0 (plain.type_derived (plain.shape_derived m) (context_of ctx.now) (type_of others.now) (type_of takes.now))
-        × IsTree build t.1 (plain.type_derived (plain.shape_derived m) (entry_of (type_of others.now) ∷ context_of ctx.now) (opened_type (length (context_of ctx.now)) (type_of gives.now)) (opened_type (length (context_of ctx.now)) (type_of other_gives.now)))) }
+) -> Result<Tree, AllocError>
+    ensures { IfOk result (λ t. (m : ℕ) → steps ≤ m → IsMade build t (plain.type_derived (plain.shape_derived m) (entry_of (type_of others.now) ∷ context_of ctx.now) (opened_type (length (context_of ctx.now)) (type_of gives.now)) (opened_type (length (context_of ctx.now)) (type_of other_gives.now)))) }
 {
-    let taken = types_below(alloc, build, ctx, others, takes, steps)?;
     let under = with_variable(alloc, ctx, others)?;
     let gives = opened(alloc, ctx, gives)?;
     let other_gives = opened(alloc, ctx, other_gives)?;
     let given = types_below(alloc, build, &under, &gives, &other_gives, steps)?;
-    Ok((taken, given))
+    Ok(given)
 }
 
+// Functions: what the right one takes is below what the left one does, and then what they give. Where the first are
+// enough nodes, the others are not counted.
 #[cycle(shapes)]
 fn function_below(
     alloc: Global,
-    build: bool,
+    build: Making,
     ctx: &Ctx,
     left: &Rc<Shape>,
     takes: &Ty,
@@ -136,20 +141,18 @@ fn function_below(
     steps: u32,
 ) -> Result<Tree, AllocError>
     requires { shape_of left.now.value ≡ FunctionShape (type_of takes.now).shape (type_of takes.now).set (type_of gives.now).shape (type_of gives.now).set }
-    ensures { IfOk result (λ t. (m : ℕ) → steps ≤ m → IsTree build t (plain.functions_derived (plain.shape_derived m) (context_of ctx.now) (type_of takes.now) (type_of gives.now) (shape_of right.now.value))) }
+    ensures { IfOk result (λ t. (m : ℕ) → steps ≤ m → IsMade build t (plain.functions_derived (plain.shape_derived m) (context_of ctx.now) (type_of takes.now) (type_of gives.now) (shape_of right.now.value))) }
 {
     match &**right {
         Shape::Fun(others, other_gives) => {
-            let (taken, given) = functions_below(
-                alloc,
-                build,
-                ctx,
-                takes,
-                gives,
-                others,
-                other_gives,
-                steps,
-            )?;
+            let taken = types_below(alloc, build, ctx, others, takes, steps)?;
+            if has_enough(build, &taken) {
+                return Ok(Tree {
+                    nodes: taken.nodes,
+                    der: None,
+                });
+            }
+            let given = given_below(alloc, build, ctx, others, gives, other_gives, steps)?;
             let parts = two_parts(alloc, build, taken, given)?;
             shape_node(alloc, Rule::ByFunction, parts, left, right)
         }
@@ -161,14 +164,14 @@ fn function_below(
 #[cycle(shapes)]
 fn results_below(
     alloc: Global,
-    build: bool,
+    build: Making,
     ctx: &Ctx,
     bound: &Rc<Shape>,
     gives: &Ty,
     other_gives: &Ty,
     steps: u32,
 ) -> Result<Tree, AllocError>
-    ensures { IfOk result (λ t. (m : ℕ) → steps ≤ m → IsTree build t (plain.type_derived (plain.shape_derived m) (TypeEntry (shape_of bound.now.value) ∷ context_of ctx.now) (opened_type (length (context_of ctx.now)) (type_of gives.now)) (opened_type (length (context_of ctx.now)) (type_of other_gives.now)))) }
+    ensures { IfOk result (λ t. (m : ℕ) → steps ≤ m → IsMade build t (plain.type_derived (plain.shape_derived m) (TypeEntry (shape_of bound.now.value) ∷ context_of ctx.now) (opened_type (length (context_of ctx.now)) (type_of gives.now)) (opened_type (length (context_of ctx.now)) (type_of other_gives.now)))) }
 {
     let under = with_type_variable(alloc, ctx, bound)?;
     let gives = opened(alloc, ctx, gives)?;
@@ -180,7 +183,7 @@ fn results_below(
 #[cycle(shapes)]
 fn type_function_below(
     alloc: Global,
-    build: bool,
+    build: Making,
     ctx: &Ctx,
     left: &Rc<Shape>,
     bound: &Rc<Shape>,
@@ -189,7 +192,7 @@ fn type_function_below(
     steps: u32,
 ) -> Result<Tree, AllocError>
     requires { shape_of left.now.value ≡ TypeFunctionShape (shape_of bound.now.value) (type_of gives.now).shape (type_of gives.now).set }
-    ensures { IfOk result (λ t. (m : ℕ) → steps ≤ m → IsTree build t (plain.type_functions_derived (plain.shape_derived m) (context_of ctx.now) (shape_of bound.now.value) (type_of gives.now) (shape_of right.now.value))) }
+    ensures { IfOk result (λ t. (m : ℕ) → steps ≤ m → IsMade build t (plain.type_functions_derived (plain.shape_derived m) (context_of ctx.now) (shape_of bound.now.value) (type_of gives.now) (shape_of right.now.value))) }
 {
     match &**right {
         Shape::TFun(other, other_gives) => {
@@ -205,7 +208,7 @@ fn type_function_below(
 #[cycle(shapes)]
 fn box_below(
     alloc: Global,
-    build: bool,
+    build: Making,
     ctx: &Ctx,
     left: &Rc<Shape>,
     content: &Ty,
@@ -213,7 +216,7 @@ fn box_below(
     steps: u32,
 ) -> Result<Tree, AllocError>
     requires { shape_of left.now.value ≡ BoxShape (type_of content.now).shape (type_of content.now).set }
-    ensures { IfOk result (λ t. (m : ℕ) → steps ≤ m → IsTree build t (plain.boxes_derived (plain.shape_derived m) (context_of ctx.now) (type_of content.now) (shape_of right.now.value))) }
+    ensures { IfOk result (λ t. (m : ℕ) → steps ≤ m → IsMade build t (plain.boxes_derived (plain.shape_derived m) (context_of ctx.now) (type_of content.now) (shape_of right.now.value))) }
 {
     match &**right {
         Shape::Boxed(other) => {
@@ -230,13 +233,13 @@ fn box_below(
 #[tactic(auto, unfolding(cc_sets::specs::CanonicalDerivations::form_derived))]
 fn form_below(
     alloc: Global,
-    build: bool,
+    build: Making,
     ctx: &Ctx,
     left: &Rc<Shape>,
     right: &Rc<Shape>,
     steps: u32,
 ) -> Result<Tree, AllocError>
-    ensures { IfOk result (λ t. (m : ℕ) → steps ≤ m → IsTree build t (plain.form_derived (plain.shape_derived m) (context_of ctx.now) (shape_of left.now.value) (shape_of right.now.value))) }
+    ensures { IfOk result (λ t. (m : ℕ) → steps ≤ m → IsMade build t (plain.form_derived (plain.shape_derived m) (context_of ctx.now) (shape_of left.now.value) (shape_of right.now.value))) }
 {
     match &**left {
         Shape::Base(_) => leaf(alloc, build, Rule::ByReflexivity, left, right),
@@ -257,13 +260,13 @@ fn form_below(
 #[cycle(shapes)]
 fn step_below(
     alloc: Global,
-    build: bool,
+    build: Making,
     ctx: &Ctx,
     left: &Rc<Shape>,
     right: &Rc<Shape>,
     steps: u32,
 ) -> Result<Tree, AllocError>
-    ensures { IfOk result (λ t. (m : ℕ) → steps ≤ m → IsTree build t (step_derived (plain.shape_derived m) (context_of ctx.now) (shape_of left.now.value) (shape_of right.now.value))) }
+    ensures { IfOk result (λ t. (m : ℕ) → steps ≤ m → IsMade build t (step_derived (plain.shape_derived m) (context_of ctx.now) (shape_of left.now.value) (shape_of right.now.value))) }
 {
     if same_shape(left, right) {
         return leaf(alloc, build, Rule::ByReflexivity, left, right);
@@ -278,13 +281,13 @@ fn step_below(
 #[cycle(shapes)]
 fn shapes_below(
     alloc: Global,
-    build: bool,
+    build: Making,
     ctx: &Ctx,
     left: &Rc<Shape>,
     right: &Rc<Shape>,
     steps: u32,
 ) -> Result<Tree, AllocError>
-    ensures { IfOk result (λ t. (m : ℕ) → steps ≤ m → IsTree build t (plain.shape_derived m (context_of ctx.now) (shape_of left.now.value) (shape_of right.now.value))) }
+    ensures { IfOk result (λ t. (m : ℕ) → steps ≤ m → IsMade build t (plain.shape_derived m (context_of ctx.now) (shape_of left.now.value) (shape_of right.now.value))) }
 {
     if steps == 0 {
         return Err(AllocError);
@@ -296,13 +299,13 @@ fn shapes_below(
 #[cycle(shapes)]
 fn types_below(
     alloc: Global,
-    build: bool,
+    build: Making,
     ctx: &Ctx,
     left: &Ty,
     right: &Ty,
     steps: u32,
 ) -> Result<Tree, AllocError>
-    ensures { IfOk result (λ t. (m : ℕ) → steps ≤ m → IsTree build t (plain.type_derived (plain.shape_derived m) (context_of ctx.now) (type_of left.now) (type_of right.now))) }
+    ensures { IfOk result (λ t. (m : ℕ) → steps ≤ m → IsMade build t (plain.type_derived (plain.shape_derived m) (context_of ctx.now) (type_of left.now) (type_of right.now))) }
 {
     let sets = derive_sets(alloc, build, ctx, &left.set, &right.set)?;
     let shapes = shapes_below(alloc, build, ctx, &left.shape, &right.shape, steps)?;
@@ -315,12 +318,12 @@ fn types_below(
 /// Fails only for want of memory, as which more than 2^32 - 1 levels count.
 pub fn derive_shapes(
     alloc: Global,
-    build: bool,
+    build: Making,
     ctx: &Ctx,
     left: &Rc<Shape>,
     right: &Rc<Shape>,
 ) -> Result<Tree, AllocError>
-    ensures { IfOk result (λ t. (m : ℕ) → 4294967295 ≤ m → IsTree build t (plain.shape_derived m (context_of ctx.now) (shape_of left.now.value) (shape_of right.now.value))) }
+    ensures { IfOk result (λ t. (m : ℕ) → 4294967295 ≤ m → IsMade build t (plain.shape_derived m (context_of ctx.now) (shape_of left.now.value) (shape_of right.now.value))) }
 {
     shapes_below(alloc, build, ctx, left, right, u32::MAX)
 }
@@ -330,12 +333,12 @@ pub fn derive_shapes(
 /// Fails only for want of memory, as which more than 2^32 - 1 levels count.
 pub fn derive_types(
     alloc: Global,
-    build: bool,
+    build: Making,
     ctx: &Ctx,
     left: &Ty,
     right: &Ty,
 ) -> Result<Tree, AllocError>
-    ensures { IfOk result (λ t. (m : ℕ) → 4294967295 ≤ m → IsTree build t (plain.type_derived (plain.shape_derived m) (context_of ctx.now) (type_of left.now) (type_of right.now))) }
+    ensures { IfOk result (λ t. (m : ℕ) → 4294967295 ≤ m → IsMade build t (plain.type_derived (plain.shape_derived m) (context_of ctx.now) (type_of left.now) (type_of right.now))) }
 {
     types_below(alloc, build, ctx, left, right, u32::MAX)
 }

@@ -1,13 +1,14 @@
 //! What is made of a derivation: the number of its nodes, and the derivation itself where it is built.
 
-ghost use Rattle.std.specs.Prelude.{◌≡◌, Bool, false, List, [], ◌∷◌, ◌++◌, map, IfOk, MatchOption};
+ghost use Rattle.std.specs.Prelude.{◌≡◌, false, List, [], ◌∷◌, ◌++◌, map, IfOk, MatchOption};
 ghost use Rattle.cc_core.specs.Captured.{variable_set};
 ghost use Rattle.cc_core.specs.Derivations.{Derivation, Node, ByCapturing, ByVariable, BySet, ShapeBelow, TypeBelow, SetBelow, OfType};
 ghost use Rattle.cc_core.specs.Substitution.{single};
 ghost use Rattle.cc_core.specs.Views.{shape_of, type_of};
 ghost use Rattle.cc_derivation.specs.Views.{rule_of, claim_of, premises_of, der_of};
 ghost use Rattle.cc_sets.specs.CanonicalDerivations.{member_derived};
-ghost use Rattle.cc_derive_subtyping.specs.Trees.{IsTree, IsParts, listed};
+ghost use Rattle.cc_derive_subtyping.specs.Trees.{IsMade, IsParts, listed};
+ghost use Rattle.cc_derive_subtyping.specs.declared.trees.Making.{Making};
 
 use cc_capture::{CapSet, Elem, Var};
 use cc_core::{Shape, Ty};
@@ -15,10 +16,19 @@ use cc_derivation::{Claim, Der, Premises, Rule};
 use std::alloc::{AllocError, Global};
 use std::rc::Rc;
 
+/// Whether derivations are built, and how far their nodes are counted.
+#[derive(Clone, Copy)]
+pub struct Making {
+    /// Whether they are built.
+    pub whole: bool,
+    /// A number of nodes that is told is exact where it is below this one, and else no more than they are.
+    pub limit: u64,
+}
+
 /// What is made of one derivation.
 #[derive(Drop)]
 pub struct Tree {
-    /// How many nodes it has, or the greatest number where that is less.
+    /// How many nodes it has, as far as they are counted.
     pub nodes: u64,
     /// The derivation, where it is built.
     pub der: Option<Rc<Der>>,
@@ -27,7 +37,7 @@ pub struct Tree {
 /// What is made of the premises of a node.
 #[derive(Drop)]
 pub struct Parts {
-    /// How many nodes they have together, or the greatest number where that is less.
+    /// How many nodes they have together, as far as they are counted.
     pub nodes: u64,
     /// The premises, where they are built.
     pub ders: Option<Vec<Rc<Der>>>,
@@ -35,7 +45,7 @@ pub struct Parts {
 
 /// The same tree, shared.
 pub fn share(tree: &Tree) -> Result<Tree, AllocError>
-    ensures { IfOk result (λ t. (build : Bool) (d : Derivation) → IsTree build tree.now d → IsTree build t d) }
+    ensures { IfOk result (λ t. (build : Making) (d : Derivation) → IsMade build tree.now d → IsMade build t d) }
 {
     let der = share_der(&tree.der)?;
     Ok(Tree {
@@ -46,7 +56,7 @@ pub fn share(tree: &Tree) -> Result<Tree, AllocError>
 
 // The same derivation, shared, if there is one.
 fn share_der(der: &Option<Rc<Der>>) -> Result<Option<Rc<Der>>, AllocError>
-    ensures { IfOk result (λ r. (build : Bool) (d : Derivation) → MatchOption der.now (build ≡ false) (λ x. der_of x.value ≡ d) → MatchOption r (build ≡ false) (λ x. der_of x.value ≡ d)) }
+    ensures { IfOk result (λ r. (build : Making) (d : Derivation) → MatchOption der.now (build.whole ≡ false) (λ x. der_of x.value ≡ d) → MatchOption r (build.whole ≡ false) (λ x. der_of x.value ≡ d)) }
 {
     match der {
         Some(der) => Ok(Some(der.clone()?)),
@@ -55,10 +65,10 @@ fn share_der(der: &Option<Rc<Der>>) -> Result<Option<Rc<Der>>, AllocError>
 }
 
 /// No premises, which are built or not.
-pub fn no_parts(alloc: Global, build: bool) -> Parts
+pub fn no_parts(alloc: Global, build: Making) -> Parts
     ensures { IsParts build result [] }
 {
-    if build {
+    if build.whole {
         Parts {
             nodes: 0,
             ders: Some(Vec::new(alloc)),
@@ -76,9 +86,9 @@ fn with_der(
     ders: Option<Vec<Rc<Der>>>,
     der: Option<Rc<Der>>,
 ) -> Result<Option<Vec<Rc<Der>>>, AllocError>
-    ensures { IfOk result (λ r. (build : Bool) (ds : List Derivation) (d : Derivation) → MatchOption ders (build ≡ false) (λ v. map (λ x. der_of x.value) v.items ≡ ds)
-        → MatchOption der (build ≡ false) (λ x. der_of x.value ≡ d)
-        → MatchOption r (build ≡ false) (λ v. map (λ x. der_of x.value) v.items ≡ ds ++ d ∷ [])) }
+    ensures { IfOk result (λ r. (build : Making) (ds : List Derivation) (d : Derivation) → MatchOption ders (build.whole ≡ false) (λ v. map (λ x. der_of x.value) v.items ≡ ds)
+        → MatchOption der (build.whole ≡ false) (λ x. der_of x.value ≡ d)
+        → MatchOption r (build.whole ≡ false) (λ v. map (λ x. der_of x.value) v.items ≡ ds ++ d ∷ [])) }
 {
     match ders {
         Some(mut all) => match der {
@@ -94,7 +104,7 @@ fn with_der(
 
 /// The premises with one more at the end. Fails only for want of memory.
 pub fn with_part(parts: Parts, tree: Tree) -> Result<Parts, AllocError>
-    ensures { IfOk result (λ r. (build : Bool) (ds : List Derivation) (d : Derivation) → IsParts build parts ds → IsTree build tree d → IsParts build r (ds ++ d ∷ [])) }
+    ensures { IfOk result (λ r. (build : Making) (ds : List Derivation) (d : Derivation) → IsParts build parts ds → IsMade build tree d → IsParts build r (ds ++ d ∷ [])) }
 {
     let Parts { nodes, ders } = parts;
     let Tree { nodes: more, der } = tree;
@@ -104,15 +114,20 @@ pub fn with_part(parts: Parts, tree: Tree) -> Result<Parts, AllocError>
 }
 
 /// One premise. Fails only for want of memory.
-pub fn one_part(alloc: Global, build: bool, first: Tree) -> Result<Parts, AllocError>
-    ensures { IfOk result (λ p. (d : Derivation) → IsTree build first d → IsParts build p (d ∷ [])) }
+pub fn one_part(alloc: Global, build: Making, first: Tree) -> Result<Parts, AllocError>
+    ensures { IfOk result (λ p. (d : Derivation) → IsMade build first d → IsParts build p (d ∷ [])) }
 {
     with_part(no_parts(alloc, build), first)
 }
 
 /// Two premises. Fails only for want of memory.
-pub fn two_parts(alloc: Global, build: bool, first: Tree, second: Tree) -> Result<Parts, AllocError>
-    ensures { IfOk result (λ p. (d e : Derivation) → IsTree build first d → IsTree build second e → IsParts build p (d ∷ e ∷ [])) }
+pub fn two_parts(
+    alloc: Global,
+    build: Making,
+    first: Tree,
+    second: Tree,
+) -> Result<Parts, AllocError>
+    ensures { IfOk result (λ p. (d e : Derivation) → IsMade build first d → IsMade build second e → IsParts build p (d ∷ e ∷ [])) }
 {
     let parts = one_part(alloc, build, first)?;
     with_part(parts, second)
@@ -121,12 +136,12 @@ pub fn two_parts(alloc: Global, build: bool, first: Tree, second: Tree) -> Resul
 /// Three premises. Fails only for want of memory.
 pub fn three_parts(
     alloc: Global,
-    build: bool,
+    build: Making,
     first: Tree,
     second: Tree,
     third: Tree,
 ) -> Result<Parts, AllocError>
-    ensures { IfOk result (λ p. (d e f : Derivation) → IsTree build first d → IsTree build second e → IsTree build third f → IsParts build p (d ∷ e ∷ f ∷ [])) }
+    ensures { IfOk result (λ p. (d e f : Derivation) → IsMade build first d → IsMade build second e → IsMade build third f → IsParts build p (d ∷ e ∷ f ∷ [])) }
 {
     let parts = two_parts(alloc, build, first, second)?;
     with_part(parts, third)
@@ -165,8 +180,8 @@ pub fn shape_node(
     left: &Rc<Shape>,
     right: &Rc<Shape>,
 ) -> Result<Tree, AllocError>
-    ensures { IfOk result (λ t. (build : Bool) (ds : List Derivation) → IsParts build parts ds
-        → IsTree build t (Node (rule_of rule) (listed ds) (ShapeBelow (shape_of left.now.value) (shape_of right.now.value)))) }
+    ensures { IfOk result (λ t. (build : Making) (ds : List Derivation) → IsParts build parts ds
+        → IsMade build t (Node (rule_of rule) (listed ds) (ShapeBelow (shape_of left.now.value) (shape_of right.now.value)))) }
 {
     let Parts { nodes, ders } = parts;
     let nodes = nodes.saturating_add(1);
@@ -185,8 +200,8 @@ pub fn shape_node(
 
 /// A node which concludes that one type is below the other. Fails only for want of memory.
 pub fn type_node(alloc: Global, parts: Parts, left: &Ty, right: &Ty) -> Result<Tree, AllocError>
-    ensures { IfOk result (λ t. (build : Bool) (ds : List Derivation) → IsParts build parts ds
-        → IsTree build t (Node ByCapturing (listed ds) (TypeBelow (type_of left.now) (type_of right.now)))) }
+    ensures { IfOk result (λ t. (build : Making) (ds : List Derivation) → IsParts build parts ds
+        → IsMade build t (Node ByCapturing (listed ds) (TypeBelow (type_of left.now) (type_of right.now)))) }
 {
     let Parts { nodes, ders } = parts;
     let nodes = nodes.saturating_add(1);
@@ -205,8 +220,8 @@ pub fn type_node(alloc: Global, parts: Parts, left: &Ty, right: &Ty) -> Result<T
 
 /// A node which concludes that a term has the type. Fails only for want of memory.
 pub fn typing_node(alloc: Global, rule: Rule, parts: Parts, ty: &Ty) -> Result<Tree, AllocError>
-    ensures { IfOk result (λ t. (build : Bool) (ds : List Derivation) → IsParts build parts ds
-        → IsTree build t (Node (rule_of rule) (listed ds) (OfType (type_of ty.now)))) }
+    ensures { IfOk result (λ t. (build : Making) (ds : List Derivation) → IsParts build parts ds
+        → IsMade build t (Node (rule_of rule) (listed ds) (OfType (type_of ty.now)))) }
 {
     let Parts { nodes, ders } = parts;
     let nodes = nodes.saturating_add(1);
@@ -230,8 +245,8 @@ pub fn set_node(
     left: &CapSet,
     right: &CapSet,
 ) -> Result<Tree, AllocError>
-    ensures { IfOk result (λ t. (build : Bool) (ds : List Derivation) → IsParts build parts ds
-        → IsTree build t (Node BySet (listed ds) (SetBelow left.now right.now))) }
+    ensures { IfOk result (λ t. (build : Making) (ds : List Derivation) → IsParts build parts ds
+        → IsMade build t (Node BySet (listed ds) (SetBelow left.now right.now))) }
 {
     let Parts { nodes, ders } = parts;
     let nodes = nodes.saturating_add(1);
@@ -265,8 +280,8 @@ pub fn variable_node(
     variable: Var,
     right: &CapSet,
 ) -> Result<Tree, AllocError>
-    ensures { IfOk result (λ t. (build : Bool) (ds : List Derivation) → IsParts build parts ds
-        → IsTree build t (Node ByVariable (listed ds) (SetBelow (variable_set variable) right.now))) }
+    ensures { IfOk result (λ t. (build : Making) (ds : List Derivation) → IsParts build parts ds
+        → IsMade build t (Node ByVariable (listed ds) (SetBelow (variable_set variable) right.now))) }
 {
     let Parts { nodes, ders } = parts;
     let nodes = nodes.saturating_add(1);
@@ -286,13 +301,13 @@ pub fn variable_node(
 /// A node which concludes that the set of an element is below the set, as a member. Fails only for want of memory.
 pub fn element_node(
     alloc: Global,
-    build: bool,
+    build: Making,
     elem: Elem,
     right: &CapSet,
 ) -> Result<Tree, AllocError>
-    ensures { IfOk result (λ t. IsTree build t (member_derived right.now elem)) }
+    ensures { IfOk result (λ t. IsMade build t (member_derived right.now elem)) }
 {
-    if build {
+    if build.whole {
         let claim = single_below(alloc, elem, right)?;
         let der = built(alloc, Rule::ByElement, Vec::new(alloc), claim)?;
         Ok(Tree {

@@ -1,1 +1,2 @@
 pub mod IndexedElements
+pub mod ReadCaptures

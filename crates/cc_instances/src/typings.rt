@@ -2,8 +2,12 @@
 
 ghost use Rattle.std.specs.Prelude.{◌≡◌, Some, option_map, IfOk};
 ghost use Rattle.cc_base.specs.Literals.{literal_of};
+ghost use Rattle.cc_core.specs.Captured.{captured_variables};
+ghost use Rattle.cc_core.specs.Reading as reading;
+ghost use Rattle.cc_core.specs.Reading.{read_shape, read_type, read_term};
 ghost use Rattle.cc_core.specs.Shapes.{capturing};
 ghost use Rattle.cc_core.specs.Terms.{FunctionTerm, TypeFunctionTerm};
+ghost use Rattle.cc_core.specs.Traversal.{act_note, act_term};
 ghost use Rattle.cc_core.specs.Typing as typing;
 ghost use Rattle.cc_core.specs.Views.{shape_of, type_of, note_of, term_of, form_of, context_of};
 ghost use Rattle.cc_derivation.specs.Views.{rule_of, premises_of};
@@ -13,6 +17,9 @@ ghost use Rattle.cc_meta_validity.specs.Rows as plain;
 
 use cc_base::literal::{Lit, Op, Operator};
 use cc_capture::{CapSet, Var};
+use cc_core::acting::{Action, act_note, read_variable};
+use cc_core::captured::cv;
+use cc_core::reading::{read_set, read_shape, read_type};
 use cc_core::same::same_type;
 use cc_core::{Ctx, Form, Node, Note, Shape, Ty};
 use cc_derivation::{Premises, Rule};
@@ -63,21 +70,32 @@ fn application(
     }
 }
 
+// What the term captures, as it is read among so many entries.
+fn captured(alloc: Global, node: &Node, entries: u32) -> Result<CapSet, AllocError>
+    ensures { IfOk result (λ s. s ≡ captured_variables (read_term entries (term_of node.now))) }
+{
+    let captured = cv(alloc, node)?;
+    read_set(alloc, &captured, entries)
+}
+
 fn function(
     alloc: Global,
     ctx: &Ctx,
     node: &Node,
     takes: &Rc<Ty>,
-    body: &Node,
+    body: &Rc<Node>,
+    entries: u32,
     premises: &Premises,
     ty: &Ty,
 ) -> Result<bool, AllocError>
-    requires { term_of node.now ≡ FunctionTerm (shape_of takes.now.value.shape.value) takes.now.value.set (term_of body.now) }
-    ensures { IfOk result (λ b. b ≡ plain.is_given (type_of ty.now) (plain.of_one (plain.function_given (context_of ctx.now) (shape_of takes.now.value.shape.value) takes.now.value.set (term_of body.now)) (claims_of (premises_of premises.now)))) }
+    requires { term_of node.now ≡ FunctionTerm (type_of takes.now.value).shape (type_of takes.now.value).set (term_of body.now.value) }
+    ensures { IfOk result (λ b. b ≡ plain.is_given (type_of ty.now) (plain.of_one (plain.function_given (context_of ctx.now) (read_type entries (type_of takes.now.value)).shape (read_type entries (type_of takes.now.value)).set (act_term (reading.reading entries) 1 (term_of body.now.value))) (claims_of (premises_of premises.now)))) }
 {
     match one_type(premises) {
         Some(gives) => {
-            let result = given::function_given(alloc, ctx, node, takes, body, gives)?;
+            let taken = read_type(alloc, takes, entries)?;
+            let set = captured(alloc, node, entries)?;
+            let result = given::function_given(alloc, ctx, taken, set, gives)?;
             Ok(is_given(ty, &result))
         }
         None => Ok(false),
@@ -89,16 +107,19 @@ fn type_function(
     ctx: &Ctx,
     node: &Node,
     bound: &Rc<Shape>,
-    body: &Node,
+    body: &Rc<Node>,
+    entries: u32,
     premises: &Premises,
     ty: &Ty,
 ) -> Result<bool, AllocError>
-    requires { term_of node.now ≡ TypeFunctionTerm (shape_of bound.now.value) (term_of body.now) }
-    ensures { IfOk result (λ b. b ≡ plain.is_given (type_of ty.now) (plain.of_one (plain.type_function_given (context_of ctx.now) (shape_of bound.now.value) (term_of body.now)) (claims_of (premises_of premises.now)))) }
+    requires { term_of node.now ≡ TypeFunctionTerm (shape_of bound.now.value) (term_of body.now.value) }
+    ensures { IfOk result (λ b. b ≡ plain.is_given (type_of ty.now) (plain.of_one (plain.type_function_given (context_of ctx.now) (read_shape entries (shape_of bound.now.value)) (act_term (reading.reading entries) 1 (term_of body.now.value))) (claims_of (premises_of premises.now)))) }
 {
     match one_type(premises) {
         Some(gives) => {
-            let result = given::type_function_given(alloc, ctx, node, bound, body, gives)?;
+            let limit = read_shape(alloc, bound, entries)?;
+            let set = captured(alloc, node, entries)?;
+            let result = given::type_function_given(alloc, ctx, limit, set, gives)?;
             Ok(is_given(ty, &result))
         }
         None => Ok(false),
@@ -109,17 +130,19 @@ fn type_application(
     alloc: Global,
     ctx: &Ctx,
     argument: &Rc<Shape>,
+    entries: u32,
     premises: &Premises,
     ty: &Ty,
 ) -> Result<bool, AllocError>
-    ensures { IfOk result (λ b. b ≡ plain.is_given (type_of ty.now) (plain.of_type_and_shapes (λ head left right. plain.type_application_given (context_of ctx.now) (shape_of argument.now.value) head.shape left right) (claims_of (premises_of premises.now)))) }
+    ensures { IfOk result (λ b. b ≡ plain.is_given (type_of ty.now) (plain.of_type_and_shapes (λ head left right. plain.type_application_given (context_of ctx.now) (read_shape entries (shape_of argument.now.value)) head.shape left right) (claims_of (premises_of premises.now)))) }
 {
     match type_and_shapes(premises) {
         Some((head, left, right)) => {
+            let argument = read_shape(alloc, argument, entries)?;
             let result = given::type_application_given(
                 alloc,
                 ctx,
-                argument,
+                &argument,
                 &head.shape,
                 left,
                 right,
@@ -142,24 +165,40 @@ fn boxed(alloc: Global, premises: &Premises, ty: &Ty) -> Result<bool, AllocError
     }
 }
 
-fn unboxing(ctx: &Ctx, set: &CapSet, premises: &Premises, ty: &Ty) -> Result<bool, AllocError>
-    ensures { IfOk result (λ b. b ≡ plain.is_given (type_of ty.now) (plain.of_one (λ head. plain.unboxing_given (context_of ctx.now) set.now head.shape) (claims_of (premises_of premises.now)))) }
+fn unboxing(
+    alloc: Global,
+    ctx: &Ctx,
+    set: &CapSet,
+    entries: u32,
+    premises: &Premises,
+    ty: &Ty,
+) -> Result<bool, AllocError>
+    ensures { IfOk result (λ b. b ≡ plain.is_given (type_of ty.now) (plain.of_one (λ head. plain.unboxing_given (context_of ctx.now) (reading.read_set entries set.now) head.shape) (claims_of (premises_of premises.now)))) }
 {
     match one_type(premises) {
         Some(head) => {
-            let result = given::unboxing_given(ctx, set, &head.shape)?;
+            let set = read_set(alloc, set, entries)?;
+            let result = given::unboxing_given(ctx, &set, &head.shape)?;
             Ok(is_given(ty, &result))
         }
         None => Ok(false),
     }
 }
 
-fn named(ctx: &Ctx, note: &Note, premises: &Premises, ty: &Ty) -> Result<bool, AllocError>
-    ensures { IfOk result (λ b. b ≡ plain.is_given (type_of ty.now) (plain.of_two (plain.let_given (context_of ctx.now) (note_of note.now)) (claims_of (premises_of premises.now)))) }
+fn named(
+    alloc: Global,
+    ctx: &Ctx,
+    note: &Note,
+    entries: u32,
+    premises: &Premises,
+    ty: &Ty,
+) -> Result<bool, AllocError>
+    ensures { IfOk result (λ b. b ≡ plain.is_given (type_of ty.now) (plain.of_two (plain.let_given (context_of ctx.now) (act_note (reading.reading entries) 0 (note_of note.now))) (claims_of (premises_of premises.now)))) }
 {
     match two_types(premises) {
         Some((bound, body)) => {
-            let result = given::let_given(ctx, note, bound, body)?;
+            let note = act_note(alloc, &Action::Read(entries), 0, note)?;
+            let result = given::let_given(ctx, &note, bound, body)?;
             Ok(is_given(ty, &result))
         }
         None => Ok(false),
@@ -188,12 +227,19 @@ fn primitive(
     }
 }
 
-fn choice(written: &Ty, premises: &Premises, ty: &Ty) -> Result<bool, AllocError>
-    ensures { IfOk result (λ b. b ≡ plain.is_given (type_of ty.now) (plain.of_three (λ head first second. plain.choice_given (type_of written.now) head.shape first second) (claims_of (premises_of premises.now)))) }
+fn choice(
+    alloc: Global,
+    written: &Ty,
+    entries: u32,
+    premises: &Premises,
+    ty: &Ty,
+) -> Result<bool, AllocError>
+    ensures { IfOk result (λ b. b ≡ plain.is_given (type_of ty.now) (plain.of_three (λ head first second. plain.choice_given (read_type entries (type_of written.now)) head.shape first second) (claims_of (premises_of premises.now)))) }
 {
     match three_types(premises) {
         Some((test, positive, negative)) => {
-            let result = given::choice_given(written, &test.shape, positive, negative)?;
+            let written = read_type(alloc, written, entries)?;
+            let result = given::choice_given(&written, &test.shape, positive, negative)?;
             Ok(is_given(ty, &result))
         }
         None => Ok(false),
@@ -250,14 +296,16 @@ fn boundary(
     alloc: Global,
     ctx: &Ctx,
     gives: &Rc<Shape>,
+    entries: u32,
     premises: &Premises,
     ty: &Ty,
 ) -> Result<bool, AllocError>
-    ensures { IfOk result (λ b. b ≡ plain.is_given (type_of ty.now) (plain.of_one (plain.boundary_given (context_of ctx.now) (shape_of gives.now.value)) (claims_of (premises_of premises.now)))) }
+    ensures { IfOk result (λ b. b ≡ plain.is_given (type_of ty.now) (plain.of_one (plain.boundary_given (context_of ctx.now) (read_shape entries (shape_of gives.now.value))) (claims_of (premises_of premises.now)))) }
 {
     match one_type(premises) {
         Some(inner) => {
-            let result = given::boundary_given(alloc, ctx, gives, inner)?;
+            let gives = read_shape(alloc, gives, entries)?;
+            let result = given::boundary_given(alloc, ctx, &gives, inner)?;
             Ok(is_given(ty, &result))
         }
         None => Ok(false),
@@ -268,14 +316,16 @@ fn exit(
     alloc: Global,
     ctx: &Ctx,
     gives: &Ty,
+    entries: u32,
     premises: &Premises,
     ty: &Ty,
 ) -> Result<bool, AllocError>
-    ensures { IfOk result (λ b. b ≡ plain.is_given (type_of ty.now) (plain.of_two (λ head given. plain.exit_given (context_of ctx.now) (type_of gives.now) head.shape given) (claims_of (premises_of premises.now)))) }
+    ensures { IfOk result (λ b. b ≡ plain.is_given (type_of ty.now) (plain.of_two (λ head given. plain.exit_given (context_of ctx.now) (read_type entries (type_of gives.now)) head.shape given) (claims_of (premises_of premises.now)))) }
 {
     match two_types(premises) {
         Some((exit, value)) => {
-            let result = given::exit_given(alloc, ctx, gives, &exit.shape, value)?;
+            let gives = read_type(alloc, gives, entries)?;
+            let result = given::exit_given(alloc, ctx, &gives, &exit.shape, value)?;
             Ok(is_given(ty, &result))
         }
         None => Ok(false),
@@ -294,23 +344,24 @@ fn subsumption(ctx: &Ctx, premises: &Premises, ty: &Ty) -> Result<bool, AllocErr
     }
 }
 
-/// Whether a node of a typing of the term, by the rule and with these premises, is an instance of its rule where it
-/// claims the type. It is none where the rule is not one for the term.
+/// Whether a node of a typing of the term, as it is read among so many entries, by the rule and with these premises, is
+/// an instance of its rule where it claims the type. It is none where the rule is not one for the term.
 ///
 /// Fails only for want of memory.
 pub fn typing_instance(
     alloc: Global,
     ctx: &Ctx,
     node: &Node,
+    entries: u32,
     rule: Rule,
     premises: &Premises,
     ty: &Ty,
 ) -> Result<bool, AllocError>
-    ensures { IfOk result (λ b. b ≡ instance_of (plain.typing_row (context_of ctx.now) (rule_of rule) (term_of node.now) (type_of ty.now)) (claims_of (premises_of premises.now))) }
+    ensures { IfOk result (λ b. b ≡ instance_of (plain.typing_row (context_of ctx.now) (rule_of rule) (read_term entries (term_of node.now)) (type_of ty.now)) (claims_of (premises_of premises.now))) }
 {
     match rule {
         Rule::Variable => match &node.form {
-            Form::Var(name) => variable(alloc, ctx, *name, ty),
+            Form::Var(name) => variable(alloc, ctx, read_variable(entries, 0, *name), ty),
             _ => Ok(false),
         },
         Rule::Literal => match &node.form {
@@ -318,19 +369,30 @@ pub fn typing_instance(
             _ => Ok(false),
         },
         Rule::Function => match &node.form {
-            Form::Fun(takes, body) => function(alloc, ctx, node, takes, body, premises, ty),
+            Form::Fun(takes, body) => function(
+                alloc, ctx, node, takes, body, entries, premises, ty,
+            ),
             _ => Ok(false),
         },
         Rule::TypeFunction => match &node.form {
-            Form::TFun(bound, body) => type_function(alloc, ctx, node, bound, body, premises, ty),
+            Form::TFun(bound, body) => type_function(
+                alloc, ctx, node, bound, body, entries, premises, ty,
+            ),
             _ => Ok(false),
         },
         Rule::Application => match &node.form {
-            Form::App(_, argument) => application(alloc, *argument, premises, ty),
+            Form::App(_, argument) => application(
+                alloc,
+                read_variable(entries, 0, *argument),
+                premises,
+                ty,
+            ),
             _ => Ok(false),
         },
         Rule::TypeApplication => match &node.form {
-            Form::TApp(_, argument) => type_application(alloc, ctx, argument, premises, ty),
+            Form::TApp(_, argument) => type_application(
+                alloc, ctx, argument, entries, premises, ty,
+            ),
             _ => Ok(false),
         },
         Rule::Boxing => match &node.form {
@@ -339,13 +401,13 @@ pub fn typing_instance(
         },
         Rule::Unboxing => match &node.form {
             Form::Unbox(set, _) => match set {
-                Some(set) => unboxing(ctx, set, premises, ty),
+                Some(set) => unboxing(alloc, ctx, set, entries, premises, ty),
                 None => Ok(false),
             },
             _ => Ok(false),
         },
         Rule::Let => match &node.form {
-            Form::Let(note, _, _) => named(ctx, note, premises, ty),
+            Form::Let(note, _, _) => named(alloc, ctx, note, entries, premises, ty),
             _ => Ok(false),
         },
         Rule::Primitive => match &node.form {
@@ -354,7 +416,7 @@ pub fn typing_instance(
         },
         Rule::Choice => match &node.form {
             Form::If(note, _, _, _) => match note {
-                Note::Written(written) => choice(written, premises, ty),
+                Note::Written(written) => choice(alloc, written, entries, premises, ty),
                 _ => Ok(false),
             },
             _ => Ok(false),
@@ -371,11 +433,11 @@ pub fn typing_instance(
             _ => Ok(false),
         },
         Rule::Boundary => match &node.form {
-            Form::Boundary(gives, _) => boundary(alloc, ctx, gives, premises, ty),
+            Form::Boundary(gives, _) => boundary(alloc, ctx, gives, entries, premises, ty),
             _ => Ok(false),
         },
         Rule::Exit => match &node.form {
-            Form::Leave(gives, _, _) => exit(alloc, ctx, gives, premises, ty),
+            Form::Leave(gives, _, _) => exit(alloc, ctx, gives, entries, premises, ty),
             _ => Ok(false),
         },
         Rule::Subsumption => subsumption(ctx, premises, ty),

@@ -1,1 +1,2 @@
 pub mod AlikePlaces
+pub mod ReadTerms

@@ -1,5 +1,6 @@
 -- The places that the program's values stand for, and what a row says of them.
 use Rattle.std.specs.Prelude.{List, [], ◌∷◌, Option, Some, None}
+use Rattle.cc_core.specs.Reading.{read_term}
 use Rattle.cc_core.specs.Views.{term_of, context_of}
 use Rattle.cc_core.specs.Derivations.{Claim}
 use Rattle.cc_meta_validity.specs.Rows.{Place, Nowhere, TypeOf, SetsBelow, ShapesBelow, TypesBelow, Row}
@@ -11,7 +12,7 @@ use Rattle.cc_premise_places.specs.declared.places.Spots.TheVariants as lists
 -- the place
 abbrev pub place_of : Spot → Place
 place_of spots.Nowhere = Nowhere
-place_of (spots.TypeOf ctx node) = TypeOf (context_of ctx) (term_of node.value)
+place_of (spots.TypeOf ctx node entries) = TypeOf (context_of ctx) (read_term entries (term_of node.value))
 place_of (spots.Sets ctx) = SetsBelow (context_of ctx)
 place_of (spots.Shapes ctx) = ShapesBelow (context_of ctx)
 place_of (spots.Types ctx) = TypesBelow (context_of ctx)

@@ -8,8 +8,8 @@ use std::rc::Rc;
 pub enum Spot {
     /// Nothing can be said of it.
     Nowhere,
-    /// A type of the term.
-    TypeOf(Ctx, Rc<Node>),
+    /// A type of the term as it is read among so many entries.
+    TypeOf(Ctx, Rc<Node>, u32),
     /// That a set is below another.
     Sets(Ctx),
     /// That a shape is below another.

@@ -1,12 +1,14 @@
 //! The places of the premises of a node.
 
-ghost use Rattle.std.specs.Prelude.{◌≡◌, Some, List, [], ◌∷◌, length, drop, map, option_map, IfOk};
+ghost use Rattle.std.specs.Prelude.{◌≡◌, ℕ, Some, List, [], ◌∷◌, length, drop, map, option_map, IfOk};
 ghost use Rattle.cc_capture.specs.declared.var.Elem.TheVariants.{Cap};
 ghost use Rattle.cc_capture.specs.Sets.{Set};
-ghost use Rattle.cc_core.specs.Contexts.{TermEntry, TypeEntry};
+ghost use Rattle.cc_core.specs.Contexts.{TermEntry, TypeEntry, entry_of};
 ghost use Rattle.cc_core.specs.Derivations as derivations;
+ghost use Rattle.cc_core.specs.Reading.{reading, read_variable, read_shape, read_type, read_term};
 ghost use Rattle.cc_core.specs.Shapes.{CapturingType, ExitShape};
-ghost use Rattle.cc_core.specs.Substitution.{single};
+ghost use Rattle.cc_core.specs.Substitution.{single, opened_term};
+ghost use Rattle.cc_core.specs.Traversal.{act_term};
 ghost use Rattle.cc_core.specs.Views.{shape_of, type_of, term_of, bind_of, context_of};
 ghost use Rattle.cc_derivation.specs.Views.{rule_of, premises_of};
 ghost use Rattle.cc_meta_validity.specs.Broken.{claims_of, are_as_many};
@@ -15,8 +17,11 @@ ghost use Rattle.cc_premise_places.specs.Spots.{place_of, places_of, places_in};
 
 use crate::places::{Spot, Spots};
 use cc_capture::{CapSet, Elem, Var};
+use cc_core::acting::{Action, act_node};
+use cc_core::reading::{read_shape, read_type};
 use cc_core::same::same_shape;
 use cc_core::substitution::instantiate_term;
+use cc_core::wellformed::wf_term;
 use cc_core::{Bind, Ctx, Form, Node, Note, Shape, Ty};
 use cc_derivation::{Claim, Premises, Rule};
 use cc_instances::comparisons::{element_at, only_element};
@@ -24,7 +29,7 @@ use std::alloc::{AllocError, Global};
 use std::rc::Rc;
 
 // How many entries the context has.
-fn entries(ctx: &Ctx) -> u32
+fn entries_of(ctx: &Ctx) -> u32
     ensures { result ≡ length (context_of ctx.now) }
 {
     ctx.len()
@@ -53,13 +58,32 @@ fn three(alloc: Global, first: Spot, second: Spot, third: Spot) -> Result<Spots,
     Ok(Spots::More(first, Rc::new(alloc, rest)?))
 }
 
+// Among how many entries the term is read as it is: all of the context, where each of its variables has its entry or its
+// binder.
+fn entries_read(ctx: &Ctx, node: &Node) -> u32
+    ensures { read_term result (term_of node.now) ≡ term_of node.now }
+{
+    if wf_term(ctx, node) {
+        entries_of(ctx)
+    } else {
+        0
+    }
+}
+
+// The place of the term as it is read among so many entries.
+fn typing_read(ctx: &Ctx, node: &Rc<Node>, entries: u32) -> Result<Spot, AllocError>
+    ensures { IfOk result (λ s. place_of s ≡ plain.TypeOf (context_of ctx.now) (read_term entries (term_of node.now.value))) }
+{
+    let ctx = ctx.clone()?;
+    let node = node.clone()?;
+    Ok(Spot::TypeOf(ctx, node, entries))
+}
+
 /// The place of the term in the context. Fails only for want of memory.
 pub fn typing(ctx: &Ctx, node: &Rc<Node>) -> Result<Spot, AllocError>
     ensures { IfOk result (λ s. place_of s ≡ plain.TypeOf (context_of ctx.now) (term_of node.now.value)) }
 {
-    let ctx = ctx.clone()?;
-    let node = node.clone()?;
-    Ok(Spot::TypeOf(ctx, node))
+    typing_read(ctx, node, entries_read(ctx, node))
 }
 
 // The place of a comparison of sets.
@@ -91,9 +115,15 @@ fn types_under(alloc: Global, ctx: &Ctx, bind: Bind) -> Result<Spot, AllocError>
     Ok(Spot::Types(inner))
 }
 
-// The place of a variable that stands in the term at the node.
-fn operand(alloc: Global, ctx: &Ctx, node: &Node, variable: Var) -> Result<Spot, AllocError>
-    ensures { IfOk result (λ s. place_of s ≡ plain.operand (context_of ctx.now) variable) }
+// The place of a variable that stands in the term at the node, as it is read among so many entries.
+fn operand(
+    alloc: Global,
+    ctx: &Ctx,
+    node: &Node,
+    variable: Var,
+    entries: u32,
+) -> Result<Spot, AllocError>
+    ensures { IfOk result (λ s. place_of s ≡ plain.operand (context_of ctx.now) (read_variable entries 0 variable)) }
 {
     let name = Node {
         form: Form::Var(variable),
@@ -102,16 +132,59 @@ fn operand(alloc: Global, ctx: &Ctx, node: &Node, variable: Var) -> Result<Spot,
         second: node.second,
     };
     let ctx = ctx.clone()?;
-    Ok(Spot::TypeOf(ctx, Rc::new(alloc, name)?))
+    Ok(Spot::TypeOf(ctx, Rc::new(alloc, name)?, entries))
 }
 
-// The place of a body under a binder of the entry.
-fn under(alloc: Global, ctx: &Ctx, bind: Bind, body: &Rc<Node>) -> Result<Spot, AllocError>
-    ensures { IfOk result (λ s. place_of s ≡ plain.under (context_of ctx.now) (bind_of bind) (term_of body.now.value)) }
+// The place of a body under a binder of the entry, where all entries of the context are read: the binder's is read too,
+// so the body is shared.
+fn under_read(alloc: Global, ctx: &Ctx, bind: Bind, body: &Rc<Node>) -> Result<Spot, AllocError>
+    ensures { IfOk result (λ s. (entries : ℕ) → entries ≡ length (context_of ctx.now)
+        → place_of s ≡ plain.under (context_of ctx.now) (bind_of bind) (act_term (reading entries) 1 (term_of body.now.value))) }
 {
-    let body = instantiate_term(alloc, body, entries(ctx))?;
     let inner = ctx.push(alloc, bind)?;
-    Ok(Spot::TypeOf(inner, body))
+    let body = body.clone()?;
+    let entries = entries_of(&inner);
+    Ok(Spot::TypeOf(inner, body, entries))
+}
+
+// The body with the position of the next entry in the place of its binder, where so many entries are read.
+fn opened(alloc: Global, ctx: &Ctx, body: &Rc<Node>, entries: u32) -> Result<Rc<Node>, AllocError>
+    ensures { IfOk result (λ n. term_of n.value ≡ opened_term (length (context_of ctx.now)) (act_term (reading entries) 1 (term_of body.now.value))) }
+{
+    let read = act_node(alloc, &Action::Read(entries), 1, body)?;
+    instantiate_term(alloc, &read, entries_of(ctx))
+}
+
+// The place of a body under a binder of the entry, where so many entries are read: the body is copied.
+fn under_opened(
+    alloc: Global,
+    ctx: &Ctx,
+    bind: Bind,
+    body: &Rc<Node>,
+    entries: u32,
+) -> Result<Spot, AllocError>
+    ensures { IfOk result (λ s. place_of s ≡ plain.under (context_of ctx.now) (bind_of bind) (act_term (reading entries) 1 (term_of body.now.value))) }
+{
+    let body = opened(alloc, ctx, body, entries)?;
+    let inner = ctx.push(alloc, bind)?;
+    Ok(Spot::TypeOf(inner, body, 0))
+}
+
+// The place of a body under a binder of the entry, where so many entries are read outside of it.
+fn under(
+    alloc: Global,
+    ctx: &Ctx,
+    bind: Bind,
+    body: &Rc<Node>,
+    entries: u32,
+) -> Result<Spot, AllocError>
+    ensures { IfOk result (λ s. place_of s ≡ plain.under (context_of ctx.now) (bind_of bind) (act_term (reading entries) 1 (term_of body.now.value))) }
+{
+    if entries == entries_of(ctx) {
+        under_read(alloc, ctx, bind, body)
+    } else {
+        under_opened(alloc, ctx, bind, body, entries)
+    }
 }
 
 // The place of the body of a let, whose variable has the type that the first premise claims.
@@ -119,14 +192,15 @@ fn body_place(
     alloc: Global,
     ctx: &Ctx,
     body: &Rc<Node>,
+    entries: u32,
     premises: &Premises,
 ) -> Result<Spot, AllocError>
-    ensures { IfOk result (λ s. place_of s ≡ plain.body_place (context_of ctx.now) (term_of body.now.value) (claims_of (premises_of premises.now))) }
+    ensures { IfOk result (λ s. place_of s ≡ plain.body_place (context_of ctx.now) (act_term (reading entries) 1 (term_of body.now.value)) (claims_of (premises_of premises.now))) }
 {
     match premises {
         Premises::End => Ok(Spot::Nowhere),
         Premises::More(first, _) => match &first.claim {
-            Claim::Typed(ty) => under(alloc, ctx, Bind::Var(ty.clone()?), body),
+            Claim::Typed(ty) => under(alloc, ctx, Bind::Var(ty.clone()?), body, entries),
             _ => Ok(Spot::Nowhere),
         },
     }
@@ -138,10 +212,12 @@ fn function(
     ctx: &Ctx,
     takes: &Rc<Ty>,
     body: &Rc<Node>,
+    entries: u32,
 ) -> Result<Option<Spots>, AllocError>
-    ensures { IfOk result (λ o. option_map places_of o ≡ Some (plain.under (context_of ctx.now) (TermEntry (shape_of takes.now.value.shape.value) takes.now.value.set) (term_of body.now.value) ∷ [])) }
+    ensures { IfOk result (λ o. option_map places_of o ≡ Some (plain.under (context_of ctx.now) (entry_of (read_type entries (type_of takes.now.value))) (act_term (reading entries) 1 (term_of body.now.value)) ∷ [])) }
 {
-    let first = under(alloc, ctx, Bind::Var((**takes).clone()?), body)?;
+    let taken = read_type(alloc, takes, entries)?;
+    let first = under(alloc, ctx, Bind::Var(taken), body, entries)?;
     let spots = one(alloc, first)?;
     Ok(Some(spots))
 }
@@ -152,10 +228,12 @@ fn type_function(
     ctx: &Ctx,
     bound: &Rc<Shape>,
     body: &Rc<Node>,
+    entries: u32,
 ) -> Result<Option<Spots>, AllocError>
-    ensures { IfOk result (λ o. option_map places_of o ≡ Some (plain.under (context_of ctx.now) (TypeEntry (shape_of bound.now.value)) (term_of body.now.value) ∷ [])) }
+    ensures { IfOk result (λ o. option_map places_of o ≡ Some (plain.under (context_of ctx.now) (TypeEntry (read_shape entries (shape_of bound.now.value))) (act_term (reading entries) 1 (term_of body.now.value)) ∷ [])) }
 {
-    let first = under(alloc, ctx, Bind::TVar(bound.clone()?), body)?;
+    let limit = read_shape(alloc, bound, entries)?;
+    let first = under(alloc, ctx, Bind::TVar(limit), body, entries)?;
     let spots = one(alloc, first)?;
     Ok(Some(spots))
 }
@@ -166,13 +244,15 @@ fn boundary(
     ctx: &Ctx,
     gives: &Rc<Shape>,
     body: &Rc<Node>,
+    entries: u32,
 ) -> Result<Option<Spots>, AllocError>
-    ensures { IfOk result (λ o. option_map places_of o ≡ Some (plain.under (context_of ctx.now) (TermEntry (ExitShape (shape_of gives.now.value)) (single Cap)) (term_of body.now.value) ∷ [])) }
+    ensures { IfOk result (λ o. option_map places_of o ≡ Some (plain.under (context_of ctx.now) (TermEntry (ExitShape (read_shape entries (shape_of gives.now.value))) (single Cap)) (act_term (reading entries) 1 (term_of body.now.value)) ∷ [])) }
 {
-    let shape = Rc::new(alloc, Shape::Exit(gives.clone()?))?;
+    let given = read_shape(alloc, gives, entries)?;
+    let shape = Rc::new(alloc, Shape::Exit(given))?;
     let mut set = CapSet::new(alloc);
     set.insert(Elem::Cap)?;
-    let first = under(alloc, ctx, Bind::Var(Ty { shape, set }), body)?;
+    let first = under(alloc, ctx, Bind::Var(Ty { shape, set }), body, entries)?;
     let spots = one(alloc, first)?;
     Ok(Some(spots))
 }
@@ -183,10 +263,11 @@ fn operand_alone(
     ctx: &Ctx,
     node: &Node,
     first: Var,
+    entries: u32,
 ) -> Result<Option<Spots>, AllocError>
-    ensures { IfOk result (λ o. option_map places_of o ≡ Some (plain.operand (context_of ctx.now) first ∷ [])) }
+    ensures { IfOk result (λ o. option_map places_of o ≡ Some (plain.operand (context_of ctx.now) (read_variable entries 0 first) ∷ [])) }
 {
-    let first = operand(alloc, ctx, node, first)?;
+    let first = operand(alloc, ctx, node, first, entries)?;
     let spots = one(alloc, first)?;
     Ok(Some(spots))
 }
@@ -198,11 +279,12 @@ fn operands(
     node: &Node,
     first: Var,
     second: Var,
+    entries: u32,
 ) -> Result<Option<Spots>, AllocError>
-    ensures { IfOk result (λ o. option_map places_of o ≡ Some (plain.operand (context_of ctx.now) first ∷ plain.operand (context_of ctx.now) second ∷ [])) }
+    ensures { IfOk result (λ o. option_map places_of o ≡ Some (plain.operand (context_of ctx.now) (read_variable entries 0 first) ∷ plain.operand (context_of ctx.now) (read_variable entries 0 second) ∷ [])) }
 {
-    let first = operand(alloc, ctx, node, first)?;
-    let second = operand(alloc, ctx, node, second)?;
+    let first = operand(alloc, ctx, node, first, entries)?;
+    let second = operand(alloc, ctx, node, second, entries)?;
     let spots = two(alloc, first, second)?;
     Ok(Some(spots))
 }
@@ -213,10 +295,11 @@ fn type_application(
     ctx: &Ctx,
     node: &Node,
     head: Var,
+    entries: u32,
 ) -> Result<Option<Spots>, AllocError>
-    ensures { IfOk result (λ o. option_map places_of o ≡ Some (plain.operand (context_of ctx.now) head ∷ plain.ShapesBelow (context_of ctx.now) ∷ [])) }
+    ensures { IfOk result (λ o. option_map places_of o ≡ Some (plain.operand (context_of ctx.now) (read_variable entries 0 head) ∷ plain.ShapesBelow (context_of ctx.now) ∷ [])) }
 {
-    let first = operand(alloc, ctx, node, head)?;
+    let first = operand(alloc, ctx, node, head, entries)?;
     let second = shapes(ctx)?;
     let spots = two(alloc, first, second)?;
     Ok(Some(spots))
@@ -228,12 +311,13 @@ fn named(
     ctx: &Ctx,
     right: &Rc<Node>,
     body: &Rc<Node>,
+    entries: u32,
     premises: &Premises,
 ) -> Result<Option<Spots>, AllocError>
-    ensures { IfOk result (λ o. option_map places_of o ≡ Some (plain.TypeOf (context_of ctx.now) (term_of right.now.value) ∷ plain.body_place (context_of ctx.now) (term_of body.now.value) (claims_of (premises_of premises.now)) ∷ [])) }
+    ensures { IfOk result (λ o. option_map places_of o ≡ Some (plain.TypeOf (context_of ctx.now) (read_term entries (term_of right.now.value)) ∷ plain.body_place (context_of ctx.now) (act_term (reading entries) 1 (term_of body.now.value)) (claims_of (premises_of premises.now)) ∷ [])) }
 {
-    let first = typing(ctx, right)?;
-    let second = body_place(alloc, ctx, body, premises)?;
+    let first = typing_read(ctx, right, entries)?;
+    let second = body_place(alloc, ctx, body, entries, premises)?;
     let spots = two(alloc, first, second)?;
     Ok(Some(spots))
 }
@@ -246,35 +330,43 @@ fn choice(
     test: Var,
     positive: &Rc<Node>,
     negative: &Rc<Node>,
+    entries: u32,
 ) -> Result<Option<Spots>, AllocError>
-    ensures { IfOk result (λ o. option_map places_of o ≡ Some (plain.operand (context_of ctx.now) test ∷ plain.TypeOf (context_of ctx.now) (term_of positive.now.value) ∷ plain.TypeOf (context_of ctx.now) (term_of negative.now.value) ∷ [])) }
+    ensures { IfOk result (λ o. option_map places_of o ≡ Some (plain.operand (context_of ctx.now) (read_variable entries 0 test) ∷ plain.TypeOf (context_of ctx.now) (read_term entries (term_of positive.now.value)) ∷ plain.TypeOf (context_of ctx.now) (read_term entries (term_of negative.now.value)) ∷ [])) }
 {
-    let first = operand(alloc, ctx, node, test)?;
-    let second = typing(ctx, positive)?;
-    let third = typing(ctx, negative)?;
+    let first = operand(alloc, ctx, node, test, entries)?;
+    let second = typing_read(ctx, positive, entries)?;
+    let third = typing_read(ctx, negative, entries)?;
     let spots = three(alloc, first, second, third)?;
     Ok(Some(spots))
 }
 
 // The places of the term itself, and of the comparison of its types.
-fn subsumption(alloc: Global, ctx: &Ctx, node: &Rc<Node>) -> Result<Option<Spots>, AllocError>
-    ensures { IfOk result (λ o. option_map places_of o ≡ Some (plain.TypeOf (context_of ctx.now) (term_of node.now.value) ∷ plain.TypesBelow (context_of ctx.now) ∷ [])) }
+fn subsumption(
+    alloc: Global,
+    ctx: &Ctx,
+    node: &Rc<Node>,
+    entries: u32,
+) -> Result<Option<Spots>, AllocError>
+    ensures { IfOk result (λ o. option_map places_of o ≡ Some (plain.TypeOf (context_of ctx.now) (read_term entries (term_of node.now.value)) ∷ plain.TypesBelow (context_of ctx.now) ∷ [])) }
 {
-    let first = typing(ctx, node)?;
+    let first = typing_read(ctx, node, entries)?;
     let second = types(ctx)?;
     let spots = two(alloc, first, second)?;
     Ok(Some(spots))
 }
 
-/// The places of the premises of a typing by the rule, if the rule is one for the term. Fails only for want of memory.
+/// The places of the premises of a typing by the rule, if the rule is one for the term, as it is read among so many
+/// entries. Fails only for want of memory.
 pub fn typing_places(
     alloc: Global,
     ctx: &Ctx,
     node: &Rc<Node>,
+    entries: u32,
     rule: Rule,
     premises: &Premises,
 ) -> Result<Option<Spots>, AllocError>
-    ensures { IfOk result (λ o. (type : CapturingType) → option_map places_of o ≡ places_in (plain.typing_row (context_of ctx.now) (rule_of rule) (term_of node.now.value) type) (claims_of (premises_of premises.now))) }
+    ensures { IfOk result (λ o. (type : CapturingType) → option_map places_of o ≡ places_in (plain.typing_row (context_of ctx.now) (rule_of rule) (read_term entries (term_of node.now.value)) type) (claims_of (premises_of premises.now))) }
 {
     match rule {
         Rule::Variable => match &node.form {
@@ -286,67 +378,67 @@ pub fn typing_places(
             _ => Ok(None),
         },
         Rule::Function => match &node.form {
-            Form::Fun(takes, body) => function(alloc, ctx, takes, body),
+            Form::Fun(takes, body) => function(alloc, ctx, takes, body, entries),
             _ => Ok(None),
         },
         Rule::TypeFunction => match &node.form {
-            Form::TFun(bound, body) => type_function(alloc, ctx, bound, body),
+            Form::TFun(bound, body) => type_function(alloc, ctx, bound, body, entries),
             _ => Ok(None),
         },
         Rule::Application => match &node.form {
-            Form::App(head, argument) => operands(alloc, ctx, node, *head, *argument),
+            Form::App(head, argument) => operands(alloc, ctx, node, *head, *argument, entries),
             _ => Ok(None),
         },
         Rule::TypeApplication => match &node.form {
-            Form::TApp(head, _) => type_application(alloc, ctx, node, *head),
+            Form::TApp(head, _) => type_application(alloc, ctx, node, *head, entries),
             _ => Ok(None),
         },
         Rule::Boxing => match &node.form {
-            Form::Boxed(content) => operand_alone(alloc, ctx, node, *content),
+            Form::Boxed(content) => operand_alone(alloc, ctx, node, *content, entries),
             _ => Ok(None),
         },
         Rule::Unboxing => match &node.form {
             Form::Unbox(set, content) => match set {
-                Some(_) => operand_alone(alloc, ctx, node, *content),
+                Some(_) => operand_alone(alloc, ctx, node, *content, entries),
                 None => Ok(None),
             },
             _ => Ok(None),
         },
         Rule::Let => match &node.form {
-            Form::Let(_, right, body) => named(alloc, ctx, right, body, premises),
+            Form::Let(_, right, body) => named(alloc, ctx, right, body, entries, premises),
             _ => Ok(None),
         },
         Rule::Primitive => match &node.form {
-            Form::Prim(_, left, right) => operands(alloc, ctx, node, *left, *right),
+            Form::Prim(_, left, right) => operands(alloc, ctx, node, *left, *right, entries),
             _ => Ok(None),
         },
         Rule::Choice => match &node.form {
             Form::If(note, test, positive, negative) => match note {
-                Note::Written(_) => choice(alloc, ctx, node, *test, positive, negative),
+                Note::Written(_) => choice(alloc, ctx, node, *test, positive, negative, entries),
                 _ => Ok(None),
             },
             _ => Ok(None),
         },
         Rule::Repetition => match &node.form {
-            Form::Repeat(count, function) => operands(alloc, ctx, node, *count, *function),
+            Form::Repeat(count, function) => operands(alloc, ctx, node, *count, *function, entries),
             _ => Ok(None),
         },
         Rule::Operation => match &node.form {
             Form::Operate(_, receiver, argument) => match argument {
-                Some(argument) => operands(alloc, ctx, node, *receiver, *argument),
-                None => operand_alone(alloc, ctx, node, *receiver),
+                Some(argument) => operands(alloc, ctx, node, *receiver, *argument, entries),
+                None => operand_alone(alloc, ctx, node, *receiver, entries),
             },
             _ => Ok(None),
         },
         Rule::Boundary => match &node.form {
-            Form::Boundary(gives, body) => boundary(alloc, ctx, gives, body),
+            Form::Boundary(gives, body) => boundary(alloc, ctx, gives, body, entries),
             _ => Ok(None),
         },
         Rule::Exit => match &node.form {
-            Form::Leave(_, exit, value) => operands(alloc, ctx, node, *exit, *value),
+            Form::Leave(_, exit, value) => operands(alloc, ctx, node, *exit, *value, entries),
             _ => Ok(None),
         },
-        Rule::Subsumption => subsumption(alloc, ctx, node),
+        Rule::Subsumption => subsumption(alloc, ctx, node, entries),
         _ => Ok(None),
     }
 }
@@ -546,7 +638,7 @@ pub fn same_place(spot: &Spot) -> Result<Spot, AllocError>
 {
     match spot {
         Spot::Nowhere => Ok(Spot::Nowhere),
-        Spot::TypeOf(ctx, node) => typing(ctx, node),
+        Spot::TypeOf(ctx, node, entries) => typing_read(ctx, node, *entries),
         Spot::Sets(ctx) => sets(ctx),
         Spot::Shapes(ctx) => shapes(ctx),
         Spot::Types(ctx) => types(ctx),

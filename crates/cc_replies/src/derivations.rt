@@ -13,7 +13,7 @@ use cc_base::code::Code;
 use cc_base::name::Name;
 use cc_certificate::put_cert;
 use cc_core::{Checked, Ctx};
-use cc_derive::{der_size, derive};
+use cc_derive::{derive, has_more_nodes};
 use cc_print::Names;
 use std::alloc::{AllocError, Global};
 
@@ -52,13 +52,11 @@ pub fn derive_reply(
     requires { IsAcceptedIn (context_of ctx.now) checked.now }
     ensures { IfOk result (λ text. option_map string_bytes text ≡ shown_derivation «module».now def.now names.now.names.items (context_of ctx.now) (accepted_of checked.now)) }
 {
-    let nodes = der_size(alloc, ctx, checked)?;
-    if nodes <= 100_000 {
-        let text = whole_reply(alloc, module, def, names, ctx, checked)?;
-        Ok(Some(text))
-    } else {
-        Ok(None)
+    if has_more_nodes(alloc, ctx, checked, 100_000)? {
+        return Ok(None);
     }
+    let text = whole_reply(alloc, module, def, names, ctx, checked)?;
+    Ok(Some(text))
 }
 
 /// The reply to such a command that is refused with the code. Fails only for want of memory.

@@ -3,11 +3,11 @@
 ghost use Rattle.std.specs.Prelude.{◌≡◌, Some, option_map, IfOk};
 ghost use Rattle.cc_capture.specs.Sets.{empty};
 ghost use Rattle.cc_base.specs.declared.literal.Base.TheVariants as bases;
-ghost use Rattle.cc_core.specs.Captured.{variable_set};
+ghost use Rattle.cc_core.specs.Captured.{variable_set, captured_variables};
 ghost use Rattle.cc_core.specs.Comparison.{same_shape};
 ghost use Rattle.cc_core.specs.Shapes.{capturing, BaseShape, FunctionShape};
-ghost use Rattle.cc_core.specs.Terms.{FunctionTerm, TypeFunctionTerm};
-ghost use Rattle.cc_core.specs.Views.{shape_of, type_of, note_of, term_of, bind_of, context_of};
+ghost use Rattle.cc_core.specs.Terms.{Term, FunctionTerm, TypeFunctionTerm};
+ghost use Rattle.cc_core.specs.Views.{shape_of, type_of, note_of, bind_of, context_of};
 ghost use Rattle.cc_meta_validity.specs.Rows as plain;
 
 use crate::side::{
@@ -16,12 +16,11 @@ use crate::side::{
 };
 use cc_base::literal::{Base, Op};
 use cc_capture::{CapSet, Elem, Var};
-use cc_core::captured::cv;
 use cc_core::reading::read_shape;
 use cc_core::same::{same_shape, same_type};
 use cc_core::substitution::{close_type, subst_type, subst_var};
 use cc_core::wellformed::{wf, wf_set, wf_shape};
-use cc_core::{Bind, Ctx, Node, Note, Shape, Ty};
+use cc_core::{Bind, Ctx, Note, Shape, Ty};
 use std::alloc::{AllocError, Global};
 use std::rc::Rc;
 
@@ -64,48 +63,44 @@ pub fn variable_given(alloc: Global, ctx: &Ctx, variable: Var) -> Result<Option<
     }
 }
 
-/// The type of a function whose body has the type.
+/// The type of a function that captures the set, whose body has the type.
 pub fn function_given(
     alloc: Global,
     ctx: &Ctx,
-    node: &Node,
-    takes: &Rc<Ty>,
-    body: &Node,
+    takes: Ty,
+    set: CapSet,
     gives: &Ty,
 ) -> Result<Option<Ty>, AllocError>
-    requires { term_of node.now ≡ FunctionTerm (shape_of takes.now.value.shape.value) takes.now.value.set (term_of body.now) }
-    ensures { IfOk result (λ o. option_map type_of o ≡ plain.function_given (context_of ctx.now) (shape_of takes.now.value.shape.value) takes.now.value.set (term_of body.now) (type_of gives.now)) }
+    ensures { IfOk result (λ o. (body : Term) → set ≡ captured_variables (FunctionTerm (type_of takes).shape (type_of takes).set body)
+        → option_map type_of o ≡ plain.function_given (context_of ctx.now) (type_of takes).shape (type_of takes).set body (type_of gives.now)) }
 {
-    if !wf(ctx, takes) {
+    if !wf(ctx, &takes) {
         return Ok(None);
     }
     let gives = close_type(alloc, gives, ctx.len())?;
-    let shape = Shape::Fun(takes.clone()?, Rc::new(alloc, gives)?);
-    let set = cv(alloc, node)?;
+    let shape = Shape::Fun(Rc::new(alloc, takes)?, Rc::new(alloc, gives)?);
     Ok(Some(Ty {
         shape: Rc::new(alloc, shape)?,
         set,
     }))
 }
 
-/// The type of a type function whose body has the type.
+/// The type of a type function that captures the set, whose body has the type.
 pub fn type_function_given(
     alloc: Global,
     ctx: &Ctx,
-    node: &Node,
-    bound: &Rc<Shape>,
-    body: &Node,
+    bound: Rc<Shape>,
+    set: CapSet,
     gives: &Ty,
 ) -> Result<Option<Ty>, AllocError>
-    requires { term_of node.now ≡ TypeFunctionTerm (shape_of bound.now.value) (term_of body.now) }
-    ensures { IfOk result (λ o. option_map type_of o ≡ plain.type_function_given (context_of ctx.now) (shape_of bound.now.value) (term_of body.now) (type_of gives.now)) }
+    ensures { IfOk result (λ o. (body : Term) → set ≡ captured_variables (TypeFunctionTerm (shape_of bound.value) body)
+        → option_map type_of o ≡ plain.type_function_given (context_of ctx.now) (shape_of bound.value) body (type_of gives.now)) }
 {
-    if !wf_shape(ctx, bound) {
+    if !wf_shape(ctx, &bound) {
         return Ok(None);
     }
     let gives = close_type(alloc, gives, ctx.len())?;
-    let shape = Shape::TFun(bound.clone()?, Rc::new(alloc, gives)?);
-    let set = cv(alloc, node)?;
+    let shape = Shape::TFun(bound, Rc::new(alloc, gives)?);
     Ok(Some(Ty {
         shape: Rc::new(alloc, shape)?,
         set,

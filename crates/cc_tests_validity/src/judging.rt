@@ -6,7 +6,7 @@ use crate::making::{
 use cc_capture::{Elem, Var};
 use cc_core::{Base, Bind, Ctx, Form, Lit, Node, Note, Operator, Shape};
 use cc_derivation::{Claim, Der, Rule};
-use cc_derive_subtyping::derive_types;
+use cc_derive_subtyping::{Making, derive_types};
 use std::alloc::{AllocError, Global};
 use std::rc::Rc;
 
@@ -65,7 +65,11 @@ fn a_comparison_that_is_built_is_valid(rt: HostRuntime) -> Result<(), AllocError
     let term = term(alloc, Form::Lit(Lit::Unit))?;
     let lower = unit(alloc, &[])?;
     let upper = type_of(alloc, Shape::Any, &[])?;
-    let tree = derive_types(alloc, true, &ctx, &lower, &upper)?;
+    let making = Making {
+        whole: true,
+        limit: u64::MAX,
+    };
+    let tree = derive_types(alloc, making, &ctx, &lower, &upper)?;
     let Some(below) = tree.der else {
         return Err(AllocError);
     };

@@ -1,8 +1,9 @@
 use Rattle.std.proofs.Common.{false}
 use Rattle.cc_core.specs.Views.{context_of}
-use Rattle.cc_derive.proofs.AcceptedTrees.{accepted_tree}
+use Rattle.cc_derive_subtyping.specs.Trees.{IsTree}
+use Rattle.cc_derive.proofs.AcceptedTrees.{accepted_made}
 use Rattle.cc_derive.proofs.definition.der_size.Goals as goal
 
 pub returns : goal.returns
 returns c =
-    (accepted_tree false c.in_ok-tree.tree (context_of c.args.ctx.now) c.args.checked.now c.requires c.in_ok-tree.ensures).counted
+    (accepted_made (IsTree false c.in_ok-tree.tree) (context_of c.args.ctx.now) c.args.checked.now c.requires c.in_ok-tree.ensures).counted

@@ -3,7 +3,8 @@ use Rattle.std.specs.Option.{IsSome, MatchOption}
 use Rattle.std.proofs.lemmas.Option.{MatchOption-at_some}
 use Rattle.cc_core.specs.Views.{context_of}
 use Rattle.cc_derivation.specs.Views.{der_of}
-use Rattle.cc_derive.proofs.AcceptedTrees.{accepted_tree, accepted_valid}
+use Rattle.cc_derive_subtyping.specs.Trees.{IsTree}
+use Rattle.cc_derive.proofs.AcceptedTrees.{accepted_made, accepted_valid}
 use Rattle.cc_derive.proofs.definition.derive.Goals as goal
 
 -- what is there unless two different tests are one
@@ -14,13 +15,13 @@ there None Q is = cc
 pub unwrap-requires : goal.unwrap-requires
 unwrap-requires c =
     let g = context_of c.args.ctx.now in
-    let made = accepted_tree true c.in_ok-tree.tree g c.args.checked.now c.requires c.in_ok-tree.ensures in
+    let made = accepted_made (IsTree true c.in_ok-tree.tree) g c.args.checked.now c.requires c.in_ok-tree.ensures in
     there c.in_ok-tree.tree.der _ made.built
 
 pub returns : goal.returns
 returns c =
     let g = context_of c.args.ctx.now in
-    let made = accepted_tree true c.in_ok-tree.tree g c.args.checked.now c.requires c.in_ok-tree.ensures in
+    let made = accepted_made (IsTree true c.in_ok-tree.tree) g c.args.checked.now c.requires c.in_ok-tree.ensures in
     let is = MatchOption-at_some _ _ c.unwrap.result c.unwrap.ensures made.built in
     let shown = accepted_valid g c.args.checked.now (der_of c.unwrap.result.value) c.requires is in
     record { is = is; valid = shown.0; concludes = shown.1 }

@@ -8,7 +8,7 @@ use Rattle.cc_base.specs.declared.literal.Base.TheVariants as bases
 use Rattle.cc_capture.specs.Sets.{empty}
 use Rattle.cc_core.specs.Derivations.{t-repeat, OfType, Node, two}
 use Rattle.cc_core.specs.Shapes.{BaseShape, FunctionShape}
-use Rattle.cc_derive_subtyping.specs.Trees.{IsTree}
+use Rattle.cc_derive_subtyping.specs.Trees.{IsMade}
 use Rattle.cc_derive.proofs.rows.repetition.Goals as goal
 
 pub returns : goal.returns
@@ -21,5 +21,5 @@ returns c =
     let e = plain.operand_derived (plain.shape_derived m) g c.args.function numbers in
     subst (λ (t : CapturingType). IsTyping c.args.build x (Node t-repeat (two d e) (OfType t))) c.in_ok-ty.ensures
     (h d e (c.in_ok-first.ensures m le)
-    (subst (λ (s : Shape). IsTree c.args.build c.in_ok-second.second (plain.operand_derived (plain.shape_derived m) g c.args.function s)) c.in_ok-shape.ensures (c.in_ok-second.ensures m le))))
+    (subst (λ (s : Shape). IsMade c.args.build c.in_ok-second.second (plain.operand_derived (plain.shape_derived m) g c.args.function s)) c.in_ok-shape.ensures (c.in_ok-second.ensures m le))))
     c.over_two.ensures

@@ -4,13 +4,13 @@ use Rattle.cc_capture.specs.Sets.{Set}
 use Rattle.cc_core.specs.Shapes.{capturing}
 use Rattle.cc_core.specs.Views.{shape_of, context_of}
 use Rattle.cc_sets.specs.CanonicalDerivations.{shape_derived, given_derived}
-use Rattle.cc_derive_subtyping.specs.Trees.{IsTree}
+use Rattle.cc_derive_subtyping.specs.Trees.{IsMade}
 use Rattle.cc_derive.proofs.variables.operand.Goals as goal
 
 pub returns : goal.returns
 returns c =
     IfOk-weaker c.given.result _ _
     (λ t h. λ m le.
-    subst (λ (z : Set). IsTree c.args.build t (given_derived (shape_derived m) (context_of c.args.ctx.now) c.args.operand (capturing (shape_of c.args.shape.value) z)))
+    subst (λ (z : Set). IsMade c.args.build t (given_derived (shape_derived m) (context_of c.args.ctx.now) c.args.operand (capturing (shape_of c.args.shape.value) z)))
     c.in_ok-set.ensures (h m le))
     c.given.ensures

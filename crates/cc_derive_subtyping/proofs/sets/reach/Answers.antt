@@ -8,7 +8,7 @@ use Rattle.cc_capture.specs.declared.var.Var.TheVariants.{Free}
 use Rattle.cc_core.specs.Derivations.{Derivation}
 use Rattle.cc_sets.specs.CanonicalDerivations.{element_derived}
 use Rattle.cc_derive_subtyping.specs.Tables.{reached_derived}
-use Rattle.cc_derive_subtyping.specs.Trees.{IsTree}
+use Rattle.cc_derive_subtyping.specs.Trees.{IsMade}
 use Rattle.cc_derive_subtyping.proofs.Reached.{reached_at, reached_is}
 use Rattle.cc_derive_subtyping.proofs.sets.reach.Goals as goal
 
@@ -23,8 +23,8 @@ returns-in-Some c =
     let is = ap (λ (v : Var). Variable v) (sym c.in-Free.is) ∙ sym c.in-Var.is in
     IfOk-weaker c.share.result _ _
     (λ t h. λ g shown.
-    subst (λ (e : Elem). IsTree c.args.build t (reached_derived known g right e)) is
-    (subst (λ (d : Derivation). IsTree c.args.build t d) (reached_is g right known p below)
+    subst (λ (e : Elem). IsMade c.args.build t (reached_derived known g right e)) is
+    (subst (λ (d : Derivation). IsMade c.args.build t d) (reached_is g right known p below)
     (h c.args.build (element_derived g right (Variable (Free p)))
     (reached_at c.args.build g right table p c.in-Some.tree.now shown found.0 found.1 below))))
     c.share.ensures

@@ -5,7 +5,7 @@ use Rattle.std.proofs.lemmas.Result.{IfOk-weaker}
 use Rattle.cc_capture.specs.declared.var.Elem.{Elem}
 use Rattle.cc_core.specs.Derivations.{Derivation}
 use Rattle.cc_derive_subtyping.specs.Tables.{reached_derived}
-use Rattle.cc_derive_subtyping.specs.Trees.{IsTree, IsParts}
+use Rattle.cc_derive_subtyping.specs.Trees.{IsMade, IsParts}
 use Rattle.cc_derive_subtyping.proofs.Reached.{elements_listed}
 use Rattle.cc_derive_subtyping.proofs.sets.reach_all.Goals as goal
 
@@ -24,6 +24,6 @@ returns c =
     IfOk-weaker c.set_node.result _ _
     (λ t h. λ g known.
     let reached = reached_derived (length c.args.table.now) g c.args.right.now in
-    subst (λ (d : Derivation). IsTree c.args.build t d) (elements_listed reached left c.args.right.now)
+    subst (λ (d : Derivation). IsMade c.args.build t d) (elements_listed reached left c.args.right.now)
     (h c.args.build (map reached left.list) (subst (λ (es : List Elem). IsParts c.args.build c.loop-elem.parts (map reached es)) all (c.loop-elem.invariant g known))))
     c.set_node.ensures

@@ -3,7 +3,7 @@ use Rattle.std.proofs.lemmas.Result.{IfOk-weaker}
 use Rattle.cc_capture.specs.Sets.{Set}
 use Rattle.cc_sets.specs.CanonicalDerivations.{elements_derived}
 use Rattle.cc_derive_subtyping.specs.Tables.{reached_derived, declared_derived}
-use Rattle.cc_derive_subtyping.specs.Trees.{IsTree}
+use Rattle.cc_derive_subtyping.specs.Trees.{IsMade}
 use Rattle.cc_derive_subtyping.proofs.sets.reach_declared.Goals as goal
 
 pub returns-in_ok-parts-in-Some : goal.returns-in_ok-parts-in-Some
@@ -14,9 +14,9 @@ returns-in_ok-parts-in-Some c =
     IfOk-weaker c.variable_node.result _ _
     (λ t h. λ g known.
     let below = elements_derived (reached_derived c.args.position g right) declared right in
-    subst (λ (o : Option Set). IsTree c.args.build t (declared_derived g right c.args.position o)) c.in-Some.ensures
+    subst (λ (o : Option Set). IsMade c.args.build t (declared_derived g right c.args.position o)) c.in-Some.ensures
     (h c.args.build (below ∷ [])
     (c.in_ok-parts-in-Some.ensures below
-    (subst (λ (n : ℕ). IsTree c.args.build tree (elements_derived (reached_derived n g right) declared right)) c.requires
+    (subst (λ (n : ℕ). IsMade c.args.build tree (elements_derived (reached_derived n g right) declared right)) c.requires
     (c.in_ok-below-in-Some.ensures g known)))))
     c.variable_node.ensures

@@ -4,9 +4,10 @@ use Rattle.cc_core.specs.Contexts.{TypeEntry, entry_of}
 use Rattle.cc_core.specs.Derivations.{ByTypeVariable, ShapeBelow, Derivation, Node, NoPremise}
 use Rattle.cc_core.specs.Shapes.{Shape, FunctionShape, TypeFunctionShape}
 use Rattle.cc_core.specs.Substitution.{opened_type}
+use Rattle.cc_core.specs.declared.types.Ty.{Ty}
 use Rattle.cc_core.specs.Views.{shape_of, type_of, context_of}
 use Rattle.cc_sets.specs.CanonicalDerivations as plain
-use Rattle.cc_derive_subtyping.specs.Trees.{IsTree}
+use Rattle.cc_derive_subtyping.specs.Trees.{IsMade}
 use Rattle.cc_derive_subtyping.proofs.MadeShapes.{functions_node, type_functions_node, variable_node, level_entered}
 use Rattle.cc_derive_subtyping.proofs.shapes.+shapes.Goals as goal
 
@@ -16,9 +17,9 @@ function_below-returns-in_ok-parts-in-Fun t c =
     let takes = type_of c.args.takes.now in
     let gives = type_of c.args.gives.now in
     let others = type_of c.deref-in-Fun.result.now in
-    let other_gives = type_of c.deref-in-Fun-2.result.now in
+    let other_gives = type_of c.deref-in-Fun-3.result.now in
     let e = sym c.deref-in-Fun.ensures in
-    let f = sym c.deref-in-Fun-2.ensures in
+    let f = sym c.deref-in-Fun-3.ensures in
     let is = ap shape_of (sym c.deref.ensures) ∙ ap shape_of c.in-Fun.is
     ∙ (λ i. FunctionShape (type_of (e i)).shape (type_of (e i)).set (type_of (f i)).shape (type_of (f i)).set) in
     IfOk-weaker c.shape_node.result _ _
@@ -26,9 +27,11 @@ function_below-returns-in_ok-parts-in-Fun t c =
     let derive = plain.shape_derived m in
     let first = plain.type_derived derive g others takes in
     let second = plain.type_derived derive (entry_of others ∷ g) (opened_type (length g) gives) (opened_type (length g) other_gives) in
-    let made = c.in_ok-taken-in-Fun.ensures m le in
-    subst (λ (d : Derivation). IsTree c.args.build x d) (functions_node derive g takes gives others other_gives (shape_of c.args.left.now.value) (shape_of c.args.right.now.value) c.requires is)
-    (h c.args.build (first ∷ second ∷ []) (c.in_ok-parts-in-Fun.ensures first second made.0 made.1)))
+    let given : IsMade c.args.build c.in_ok-given-in-Fun.given second =
+    subst (λ (o : Ty). IsMade c.args.build c.in_ok-given-in-Fun.given (plain.type_derived derive (entry_of (type_of o) ∷ g) (opened_type (length g) gives) (opened_type (length g) other_gives)))
+    (c.deref-in-Fun-2.ensures ∙ sym c.deref-in-Fun.ensures) (c.in_ok-given-in-Fun.ensures m le) in
+    subst (λ (d : Derivation). IsMade c.args.build x d) (functions_node derive g takes gives others other_gives (shape_of c.args.left.now.value) (shape_of c.args.right.now.value) c.requires is)
+    (h c.args.build (first ∷ second ∷ []) (c.in_ok-parts-in-Fun.ensures first second (c.in_ok-taken-in-Fun.ensures m le) given)))
     c.shape_node.ensures
 
 pub shapes_below-returns : goal.shapes_below-returns
@@ -53,7 +56,7 @@ type_function_below-returns-in_ok-parts-in-TFun t c =
     let derive = plain.shape_derived m in
     let first = plain.alike_derived bound other in
     let second = plain.type_derived derive (TypeEntry bound ∷ g) (opened_type (length g) gives) (opened_type (length g) other_gives) in
-    subst (λ (d : Derivation). IsTree c.args.build x d) (type_functions_node derive g bound other gives other_gives (shape_of c.args.left.now.value) (shape_of c.args.right.now.value) c.requires is)
+    subst (λ (d : Derivation). IsMade c.args.build x d) (type_functions_node derive g bound other gives other_gives (shape_of c.args.left.now.value) (shape_of c.args.right.now.value) c.requires is)
     (h c.args.build (first ∷ second ∷ []) (c.in_ok-parts-in-TFun.ensures first second c.in_ok-bounds-in-TFun.ensures (c.in_ok-given-in-TFun.ensures m le))))
     c.shape_node.ensures
 
@@ -78,7 +81,7 @@ variable_below-returns-in_ok-parts-in-Some t c =
     let derive = plain.shape_derived m in
     let first = Node ByTypeVariable NoPremise (ShapeBelow l bound) in
     let rest = derive g bound r in
-    subst (λ (o : Option Shape). IsTree c.args.build x (plain.bound_derived derive g c.args.variable o r)) c.in-Some.ensures
-    (subst (λ (d : Derivation). IsTree c.args.build x d) (variable_node derive g c.args.variable bound l r c.requires)
+    subst (λ (o : Option Shape). IsMade c.args.build x (plain.bound_derived derive g c.args.variable o r)) c.in-Some.ensures
+    (subst (λ (d : Derivation). IsMade c.args.build x d) (variable_node derive g c.args.variable bound l r c.requires)
     (h c.args.build (first ∷ rest ∷ []) (c.in_ok-parts-in-Some.ensures first rest c.in_ok-first-in-Some.ensures (c.in_ok-rest-in-Some.ensures m le)))))
     c.shape_node.ensures

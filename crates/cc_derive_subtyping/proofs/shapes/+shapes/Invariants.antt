@@ -10,8 +10,8 @@ decreases-types_below l = 8 * l.steps + 1
 abbrev pub decreases-variable_below : goal.decreases-variable_below
 decreases-variable_below l = 8 * l.steps + 2
 
-abbrev pub decreases-functions_below : goal.decreases-functions_below
-decreases-functions_below l = 8 * l.steps + 2
+abbrev pub decreases-given_below : goal.decreases-given_below
+decreases-given_below l = 8 * l.steps + 2
 
 abbrev pub decreases-results_below : goal.decreases-results_below
 decreases-results_below l = 8 * l.steps + 2
