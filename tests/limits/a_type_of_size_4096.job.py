@@ -1,5 +1,5 @@
-"""The type of `f` has a size of 4,096: one for itself, 4,094 for its parameter's, and one for its result's. The
-parameter's is a tree that is not high."""
+"""The type of `f` has a size of 4,096: one for itself, 4,091 for its parameter's, which is a tree that is not high, and
+four for its result's."""
 
 
 def of_size(size):
