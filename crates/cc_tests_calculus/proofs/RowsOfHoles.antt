@@ -1,12 +1,12 @@
 -- What holes in a row demand can be solved.
-use Rattle.std.proofs.Common.{◌≡◌, ◌⊎◌, ℕ, ◌<◌, List, [], ◌∷◌, ◌++◌, Some, refl, sym, ap, ◌∙◌, subst, inl, inr, arith}
+use Rattle.std.proofs.Common.{◌≡◌, ℕ, ◌<◌, List, [], ◌∷◌, ◌++◌, Some, refl, sym, ap, ◌∙◌, subst, inr}
 use Rattle.cc_base.specs.declared.place.Place.{Place}
 use Rattle.cc_capture.specs.declared.var.Elem.{Elem}
 use Rattle.cc_capture.specs.declared.var.Elem.TheVariants.{Var as Variable, Cap, Hole}
-use Rattle.cc_capture.specs.Sets.{Set, Member}
+use Rattle.cc_capture.specs.Sets.{Set}
 use Rattle.cc_core.specs.declared.context.Bind.{Bind as DeclaredBind}
 use Rattle.cc_core.specs.Shapes.{Shape}
-use Rattle.cc_core.specs.Contexts.{TermEntry, Context, lookup}
+use Rattle.cc_core.specs.Contexts.{TermEntry, lookup}
 use Rattle.cc_core.specs.Substitution.{single}
 use Rattle.cc_core.specs.Views.{context_of}
 use Rattle.cc_core.proofs.KindFacts.{IsKindedElement, IsKindedSet-test}

@@ -1,12 +1,11 @@
 -- The definitions of an accepted module, applied at the last one, make a typed program.
-use Rattle.std.proofs.Common.{◌≡◌, ◌<◌, ◌≤◌, ◌+◌, ℕ, zero, suc, Bool, true, false, cond, List, [], ◌∷◌, ◌++◌, map, reverse, length, Some, refl, sym, ap, ◌∙◌, subst, arith, length-append}
+use Rattle.std.proofs.Common.{◌≡◌, ◌<◌, ◌+◌, ℕ, suc, true, false, cond, List, [], ◌∷◌, ◌++◌, map, reverse, length, Some, refl, sym, ap, ◌∙◌, subst, arith, length-append}
 use mathlib.Core.List.{reverse_aux}
 use Rattle.std.specs.Prelude.{IsTrue, slice_get}
-use Rattle.std.specs.List.{AllByRecursion, IsDistinct, list_all}
-use Rattle.std.specs.Str.{bytes_eq}
+use Rattle.std.specs.List.{AllByRecursion, list_all}
 use Rattle.std.proofs.lemmas.Bool.{and_parts}
 use Rattle.std.proofs.lemmas.List.{length-reverse}
-use Rattle.std.specs.Option.{option_map, IfSome}
+use Rattle.std.specs.Option.{option_map}
 use Rattle.std.specs.Result.{IfOk, OkIff, result_ok}
 use Rattle.std.specs.Prelude.{Option, None, Result, Ok, Err, min}
 use Rattle.cc_device.specs.Devices.{Devices}
@@ -27,9 +26,9 @@ use Rattle.cc_capture.specs.declared.var.Elem.TheVariants.{Var as Variable}
 use Rattle.cc_capture.specs.Sets.{Set, empty}
 use Rattle.cc_capture.proofs.Membership.{Member-empty}
 use Rattle.cc_core.specs.declared.terms.Node.{Node}
-use Rattle.cc_core.specs.Shapes.{Shape, BaseShape, AnyShape, TypeVariable, FunctionShape, TypeFunctionShape, BoxShape, ExitShape, CapturingType, capturing}
+use Rattle.cc_core.specs.Shapes.{Shape, BaseShape, AnyShape, TypeVariable, FunctionShape, TypeFunctionShape, BoxShape, ExitShape, capturing}
 use Rattle.cc_core.specs.Terms.{Term, LiteralTerm, Application}
-use Rattle.cc_core.specs.Contexts.{Bind, TermEntry, Context, entry_of, lookup}
+use Rattle.cc_core.specs.Contexts.{TermEntry, Context, entry_of, lookup}
 use Rattle.cc_core.specs.Traversal.{act, act_set}
 use Rattle.cc_core.specs.Substitution.{putting}
 use Rattle.cc_core.specs.Captured.{is_value, variable_set}
@@ -37,7 +36,7 @@ use Rattle.cc_core.specs.Subcapturing.{Subcaptures, variable, SubcapturesSet}
 use Rattle.cc_core.specs.Subtyping.{reflexive}
 use Rattle.cc_core.specs.Typing.{t-var, t-lit, t-app, t-sub, HasType}
 use Rattle.cc_core.specs.WellFormed.{is_well_formed_context, is_well_formed_entry, kinds_of}
-use Rattle.cc_core.specs.Stores.{Cell, ValueCell, Store, is_device_base, is_function, HasStoreTyping, value_stored, recursive_stored}
+use Rattle.cc_core.specs.Stores.{ValueCell, Store, is_device_base, is_function, HasStoreTyping, value_stored, recursive_stored}
 use Rattle.cc_core.specs.Programs.{Definition, AreTyped, is_definable, device_context, device_entry, definition_context}
 use Rattle.cc_core.specs.Views.{term_of, type_of}
 use Rattle.cc_core.proofs.Lookups.{length_map, lookup-newest, lookup-older}
@@ -46,8 +45,7 @@ use Rattle.cc_core.proofs.SubcapturingContexts.{IsKindedContext, entry_kinded, k
 use Rattle.cc_device.specs.Declarations.{declared_base, declared_bases}
 use Rattle.cc_meta_typing.proofs.FormedContexts.{IsKindedContext-test}
 use Rattle.cc_meta_typing.proofs.InternalConversions.{formed_type_from, internal_from, type_from}
-use Rattle.cc_meta_modules.specs.ModuleLaws.{AreSound, in_program}
-use Rattle.cc_meta_modules.specs.ModuleVerdicts.{declared_context}
+use Rattle.cc_meta_modules.specs.ModuleLaws.{in_program}
 use Rattle.cc_meta_runs.specs.Links.{device_cells}
 use Rattle.cc_meta_runs.proofs.Links.{linked_store_typed}
 use Rattle.cc_meta_runs.proofs.LinkedPrograms.{all_reversed}

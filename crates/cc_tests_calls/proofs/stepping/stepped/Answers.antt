@@ -1,4 +1,4 @@
-use Rattle.std.proofs.Common.{◌≡◌, ◌+◌, ◌-◌, ◌<◌, length, arith, refl}
+use Rattle.std.proofs.Common.{◌≡◌, arith, refl}
 use Rattle.cc_machine.specs.Machines.{held_by}
 use Rattle.cc_meta_runs.specs.Alike.{erased_configuration}
 use Rattle.cc_program.specs.Programs.{shapes_of, values_of, start_of}
