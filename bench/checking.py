@@ -195,14 +195,14 @@ TEXTS = [
 
 
 def used(program, text, want):
-    """The processor time in seconds and the greatest memory in megabytes of one run on the text."""
-    test = subprocess.Popen([program, 'input::standard_input_is_judged'],
-                            stdin=subprocess.PIPE, stdout=subprocess.PIPE, stderr=subprocess.STDOUT)
-    test.stdin.write(text.encode())
-    test.stdin.close()
-    output = test.stdout.read()
-    _, status, usage = os.wait4(test.pid, 0)
-    if status or b'verdict %s' % want.encode() not in output:
+    """The processor time in seconds and the greatest memory in megabytes of one job that puts and checks the text."""
+    devices = 'device out console\ndevice hits counter\ndevice log file\n'
+    job = subprocess.Popen([program], stdin=subprocess.PIPE, stdout=subprocess.PIPE, stderr=subprocess.STDOUT)
+    job.stdin.write(('capc 1\n%sput m %d\n%scheck\n' % (devices, text.count('\n'), text)).encode())
+    job.stdin.close()
+    output = job.stdout.read()
+    _, _, usage = os.wait4(job.pid, 0)
+    if b'\n  m %s' % want.encode() not in output:
         sys.exit('bench/checking.py: not %s: %r' % (want, output[:200]))
     return usage.ru_utime + usage.ru_stime, usage.ru_maxrss / 1024
 
@@ -212,7 +212,7 @@ def measured(words, make, count, accepted):
     text = make(count)
     if len(text) > LIMIT:
         sys.exit('bench/checking.py: %s: a text of %d bytes' % (words, len(text)))
-    want = accepted + ' 1:' if isinstance(accepted, str) else 'ok %d\n' % accepted
+    want = accepted + ' 1:' if isinstance(accepted, str) else 'ok\n'
     runs = [used(program, text, want) for _ in range(int(times))]
     return min(time for time, _ in runs), max(memory for _, memory in runs), len(text)
 

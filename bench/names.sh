@@ -1,9 +1,10 @@
 #!/usr/bin/env bash
-# Measures how long the elaboration of a module of 5,000 definitions takes, each of which names an earlier one, and the
-# same for 2,500, in microseconds a call. It fails where there is no program or a test fails.
-# Build the program first: cd crates/cc_tests_names && rt test
+# Measures a job that puts and checks a module of 3,000 definitions, each of which names one that stands half as far from
+# the front, and one of 1,500: the processor's time in milliseconds, the start of the process among it, and the greatest
+# memory in MB. It fails where there is no program and where an answer is another one.
+# Build the program first: cd crates/capc && rt run < stdin
 # Usage: bench/names.sh [PROGRAM [RUNS]]
 set -u
-program=${1:-$(dirname "$0")/../crates/cc_tests_names/out/cc_tests_names_tests}
+program=${1:-$(dirname "$0")/../crates/capc/out/capc}
 [ -x "$program" ] || { echo "bench/names.sh: there is no program $program: build it first" >&2; exit 1; }
-exec python3 "$(dirname "$0")/calls.py" "$program" "${2:-5}" 5000 hundred 'elaboration=many_definitions::definitions'
+PYTHONDONTWRITEBYTECODE=1 exec python3 "$(dirname "$0")/names.py" "$program" "${2:-5}"

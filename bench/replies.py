@@ -40,6 +40,18 @@ def run_of(count, body, steps):
     return measured(''.join(repeating(count, body)), 'after %d steps' % steps)
 
 
+# Each closure is over the one before it.
+closures = ('def rec nest: (f: (x: Int) -> Int) -> Int = fun (f: (x: Int) -> Int) => val g = fun (x: Int) => f(x); nest(g)\n'
+            'def main = fun (u: Unit) => val f = fun (x: Int) => x; nest(f)\n')
+# Each boundary stands in the one before it.
+boundaries = ('def rec nest: (n: Int) -> Int = fun (n: Int) => boundary [Int] a => nest(n + 1)\n'
+              'def main = fun (u: Unit) => nest(0)\n')
+
+
+def nested(text, fuel):
+    return measured('capc 1\nput m 2\n%srun m.main %d\n' % (text, fuel), 'out of fuel after %d steps' % fuel)
+
+
 def tasks_of(count, fuel):
     text, _ = repeating(count, 'val n = hits.tick(); unit')
     numbers = ','.join(str(i) for i in range(8))
@@ -109,6 +121,8 @@ def audits(count):
 
 shown('a million steps of a repetition', run_of(249998, 'unit', 500000), run_of(499998, 'unit', 1000000), 100)
 shown('a million steps that print all along', run_of(166000, 'out.print(i)', 498004), run_of(332000, 'out.print(i)', 996004), 300)
+shown('a million steps of nested closures', nested(closures, 500000), nested(closures, 1000000), 1000)
+shown('a million steps of nested boundaries', nested(boundaries, 500000), nested(boundaries, 1000000), 1000)
 shown('eight tasks with fuel 1,000,000', tasks_of(60000, 500000), tasks_of(60000, 1000000), 200)
 shown('1,000 runs of 1,000 steps of 40 modules', many_runs(500), many_runs(1000), 500)
 shown('a derivation of 57,330 nodes', derived(11), derived(12), 200)

@@ -4,8 +4,8 @@ Each answer has to be the whole one, or want of memory: then the status is 5, th
 a front of the whole text. Words that are bad stay so, with or without the usage text, unless memory lacks for the words
 themselves. The program that is run is the built one; the refusals come from a library in C that is laid before the
 allocator (refusing.c), which gcc builds. The jobs are those that are named, or else the examples; workloads and bad words
-are tried besides. It prints a line for each wrong answer and then one for each job. Where the tests of entries are built
-(`rt test` in crates/cc_tests_entries), so is the test of a session there whose calls are made again where they found no
+are tried besides. It prints a line for each wrong answer and then one for each job. Where the tests of calls are built
+(`rt test` in crates/cc_tests_calls), so is the test of a session there whose calls are made again where they found no
 memory: it has to pass, or to find no memory before the session is there.
 
 Usage: python3 checks/refused_memory.py [--most N] [--program PROGRAM] [JOB ..]
@@ -87,7 +87,7 @@ def main():
                 wrong += tried(os.path.relpath(path, TOP), given.program, [], file.read(), library, given.most, folder)
         for words in (['--workload', '2'], ['--workload=200'], ['--frob']):
             wrong += tried(' '.join(words), given.program, words, b'', library, given.most, folder)
-        session = os.path.join(TOP, 'crates/cc_tests_entries/out/cc_tests_entries_tests')
+        session = os.path.join(TOP, 'crates/cc_tests_calls/out/cc_tests_calls_tests')
         if os.path.exists(session):
             wrong += session_tried(session, library, folder)
     sys.exit(1 if wrong else 0)

@@ -1,0 +1,2 @@
+mod DifferentNames
+pub mod Linking

@@ -1,2 +1,0 @@
-mod DifferentNames
-pub mod IdentityFits

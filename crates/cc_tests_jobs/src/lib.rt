@@ -1,5 +1,0 @@
-//! Tests of reading jobs.
-#![tactic(auto)]
-
-#[cfg(test)]
-mod jobs;

@@ -1,4 +1,0 @@
-use Rattle.cc_tests_sets.proofs.subcapturing.counted.Given as goal
-
-abbrev pub ghosts-repeated : goal.ghosts-repeated
-ghosts-repeated a = record { name = a.blank.name; parts = a.blank.parts }

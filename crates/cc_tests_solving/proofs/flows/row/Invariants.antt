@@ -1,6 +1,0 @@
-use Rattle.cc_subty.specs.Demands.{asked_of}
-use Rattle.cc_tests_solving.proofs.RowsOfHoles.{AreFlows}
-use Rattle.cc_tests_solving.proofs.flows.row.Given as goal
-
-abbrev pub invariant-loop-hole : goal.invariant-loop-hole
-invariant-loop-hole l = AreFlows l.fn.count (asked_of l.demands)

@@ -1,0 +1,17 @@
+"""The type of `f` has a size of 4,096: one for itself, 4,091 for its parameter's, which is a tree that is not high, and
+four for its result's."""
+
+
+def of_size(size):
+    """A type of the odd size."""
+    if size == 1:
+        return "Int"
+    left = (size - 1) // 2
+    left -= 1 - left % 2
+    return "(a: %s) -> %s" % (of_size(left), of_size(size - 1 - left))
+
+
+print("capc 1")
+print("put m 1")
+print("def f = fun (x: %s) => fun (y: Box[Int]) => unit" % of_size(4091))
+print("check")
