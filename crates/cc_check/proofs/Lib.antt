@@ -5,5 +5,6 @@ pub mod JudgedDefinitions
 pub mod JudgedResults
 pub mod LoggedSteps
 pub mod NothingFilled
+pub mod SignedAlong
 pub mod SignedTypes
 pub mod StandingDefinitions

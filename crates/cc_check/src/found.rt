@@ -1,6 +1,11 @@
 //! What is found for a definition.
 
+ghost use Rattle.cc_core.specs.Views.{shape_of};
+ghost use Rattle.cc_type.specs.MeasuredOnce.{IsMeasuredBy-prop};
+ghost use Rattle.cc_type.specs.Measures.{IsMeasuredBy};
+
 use cc_core::{Node, Note, Ty};
+use cc_type::Measure;
 use std::rc::Rc;
 
 /// What is found for a definition, before any hole is filled.
@@ -12,6 +17,9 @@ pub(crate) struct Checking {
     pub(crate) completed: Rc<Node>,
     // Its type.
     pub(crate) ty: Ty,
+    // What is known of the shape of that.
+    pub(crate) known: Option<Measure>,
     // The type that others see, where it comes before the right side.
     pub(crate) settled: Option<Ty>,
+    ghost measured: { IsMeasuredBy known (shape_of ty.shape.value) } by { IsMeasuredBy-prop known (shape_of ty.shape.value) },
 }

@@ -10,5 +10,5 @@ mod recursive;
 mod signature;
 mod signing;
 
-pub use definition::{check_def, check_next};
+pub use definition::{check_def, check_known, check_next};
 pub use error::CheckError;

@@ -11,6 +11,7 @@ ghost use Rattle.cc_sets.specs.Outcomes.{found_or};
 ghost use Rattle.cc_sets.specs.Verdicts.{checking, signature_of};
 ghost use Rattle.cc_subty.specs.Demands.{asked_of};
 ghost use Rattle.cc_type.specs.Logs.{Answers, Meets};
+ghost use Rattle.cc_type.specs.Measures.{AreMeasuresOf};
 ghost use Rattle.cc_check.specs.Definitions.{definition_of, checking_of};
 ghost use Rattle.cc_check.specs.Rows.{below_log, recursion_log, recursive_log};
 
@@ -23,7 +24,7 @@ use cc_core::{CoreDef, Ctx, Note, Ty};
 use cc_type::comparing::below;
 use cc_type::contexts::with_variable;
 use cc_type::stop::refused;
-use cc_type::{Found, Log, Stop};
+use cc_type::{Found, Log, Measures, Stop};
 use std::alloc::{AllocError, Global};
 use std::rc::Rc;
 
@@ -33,10 +34,12 @@ pub(crate) fn check_recursive(
     alloc: Global,
     ctx: &Ctx,
     devices: u32,
+    measures: &Measures,
     def: &CoreDef,
     log: &mut Log,
 ) -> Result<Checking, Stop>
     requires context { IsWellFormedContext (context_of ctx.now) }
+    requires measures { AreMeasuresOf measures.now (context_of ctx.now) }
     requires globals { AreGlobals (context_of ctx.now) }
     requires note { IsWellFormedNote (context_of ctx.now) (note_of def.now.note) }
     requires right { IsTrue (is_well_formed_term (TermKind ∷ kinds_of (context_of ctx.now)) [] (term_of def.now.right.value)) }
@@ -46,7 +49,7 @@ pub(crate) fn check_recursive(
     match &def.note {
         Note::Written(written) => {
             let sig = signature_at(alloc, ctx, devices, written, def.name_at)?;
-            check_below(alloc, ctx, sig, def, log)
+            check_below(alloc, ctx, measures, sig, def, log)
         }
         Note::Absent => Err(refused(Code::E14, def.name_at)),
         Note::Own(_) => Err(refused(Code::E14, def.name_at)),
@@ -71,35 +74,39 @@ fn signature_at(alloc: Global, ctx: &Ctx, devices: u32, written: &Ty, at: Place)
 fn check_below(
     alloc: Global,
     ctx: &Ctx,
+    measures: &Measures,
     sig: Ty,
     def: &CoreDef,
     log: &mut Log,
 ) -> Result<Checking, Stop>
     requires context { IsWellFormedContext (context_of ctx.now) }
+    requires measures { AreMeasuresOf measures.now (context_of ctx.now) }
     requires ty { IsWellFormedType (context_of ctx.now) (type_of sig) }
     requires right { IsTrue (is_well_formed_term (TermKind ∷ kinds_of (context_of ctx.now)) [] (term_of def.now.right.value)) }
     ensures exact { Meets checking_of result (asked_of log.new.demands) (recursion_log (context_of ctx.now) (definition_of def.now) (type_of sig) (asked_of log.old.demands)) }
     ensures places { IfOk result (λ c. places_of c.completed.value ≡ places_of def.now.right.value) }
 {
     let inner = with_variable(alloc, ctx, &sig)?;
-    check_inside(alloc, &inner, sig, def, log)
+    check_inside(alloc, &inner, measures, sig, def, log)
 }
 
 // The same in the context that has the definition's own name.
 fn check_inside(
     alloc: Global,
     inner: &Ctx,
+    measures: &Measures,
     sig: Ty,
     def: &CoreDef,
     log: &mut Log,
 ) -> Result<Checking, Stop>
     requires context { IsWellFormedContext (context_of inner.now) }
+    requires measures { AreMeasuresOf measures.now (context_of inner.now) }
     requires ty { IsWellFormedType (context_of inner.now) (type_of sig) }
     requires right { IsWellFormedTerm (context_of inner.now) (term_of def.now.right.value) }
     ensures exact { Meets checking_of result (asked_of log.new.demands) (below_log (context_of inner.now) (definition_of def.now) (type_of sig) (asked_of log.old.demands)) }
     ensures places { IfOk result (λ c. places_of c.completed.value ≡ places_of def.now.right.value) }
 {
-    let found = infer_right(alloc, inner, &def.right, log)?;
+    let found = infer_right(alloc, inner, measures, &def.right, log)?;
     below(alloc, inner, &found.ty, &sig, place_of(&def.right), log)?;
     Ok(settled(alloc, found, sig)?)
 }
@@ -113,6 +120,7 @@ fn settled(alloc: Global, found: Found, sig: Ty) -> Result<Checking, AllocError>
         ty: _,
         node,
         captured: _,
+        known: _,
     } = found;
     let note = Note::Written(Rc::new(alloc, sig.clone()?)?);
     let ty = sig.clone()?;
@@ -120,6 +128,7 @@ fn settled(alloc: Global, found: Found, sig: Ty) -> Result<Checking, AllocError>
         note,
         completed: node,
         ty,
+        known: None,
         settled: Some(sig),
     })
 }

@@ -1,14 +1,18 @@
 //! The type that others see.
 
-ghost use Rattle.std.specs.Prelude.{◌≡◌, IfOk, option_map};
+ghost use Rattle.std.specs.Prelude.{◌≡◌, Some, IfOk, IfSome, option_map};
+ghost use Rattle.cc_core.specs.Shapes.{Shape as PlainShape};
 ghost use Rattle.cc_core.specs.Views.{shape_of, type_of, context_of};
 ghost use Rattle.cc_core.specs.WellFormed.{IsWellFormedContext};
 ghost use Rattle.cc_sets.specs.Verdicts.{signature_of};
+ghost use Rattle.cc_type.specs.Measures.{IsMeasuredBy, IsMeasuredFrom, IsSize};
 ghost use Rattle.cc_type.specs.Signatures as plain;
 
 use crate::signing::sign_whole;
 use cc_capture::{CapSet, Elem, Var};
 use cc_core::{Ctx, Shape, Ty};
+use cc_type::Measure;
+use cc_type::measures::measured_size;
 use std::alloc::{AllocError, Global};
 
 /// The type that others see of a definition of the type: each position from the first definition on is avoided, the
@@ -24,8 +28,43 @@ pub(crate) fn signature(
     requires { IsWellFormedContext (context_of ctx.now) }
     ensures { IfOk result (λ t. option_map type_of t ≡ signature_of devices (context_of ctx.now) (type_of ty.now)) }
 {
-    let signed = sign_whole(alloc, ctx, devices, ty)?;
+    let signed = sign_whole(alloc, ctx, devices, None, ty)?;
     Ok(signed)
+}
+
+// What is known of a shape, if it is that no position from this one on is free at the end.
+fn known_from(first: u32, known: Option<Measure>) -> Option<Measure>
+    ensures from { (shape : PlainShape) → IsMeasuredBy known shape → IsMeasuredFrom first result shape }
+    ensures by_it { (shape : PlainShape) → IsMeasuredFrom first result shape → IsMeasuredBy result shape }
+{
+    match known {
+        Some(measure) => { if measure.first == first { known } else { None } }
+        None => None,
+    }
+}
+
+/// The same of a type of whose shape this is known, with the size of the shape of that type, or the greatest number where
+/// that is less.
+pub(crate) fn measured_signature(
+    alloc: Global,
+    ctx: &Ctx,
+    devices: u32,
+    ty: &Ty,
+    known: Option<Measure>,
+) -> Result<Option<(Ty, u64)>, AllocError>
+    requires context { IsWellFormedContext (context_of ctx.now) }
+    requires measured { IsMeasuredBy known (shape_of ty.now.shape.value) }
+    ensures is { IfOk result (λ t. option_map (λ s. type_of s.0) t ≡ signature_of devices (context_of ctx.now) (type_of ty.now)) }
+    ensures size { IfOk result (λ t. IfSome t (λ s. IsSize s.1 (shape_of s.0.shape.value))) }
+{
+    let known = known_from(devices, known);
+    match sign_whole(alloc, ctx, devices, known, ty)? {
+        Some(sig) => {
+            let size = measured_size(known, &sig.shape);
+            Ok(Some((sig, size)))
+        }
+        None => Ok(None),
+    }
 }
 
 // The greatest position that is free in the type, from the first one on. It takes no memory.

@@ -10,11 +10,13 @@ ghost use Rattle.cc_core.specs.Views.{shape_of, type_of, bind_of, context_of};
 ghost use Rattle.cc_core.specs.WellFormed.{IsWellFormedContext};
 ghost use Rattle.cc_sets.specs.Avoidance as plain;
 ghost use Rattle.cc_sets.specs.Avoidance.{avoided_set, unless_free};
+ghost use Rattle.cc_type.specs.Measures.{IsClearAlong, IsMeasuredFrom};
 ghost use Rattle.cc_check.specs.SignedParts.{definitions_of, set_avoiding, names_any, shape_avoiding, type_avoiding, AvoidsBind, AvoidsEntry, sign_of, signed_shape, signed_type, signed_function, signed_type_function, signed_box};
 
 use crate::signature::{greatest_in, greatest_in_set};
 use cc_capture::{CapSet, Elem, Var};
 use cc_core::{Bind, Ctx, Shape, Ty};
+use cc_type::Measure;
 use std::alloc::{AllocError, Global};
 use std::rc::Rc;
 
@@ -157,17 +159,20 @@ fn names_definition(ctx: &Ctx, devices: u32, shape: &Shape) -> Result<bool, Allo
     }
 }
 
-/// The type in which each definition is avoided, the latest first, if they can be. What stays is shared.
+/// The type in which each definition is avoided, the latest first, if they can be. What stays is shared, and what is
+/// known to name none is not gone over.
 pub(crate) fn sign_whole(
     alloc: Global,
     ctx: &Ctx,
     devices: u32,
+    known: Option<Measure>,
     ty: &Ty,
 ) -> Result<Option<Ty>, AllocError>
-    requires { IsWellFormedContext (context_of ctx.now) }
+    requires context { IsWellFormedContext (context_of ctx.now) }
+    requires measured { IsMeasuredFrom devices known (shape_of ty.now.shape.value) }
     ensures { IfOk result (λ t. option_map type_of t ≡ type_avoiding plain.Positive (definitions_of devices (context_of ctx.now)) (type_of ty.now)) }
 {
-    let shape = sign_shape(alloc, ctx, devices, Sign::Positive, &ty.shape)?;
+    let shape = sign_measured(alloc, ctx, devices, known, &ty.shape)?;
     let set = sign_set(alloc, ctx, devices, Sign::Positive, &ty.set)?;
     whole_of(ty, shape, set)
 }
@@ -248,6 +253,76 @@ fn sign_type(
     let shape = sign_shape(alloc, ctx, devices, sign, &ty.shape)?;
     let set = sign_set(alloc, ctx, devices, sign, &ty.set)?;
     type_of_parts(alloc, ty, shape, set)
+}
+
+// What a shape becomes at a positive place, so many steps from which there is one that names no definition.
+#[cycle(signs_along)]
+fn sign_along(
+    alloc: Global,
+    ctx: &Ctx,
+    devices: u32,
+    steps: u32,
+    shape: &Shape,
+) -> Result<SignedShape, AllocError>
+    requires context { IsWellFormedContext (context_of ctx.now) }
+    requires clear { IsClearAlong devices steps (shape_of shape.now) }
+    ensures { IfOk result (λ a. signed_shape (shape_of shape.now) a ≡ shape_avoiding plain.Positive (definitions_of devices (context_of ctx.now)) (shape_of shape.now)) }
+{
+    if steps == 0 {
+        return Ok(SignedShape::Kept);
+    }
+    match shape {
+        Shape::Fun(takes, gives) => {
+            let taken = sign_type(alloc, ctx, devices, Sign::Negative, takes)?;
+            let given = sign_type_along(alloc, ctx, devices, steps - 1, gives)?;
+            function_of(alloc, takes, gives, taken, given)
+        }
+        Shape::TFun(bound, gives) => {
+            let given = sign_type_along(alloc, ctx, devices, steps - 1, gives)?;
+            type_function_of(alloc, ctx, devices, bound, gives, given)
+        }
+        Shape::Boxed(content) => {
+            let inside = sign_type_along(alloc, ctx, devices, steps - 1, content)?;
+            box_of(alloc, content, inside)
+        }
+        _ => sign_shape(alloc, ctx, devices, Sign::Positive, shape),
+    }
+}
+
+// What a type becomes whose shape is so.
+#[cycle(signs_along)]
+fn sign_type_along(
+    alloc: Global,
+    ctx: &Ctx,
+    devices: u32,
+    steps: u32,
+    ty: &Ty,
+) -> Result<SignedType, AllocError>
+    requires context { IsWellFormedContext (context_of ctx.now) }
+    requires clear { IsClearAlong devices steps (shape_of ty.now.shape.value) }
+    ensures { IfOk result (λ a. signed_type (type_of ty.now) a ≡ type_avoiding plain.Positive (definitions_of devices (context_of ctx.now)) (type_of ty.now)) }
+{
+    let shape = sign_along(alloc, ctx, devices, steps, &ty.shape)?;
+    let set = sign_set(alloc, ctx, devices, Sign::Positive, &ty.set)?;
+    type_of_parts(alloc, ty, shape, set)
+}
+
+// What a shape of which this is known becomes at a positive place.
+fn sign_measured(
+    alloc: Global,
+    ctx: &Ctx,
+    devices: u32,
+    known: Option<Measure>,
+    shape: &Shape,
+) -> Result<SignedShape, AllocError>
+    requires context { IsWellFormedContext (context_of ctx.now) }
+    requires measured { IsMeasuredFrom devices known (shape_of shape.now) }
+    ensures { IfOk result (λ a. signed_shape (shape_of shape.now) a ≡ shape_avoiding plain.Positive (definitions_of devices (context_of ctx.now)) (shape_of shape.now)) }
+{
+    match known {
+        Some(measure) => sign_along(alloc, ctx, devices, measure.steps, shape),
+        None => sign_shape(alloc, ctx, devices, Sign::Positive, shape),
+    }
 }
 
 // What a type becomes, of what its parts became.

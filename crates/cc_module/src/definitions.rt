@@ -67,11 +67,21 @@ fn definition_at(defs: &[CheckedDef], place: Option<usize>) -> Option<&CheckedDe
 }
 
 /// The definitions of an accepted module, in order, with the places of their names.
-#[derive(Drop)]
 pub(crate) struct Definitions {
     defs: Vec<CheckedDef>,
     places: Places,
     ghost found: { FindsFirst places defs.items },
+}
+
+// Types may share those of definitions before, so the last definition goes first: no chain of types then falls at once.
+impl Drop for Definitions {
+    fn drop(self) {
+        let Definitions { defs, places: _ } = self;
+        let mut left = defs;
+        while let Some(def) = left.pop() {
+            drop(def);
+        }
+    }
 }
 
 impl Definitions {

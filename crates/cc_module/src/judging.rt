@@ -16,6 +16,7 @@ ghost use Rattle.cc_module.specs.Findings.{finding_of};
 ghost use Rattle.cc_module.specs.Judgements.{module_verdict_of, refusal_of, JudgesAll, JudgesOne, IsSoundIfAccepted};
 ghost use Rattle.cc_module.specs.TextReadings.{text_reading_of};
 ghost use Rattle.cc_parse.specs.Trees.{import_syntax, module_syntax};
+ghost use Rattle.cc_type.specs.Measures.{AreAllMeasuresOf};
 
 use crate::contexts::{declared_context, with_findings, with_signature};
 use crate::finding::{Finding, code_of};
@@ -25,12 +26,12 @@ use cc_base::code::Diag;
 use cc_base::device::DeviceDecl;
 use cc_base::literal::Import;
 use cc_base::steps::Steps;
-use cc_check::{CheckError, check_next};
+use cc_check::{CheckError, check_known};
 use cc_core::{CoreDef, Ctx};
 use cc_mnf::ElaborateError;
 use cc_mnf::elaborate::elaborate;
 use cc_parse::tree::Module;
-use cc_type::Instances;
+use cc_type::{Instances, Measures};
 use std::alloc::{AllocError, Global};
 use std::sync::ledger::Ledger;
 
@@ -56,13 +57,16 @@ fn check(
     ctx: &Ctx,
     devices: u32,
     def: &CoreDef,
+    measures: &mut Measures,
     instances: &mut Instances,
 ) -> Result<CheckedDef, CheckError>
     requires fits { Fits (context_of ctx.now) (to_be_checked (definition_of def.now)) }
     requires holes { HolesAreOfParameters (definition_of def.now).right }
-    ensures { JudgesOne devices (context_of ctx.now) (definition_of def.now) result }
+    requires measures { AreAllMeasuresOf devices measures.old (context_of ctx.now) }
+    ensures verdict { JudgesOne devices (context_of ctx.now) (definition_of def.now) result }
+    ensures measures { IfOk result (λ d. AreAllMeasuresOf devices measures.new (entry_of (type_of d.checked.sig) ∷ context_of ctx.now)) }
 {
-    let checked = check_next(alloc, ctx, devices, def, instances)?;
+    let checked = check_known(alloc, ctx, devices, def, measures, instances)?;
     let name = def.name.clone()?;
     Ok(CheckedDef {
         name,
@@ -96,10 +100,11 @@ fn check_all(
     ensures { JudgesAll devices (context_of ctx) (map definition_of defs.now) result }
 {
     let mut globals = ctx;
-    let mut checked = Vec::with_capacity(alloc, defs.len())?;
+    let mut checked = Vec::new(alloc);
+    let mut measures = Measures::new(alloc, devices, globals.len());
     let mut instances = Instances::new(alloc);
     for def in defs {
-        let next = check(alloc, &globals, devices, def, &mut instances)?;
+        let next = check(alloc, &globals, devices, def, &mut measures, &mut instances)?;
         globals = after(alloc, &globals, &next)?;
         add(&mut checked, next)?;
     }

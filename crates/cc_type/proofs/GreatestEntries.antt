@@ -49,7 +49,7 @@ module _ (kinds : List Kind) (q : ℕ) (past : length kinds ≤ q) where
   shape_past passed (BoxShape t c) k = or_no _ _ (shape_past passed t k.0) (set_past passed c k.1)
   shape_past passed (ExitShape g) k = shape_past passed g k
 
-type_past : (g : Context) (q : ℕ) (t : CapturingType) → length g ≤ q → IsWellFormedType g t
+pub type_past : (g : Context) (q : ℕ) (t : CapturingType) → length g ≤ q → IsWellFormedType g t
     → is_free_in_type q t ≡ false
 type_past g q t past known =
     let kinded = IsKindedType-from (kinds_of g) [] t known in

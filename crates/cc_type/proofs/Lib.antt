@@ -18,6 +18,8 @@ pub mod KeptWalks
 pub mod KnownSets
 pub mod LoggedDemands
 pub mod LostDemands
+pub mod MeasuredEntries
+pub mod MeasuredShapes
 pub mod NewestVariables
 pub mod OneShape
 pub mod RememberedInstances

@@ -8,6 +8,8 @@ pub mod KeepingExamples
 pub mod KeepingLaws
 pub mod LoggedInference
 pub mod Logs
+pub mod MeasuredOnce
+pub mod Measures
 pub mod Parts
 pub mod Rows
 pub mod Signatures

@@ -19,12 +19,14 @@ ghost use Rattle.cc_sets.specs.Outcomes.{finds};
 ghost use Rattle.cc_subty.specs.Demands.{asked_of};
 ghost use Rattle.cc_type.specs.Ends.{function_type, type_function_type, unavoidable_at, let_captured, own_choice, named_choice};
 ghost use Rattle.cc_type.specs.Logs.{Answers, Meets};
+ghost use Rattle.cc_type.specs.Measures.{IsMeasuredBy};
 ghost use Rattle.cc_type.specs.Parts.{found_of, named_of};
 ghost use Rattle.cc_type.specs.Rows.{ways, directly, let_end, choice_end, choice_log};
 ghost use Rattle.cc_type.specs.Standing.{NoteReadsWell};
 
 use crate::found::{Found, Named};
 use crate::log::Log;
+use crate::measures::{Measure, measure_around, occurs_in_measured, occurs_in_measured_type};
 use crate::operands::branch;
 use crate::sizes::{fitting_parts, with_parts};
 use crate::steps::entries;
@@ -34,39 +36,50 @@ use cc_base::code::Code;
 use cc_base::place::Place;
 use cc_capture::{CapSet, Elem, Var};
 use cc_core::captured::{is_value, without_binder};
-use cc_core::occurrences::{occurs_in_shape, occurs_in_type};
 use cc_core::reading::{read_set, read_shape, read_type, write_set};
 use cc_core::substitution::close_type;
 use cc_core::{Ctx, Form, Node, Note, Shape, Ty};
 use std::alloc::{AllocError, Global};
 use std::rc::Rc;
 
-// The type with the newest position under its binder. One that does not name it is shared: to see that takes less than
-// to go over it and build.
-fn closed(alloc: Global, ctx: &Ctx, ty: &Ty) -> Result<Ty, AllocError>
-    ensures { IfOk result (λ t. type_of t ≡ closed_type (length (context_of ctx.now)) (type_of ty.now)) }
+// The type with the newest position under its binder, and what is known of its shape. One that does not name it is
+// shared: to see that takes less than to go over it and build.
+fn closed(
+    alloc: Global,
+    ctx: &Ctx,
+    ty: &Ty,
+    known: Option<Measure>,
+) -> Result<(Ty, Option<Measure>), AllocError>
+    requires { IsMeasuredBy known (shape_of ty.now.shape.value) }
+    ensures is { IfOk result (λ t. type_of t.0 ≡ closed_type (length (context_of ctx.now)) (type_of ty.now)) }
+    ensures measured { IfOk result (λ t. IsMeasuredBy t.1 (shape_of t.0.shape.value)) }
 {
-    if occurs_in_type(entries(ctx), ty) {
-        return close_type(alloc, ty, entries(ctx));
+    if occurs_in_measured_type(entries(ctx), known, ty) {
+        let other = close_type(alloc, ty, entries(ctx))?;
+        return Ok((other, None));
     }
     let same = ty.clone()?;
-    Ok(same)
+    Ok((same, known))
 }
 
-// The type of a function: what it takes and gives, and what its body captures.
+// The type of a function: what it takes and gives, and what its body captures. With it what is known of its shape.
 fn function_type(
     alloc: Global,
     ctx: &Ctx,
     takes: Ty,
     gives: &Ty,
+    known: Option<Measure>,
     captured: &CapSet,
-) -> Result<Ty, AllocError>
-    ensures { IfOk result (λ t. type_of t ≡ function_type (context_of ctx.now) (type_of takes) (type_of gives.now) captured.now) }
+) -> Result<(Ty, Option<Measure>), AllocError>
+    requires { IsMeasuredBy known (shape_of gives.now.shape.value) }
+    ensures is { IfOk result (λ t. type_of t.0 ≡ function_type (context_of ctx.now) (type_of takes) (type_of gives.now) captured.now) }
+    ensures measured { IfOk result (λ t. IsMeasuredBy t.1 (shape_of t.0.shape.value)) }
 {
-    let gives = Rc::new(alloc, closed(alloc, ctx, gives)?)?;
+    let (gives, known) = closed(alloc, ctx, gives, known)?;
+    let gives = Rc::new(alloc, gives)?;
     let shape = Rc::new(alloc, Shape::Fun(Rc::new(alloc, takes)?, gives))?;
     let set = read_set(alloc, captured, entries(ctx))?;
-    Ok(Ty { shape, set })
+    Ok((Ty { shape, set }, measure_around(known)))
 }
 
 /// The function of a parameter's type, and of what was found for its body.
@@ -86,27 +99,33 @@ pub(crate) fn function_end(
         ty: gives,
         node: body,
         captured,
+        known,
     } = part;
     let captured = without_binder(alloc, &captured)?;
-    let ty = function_type(alloc, ctx, read, &gives, &captured)?;
-    let found = with_parts(alloc, node, Form::Fun(takes.clone()?, body), ty, captured)?;
+    let (ty, known) = function_type(alloc, ctx, read, &gives, known, &captured)?;
+    let form = Form::Fun(takes.clone()?, body);
+    let found = with_parts(alloc, node, form, ty, known, captured)?;
     Ok(found)
 }
 
-// The type of a type function: its bound, what it gives, and what its body captures.
+// The type of a type function: its bound, what it gives, and what its body captures. With it what is known of its shape.
 fn type_function_type(
     alloc: Global,
     ctx: &Ctx,
     bound: Rc<Shape>,
     gives: &Ty,
+    known: Option<Measure>,
     captured: &CapSet,
-) -> Result<Ty, AllocError>
-    ensures { IfOk result (λ t. type_of t ≡ type_function_type (context_of ctx.now) (shape_of bound.value) (type_of gives.now) captured.now) }
+) -> Result<(Ty, Option<Measure>), AllocError>
+    requires { IsMeasuredBy known (shape_of gives.now.shape.value) }
+    ensures is { IfOk result (λ t. type_of t.0 ≡ type_function_type (context_of ctx.now) (shape_of bound.value) (type_of gives.now) captured.now) }
+    ensures measured { IfOk result (λ t. IsMeasuredBy t.1 (shape_of t.0.shape.value)) }
 {
-    let gives = Rc::new(alloc, closed(alloc, ctx, gives)?)?;
+    let (gives, known) = closed(alloc, ctx, gives, known)?;
+    let gives = Rc::new(alloc, gives)?;
     let shape = Rc::new(alloc, Shape::TFun(bound, gives))?;
     let set = read_set(alloc, captured, entries(ctx))?;
-    Ok(Ty { shape, set })
+    Ok((Ty { shape, set }, measure_around(known)))
 }
 
 /// The type function of a bound, and of what was found for its body.
@@ -126,10 +145,12 @@ pub(crate) fn type_function_end(
         ty: gives,
         node: body,
         captured,
+        known,
     } = part;
     let captured = without_binder(alloc, &captured)?;
-    let ty = type_function_type(alloc, ctx, read, &gives, &captured)?;
-    let found = with_parts(alloc, node, Form::TFun(bound.clone()?, body), ty, captured)?;
+    let (ty, known) = type_function_type(alloc, ctx, read, &gives, known, &captured)?;
+    let form = Form::TFun(bound.clone()?, body);
+    let found = with_parts(alloc, node, form, ty, known, captured)?;
     Ok(found)
 }
 
@@ -148,6 +169,7 @@ pub(crate) fn boundary_end(
         ty: _,
         node: body,
         captured,
+        known: _,
     } = part;
     let captured = without_binder(alloc, &captured)?;
     let found = with_parts(
@@ -155,6 +177,7 @@ pub(crate) fn boundary_end(
         node,
         Form::Boundary(gives.clone()?, body),
         ty,
+        None,
         captured,
     )?;
     Ok(found)
@@ -196,11 +219,12 @@ fn let_captured(
     of_right.union(alloc, &outer)
 }
 
-// Whether the shape names the newest variable.
-fn names_newest(ctx: &Ctx, shape: &Shape) -> bool
+// Whether the shape, of which this is known, names the newest variable.
+fn names_newest(ctx: &Ctx, known: Option<Measure>, shape: &Shape) -> bool
+    requires { IsMeasuredBy known (shape_of shape.now) }
     ensures { result ≡ false → occurrences.Meets (occurrences.without (length (context_of ctx.now))) 0 (shape_of shape.now) }
 {
-    occurs_in_shape(entries(ctx), shape)
+    occurs_in_measured(entries(ctx), known, shape)
 }
 
 // What is left of the set of a type where the newest variable goes out of scope.
@@ -227,11 +251,14 @@ fn shape_left_behind(
     alloc: Global,
     ctx: &Ctx,
     declared: &CapSet,
+    known: Option<Measure>,
     inner: Ty,
 ) -> Result<(Ty, bool), AllocError>
+    requires measured { IsMeasuredBy known (shape_of inner.shape.value) }
     requires shape { occurrences.Meets (occurrences.without (length (context_of ctx.now))) 0 (shape_of inner.shape.value) }
     requires fits { nat_le (type_size (type_of inner)) plain.greatest_size ≡ true }
     ensures is { IfOk result (λ t. (at : Place) → plain.left_behind at (context_of ctx.now) declared.now (type_of inner) ≡ finds (type_of t.0)) }
+    ensures measured { IfOk result (λ t. IsMeasuredBy known (shape_of t.0.shape.value)) }
     ensures fits { IfOk result (λ t. t.1 ≡ true → nat_le (type_size (type_of t.0)) plain.greatest_size ≡ true) }
 {
     let Ty { shape, set: before } = inner;
@@ -248,25 +275,27 @@ fn let_of(
     form: Form,
     declared: &CapSet,
     inner: Ty,
+    known: Option<Measure>,
     captured: CapSet,
 ) -> Result<Found, Stop>
     requires captured { captured ≡ captured_variables (form_of form) }
     requires fits { nat_le (type_size (type_of inner)) plain.greatest_size ≡ true }
+    requires measured { IsMeasuredBy known (shape_of inner.shape.value) }
     ensures exact { Answers found_of result (directly (plain.left_behind node.now.first (context_of ctx.now) declared.now (type_of inner))
         (λ type. tested ways node.now.at (plain_result type (form_of form)))) }
     ensures places { IfOk result (λ f. places_of f.node.value ≡ places_around (spots_at node.now.at node.now.first node.now.second) form) }
 {
-    if names_newest(ctx, &inner.shape) {
+    if names_newest(ctx, known, &inner.shape) {
         let ty = left_behind(alloc, ctx, declared, &inner, node.first)?;
-        let found = with_parts(alloc, node, form, ty, captured)?;
+        let found = with_parts(alloc, node, form, ty, None, captured)?;
         return Ok(found);
     }
-    let (ty, fits) = shape_left_behind(alloc, ctx, declared, inner)?;
+    let (ty, fits) = shape_left_behind(alloc, ctx, declared, known, inner)?;
     if fits {
-        let found = fitting_parts(alloc, node, form, ty, captured)?;
+        let found = fitting_parts(alloc, node, form, ty, known, captured)?;
         Ok(found)
     } else {
-        let found = with_parts(alloc, node, form, ty, captured)?;
+        let found = with_parts(alloc, node, form, ty, known, captured)?;
         Ok(found)
     }
 }
@@ -288,15 +317,26 @@ pub(crate) fn let_end(
         ty: _,
         node: right,
         captured: of_right,
+        known: _,
     } = one;
     let Found {
         ty: inner,
         node: body,
         captured: of_body,
+        known,
     } = two;
     let captured = let_captured(alloc, &right, &of_right, &of_body)?;
     let form = Form::Let(note, right, body);
-    let found = let_of(alloc, ctx, node, form, &declared.set, inner, captured)?;
+    let found = let_of(
+        alloc,
+        ctx,
+        node,
+        form,
+        &declared.set,
+        inner,
+        known,
+        captured,
+    )?;
     Ok(found)
 }
 
@@ -380,17 +420,20 @@ fn choice_end(
         ty: _,
         node: positive,
         captured: _,
+        known: _,
     } = one;
     let Found {
         ty: _,
         node: negative,
         captured: _,
+        known: _,
     } = two;
     let found = with_parts(
         alloc,
         node,
         Form::If(note, test, positive, negative),
         ty,
+        None,
         captured,
     )?;
     Ok(found)

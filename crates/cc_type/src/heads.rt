@@ -5,8 +5,10 @@ ghost use Rattle.cc_core.specs.Views.{shape_of, type_of, context_of};
 ghost use Rattle.cc_core.specs.WellFormed.{IsWellFormedContext, IsWellFormedSet, IsWellFormedShape, IsWellFormedType};
 ghost use Rattle.cc_sets.specs.Inference as plain;
 ghost use Rattle.cc_type.specs.Logs.{Answers};
+ghost use Rattle.cc_type.specs.Measures.{IsMeasuredBy, AreMeasuresOf};
 ghost use Rattle.cc_type.specs.Rows.{function_at, type_function_at, box_at, exit_at, device_at};
 
+use crate::measures::{Measure, Measures, measure_of};
 use crate::steps::{
     box_head, device_head, exit_head, function_head, in_context, type_function_head, variable_type,
 };
@@ -28,6 +30,24 @@ pub(crate) fn type_of_variable(alloc: Global, ctx: &Ctx, variable: Var) -> Resul
 {
     let ty = variable_type(alloc, ctx, in_context(ctx, variable))?;
     Ok(ty)
+}
+
+/// The same, with what is known of its shape.
+pub(crate) fn measured_type(
+    alloc: Global,
+    ctx: &Ctx,
+    measures: &Measures,
+    variable: Var,
+) -> Result<(Ty, Option<Measure>), Stop>
+    requires context { IsWellFormedContext (context_of ctx.now) }
+    requires measures { AreMeasuresOf measures.now (context_of ctx.now) }
+    ensures is { Answers (λ t. type_of t.0) result (plain.variable_type (context_of ctx.now) (plain.in_context (context_of ctx.now) variable)) }
+    ensures measured { IfOk result (λ t. IsMeasuredBy t.1 (shape_of t.0.shape.value)) }
+{
+    let named = in_context(ctx, variable);
+    let ty = variable_type(alloc, ctx, named)?;
+    let known = measure_of(measures, named);
+    Ok((ty, known))
 }
 
 /// What the function at the head takes and gives.

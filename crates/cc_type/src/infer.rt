@@ -1,14 +1,15 @@
 //! Inference: the type of a term, what its sets have to satisfy, and the term with its omitted sets put in.
 
 ghost use Rattle.std.specs.Prelude.{◌≡◌, ◌∷◌, IfOk};
-ghost use Rattle.cc_core.specs.Contexts.{entry_of};
+ghost use Rattle.cc_core.specs.Contexts.{TypeEntry, entry_of};
 ghost use Rattle.cc_core.specs.Places.{spots, places_of, spots_at};
 ghost use Rattle.cc_core.specs.Shapes.{CapturingType};
 ghost use Rattle.cc_core.specs.Views.{shape_of, type_of, note_of, term_of, context_of};
 ghost use Rattle.cc_core.specs.WellFormed.{IsWellFormedContext, IsWellFormedShape, IsWellFormedType};
-ghost use Rattle.cc_sets.specs.Inference.{inferred};
+ghost use Rattle.cc_sets.specs.Inference.{exit_entry, inferred};
 ghost use Rattle.cc_subty.specs.Demands.{asked_of};
 ghost use Rattle.cc_type.specs.Logs.{Meets, after};
+ghost use Rattle.cc_type.specs.Measures.{AreMeasuresOf};
 ghost use Rattle.cc_type.specs.Parts.{found_of, named_of};
 ghost use Rattle.cc_type.specs.Rows.{ways, noted_log, test_log, boundary_log, inferred_log};
 ghost use Rattle.cc_type.specs.Standing.{NoteReadsWell, StandsIn, StandsWell};
@@ -18,6 +19,7 @@ use crate::contexts::{with_exit, with_type_variable, with_variable};
 use crate::ends::{boundary_end, choice_rest, function_end, let_end, type_function_end};
 use crate::found::{Found, Named};
 use crate::log::Log;
+use crate::measures::Measures;
 use crate::operands::{base_operand, branch, needs_note, noted};
 use crate::rows;
 use crate::steps::entries;
@@ -49,19 +51,47 @@ pub fn infer_term(
     ensures formed { IfOk result (λ f. IsWellFormedType (context_of ctx.now) (type_of f.ty)) }
     ensures places { IfOk result (λ f. places_of f.node.value ≡ places_of node.now.value) }
 {
-    infer(alloc, ctx, root, node, log)
+    let measures = Measures::new(alloc, 0, 0);
+    infer_known(alloc, ctx, root, &measures, node, log)
+}
+
+/// The same where this is known of entries of the context.
+pub fn infer_known(
+    alloc: Global,
+    ctx: &Ctx,
+    root: u32,
+    measures: &Measures,
+    node: &Rc<Node>,
+    log: &mut Log,
+) -> Result<Found, Stop>
+    requires context { IsWellFormedContext (context_of ctx.now) }
+    requires measures { AreMeasuresOf measures.now (context_of ctx.now) }
+    requires term { StandsIn root (context_of ctx.now) (term_of node.now.value) }
+    ensures exact { Meets found_of result (asked_of log.new.demands) (after (asked_of log.old.demands) (inferred ways root (context_of ctx.now) (term_of node.now.value) (places_of node.now.value))) }
+    ensures formed { IfOk result (λ f. IsWellFormedType (context_of ctx.now) (type_of f.ty)) }
+    ensures places { IfOk result (λ f. places_of f.node.value ≡ places_of node.now.value) }
+{
+    infer(alloc, ctx, root, measures, node, log)
 }
 
 // The same, where the term is known to stand well.
 #[cycle(infer)]
-fn infer(alloc: Global, ctx: &Ctx, root: u32, node: &Rc<Node>, log: &mut Log) -> Result<Found, Stop>
+fn infer(
+    alloc: Global,
+    ctx: &Ctx,
+    root: u32,
+    measures: &Measures,
+    node: &Rc<Node>,
+    log: &mut Log,
+) -> Result<Found, Stop>
     requires context { IsWellFormedContext (context_of ctx.now) }
+    requires measures { AreMeasuresOf measures.now (context_of ctx.now) }
     requires term { StandsWell root (context_of ctx.now) (term_of node.now.value) }
     ensures exact { Meets found_of result (asked_of log.new.demands) (inferred_log root (context_of ctx.now) (term_of node.now.value) (places_of node.now.value) (asked_of log.old.demands)) }
     ensures formed { IfOk result (λ f. IsWellFormedType (context_of ctx.now) (type_of f.ty)) }
     ensures places { IfOk result (λ f. places_of f.node.value ≡ places_of node.now.value) }
 {
-    let found = infer_form(alloc, ctx, root, node, log)?;
+    let found = infer_form(alloc, ctx, root, measures, node, log)?;
     Ok(found)
 }
 
@@ -92,19 +122,76 @@ fn name(
     Ok(named)
 }
 
+// The context of the body of a function, with a variable of the type. What is known of entries stays known.
+fn function_context(
+    alloc: Global,
+    ctx: &Ctx,
+    measures: &Measures,
+    takes: &Ty,
+) -> Result<Ctx, AllocError>
+    requires context { IsWellFormedContext (context_of ctx.now) }
+    requires measures { AreMeasuresOf measures.now (context_of ctx.now) }
+    requires takes { IsWellFormedType (context_of ctx.now) (type_of takes.now) }
+    ensures is { IfOk result (λ c. context_of c ≡ entry_of (type_of takes.now) ∷ context_of ctx.now) }
+    ensures formed { IfOk result (λ c. IsWellFormedContext (context_of c)) }
+    ensures measures { IfOk result (λ c. AreMeasuresOf measures.now (context_of c)) }
+{
+    let inner = with_variable(alloc, ctx, takes)?;
+    Ok(inner)
+}
+
+// The same of a type function, with a type variable of the bound.
+fn type_function_context(
+    alloc: Global,
+    ctx: &Ctx,
+    measures: &Measures,
+    bound: &Rc<Shape>,
+) -> Result<Ctx, AllocError>
+    requires context { IsWellFormedContext (context_of ctx.now) }
+    requires measures { AreMeasuresOf measures.now (context_of ctx.now) }
+    requires bound { IsWellFormedShape (context_of ctx.now) (shape_of bound.now.value) }
+    ensures is { IfOk result (λ c. context_of c ≡ TypeEntry (shape_of bound.now.value) ∷ context_of ctx.now) }
+    ensures formed { IfOk result (λ c. IsWellFormedContext (context_of c)) }
+    ensures measures { IfOk result (λ c. AreMeasuresOf measures.now (context_of c)) }
+{
+    let inner = with_type_variable(alloc, ctx, bound)?;
+    Ok(inner)
+}
+
+// The same of a boundary, with its exit.
+fn boundary_context(
+    alloc: Global,
+    ctx: &Ctx,
+    measures: &Measures,
+    gives: &Rc<Shape>,
+) -> Result<Ctx, AllocError>
+    requires context { IsWellFormedContext (context_of ctx.now) }
+    requires measures { AreMeasuresOf measures.now (context_of ctx.now) }
+    requires gives { IsWellFormedShape (context_of ctx.now) (shape_of gives.now.value) }
+    ensures is { IfOk result (λ c. context_of c ≡ exit_entry (shape_of gives.now.value) ∷ context_of ctx.now) }
+    ensures formed { IfOk result (λ c. IsWellFormedContext (context_of c)) }
+    ensures measures { IfOk result (λ c. AreMeasuresOf measures.now (context_of c)) }
+{
+    let inner = with_exit(alloc, ctx, gives)?;
+    Ok(inner)
+}
+
 // The context of the body of a let, with a variable of the type. That the body stands well there is known of it.
 fn body_context(
     alloc: Global,
     ctx: &Ctx,
     root: u32,
+    measures: &Measures,
     ty: &Ty,
     body: &Rc<Node>,
 ) -> Result<Ctx, AllocError>
     requires context { IsWellFormedContext (context_of ctx.now) }
+    requires measures { AreMeasuresOf measures.now (context_of ctx.now) }
     requires ty { IsWellFormedType (context_of ctx.now) (type_of ty.now) }
     requires body { (named : CapturingType) → IsWellFormedType (context_of ctx.now) named → StandsWell root (entry_of named ∷ context_of ctx.now) (term_of body.now.value) }
     ensures is { IfOk result (λ c. context_of c ≡ entry_of (type_of ty.now) ∷ context_of ctx.now) }
     ensures formed { IfOk result (λ c. IsWellFormedContext (context_of c)) }
+    ensures measures { IfOk result (λ c. AreMeasuresOf measures.now (context_of c)) }
     ensures stands { IfOk result (λ c. StandsWell root (context_of c) (term_of body.now.value)) }
 {
     let inner = with_variable(alloc, ctx, ty)?;
@@ -153,17 +240,19 @@ fn infer_form(
     alloc: Global,
     ctx: &Ctx,
     root: u32,
+    measures: &Measures,
     node: &Rc<Node>,
     log: &mut Log,
 ) -> Result<Found, Stop>
     requires context { IsWellFormedContext (context_of ctx.now) }
+    requires measures { AreMeasuresOf measures.now (context_of ctx.now) }
     requires term { StandsWell root (context_of ctx.now) (term_of node.now.value) }
     ensures exact { Meets found_of result (asked_of log.new.demands) (inferred_log root (context_of ctx.now) (term_of node.now.value) (places_of node.now.value) (asked_of log.old.demands)) }
     ensures places { IfOk result (λ f. places_of f.node.value ≡ places_of node.now.value) }
 {
     match &node.form {
         Form::Var(variable) => {
-            let found = rows::variable(alloc, ctx, node, *variable)?;
+            let found = rows::variable(alloc, ctx, measures, node, *variable)?;
             Ok(found)
         }
         Form::Lit(literal) => {
@@ -172,20 +261,20 @@ fn infer_form(
         }
         Form::Fun(takes, body) => {
             let read = read_type(alloc, takes, entries(ctx))?;
-            let inner = with_variable(alloc, ctx, &read)?;
-            let part = infer(alloc, &inner, root, body, log)?;
+            let inner = function_context(alloc, ctx, measures, &read)?;
+            let part = infer(alloc, &inner, root, measures, body, log)?;
             let found = function_end(alloc, ctx, node, takes, read, part)?;
             Ok(found)
         }
         Form::TFun(bound, body) => {
             let read = read_shape(alloc, bound, entries(ctx))?;
-            let inner = with_type_variable(alloc, ctx, &read)?;
-            let part = infer(alloc, &inner, root, body, log)?;
+            let inner = type_function_context(alloc, ctx, measures, &read)?;
+            let part = infer(alloc, &inner, root, measures, body, log)?;
             let found = type_function_end(alloc, ctx, node, bound, read, part)?;
             Ok(found)
         }
         Form::Boxed(content) => {
-            let found = rows::boxed(alloc, ctx, node, *content)?;
+            let found = rows::boxed(alloc, ctx, measures, node, *content)?;
             Ok(found)
         }
         Form::App(function, argument) => {
@@ -196,11 +285,11 @@ fn infer_form(
         }
         Form::Unbox(set, content) => rows::unboxing(alloc, root, ctx, node, set, *content, log),
         Form::Let(note, right, body) => {
-            let one = infer(alloc, ctx, root, right, log)?;
+            let one = infer(alloc, ctx, root, measures, right, log)?;
             let at = place_of(right);
             let named = name(alloc, ctx, root, note, &one.ty, at, log)?;
-            let inner = body_context(alloc, ctx, root, &named.ty, body)?;
-            let two = infer(alloc, &inner, root, body, log)?;
+            let inner = body_context(alloc, ctx, root, measures, &named.ty, body)?;
+            let two = infer(alloc, &inner, root, measures, body, log)?;
             let_end(alloc, ctx, node, named, one, two)
         }
         Form::Prim(operator, left, right) => {
@@ -208,9 +297,9 @@ fn infer_form(
         }
         Form::If(note, variable, positive, negative) => {
             test(alloc, ctx, node, note, *variable, log)?;
-            let one = infer(alloc, ctx, root, positive, log)?;
+            let one = infer(alloc, ctx, root, measures, positive, log)?;
             branch(alloc, ctx, note, &one.ty, place_of(positive), log)?;
-            let two = infer(alloc, ctx, root, negative, log)?;
+            let two = infer(alloc, ctx, root, measures, negative, log)?;
             choice_rest(
                 alloc,
                 root,
@@ -232,8 +321,8 @@ fn infer_form(
         }
         Form::Boundary(gives, body) => {
             let read = read_shape(alloc, gives, entries(ctx))?;
-            let inner = with_exit(alloc, ctx, &read)?;
-            let part = infer(alloc, &inner, root, body, log)?;
+            let inner = boundary_context(alloc, ctx, measures, &read)?;
+            let part = infer(alloc, &inner, root, measures, body, log)?;
             let ty = bounded(alloc, &inner, &part.ty, read, place_of(body), log)?;
             let found = boundary_end(alloc, node, gives, ty, part)?;
             Ok(found)

@@ -11,6 +11,7 @@ pub mod instances;
 mod known;
 pub mod laws;
 pub mod log;
+pub mod measures;
 pub mod operands;
 mod pairs;
 mod repeated;
@@ -21,7 +22,8 @@ pub mod stop;
 mod walking;
 
 pub use found::Found;
-pub use infer::infer_term;
+pub use infer::{infer_known, infer_term};
 pub use instances::Instances;
 pub use log::Log;
+pub use measures::{Measure, Measures};
 pub use stop::Stop;

@@ -5,25 +5,28 @@ ghost use Rattle.cc_base.specs.declared.literal.Base.TheVariants as bases;
 ghost use Rattle.cc_base.specs.Literals.{literal_of};
 ghost use Rattle.cc_capture.specs.Sets.{empty};
 ghost use Rattle.cc_core.specs.Places.{Alone, spots_at, places_of};
-ghost use Rattle.cc_core.specs.Shapes.{BaseShape, FunctionShape};
+ghost use Rattle.cc_core.specs.Shapes.{BaseShape, FunctionShape, BoxShape};
 ghost use Rattle.cc_core.specs.Typing as typing;
 ghost use Rattle.cc_core.specs.Views.{shape_of, type_of, context_of};
 ghost use Rattle.cc_core.specs.WellFormed.{IsWellFormedContext, IsWellFormedShape};
 ghost use Rattle.cc_sets.specs.Inference as plain;
 ghost use Rattle.cc_subty.specs.Demands.{asked_of};
 ghost use Rattle.cc_type.specs.Logs.{Answers, Meets};
+ghost use Rattle.cc_type.specs.Measures.{AreMeasuresOf};
 ghost use Rattle.cc_type.specs.Parts.{found_of};
 ghost use Rattle.cc_type.specs.Rows.{variable_row, literal_row, box_row, application_row, type_application_end, type_application_row, unboxing_end, unboxing_row, primitive_row, repeated_log, repetition_row, operation_row, leave_row};
 
 use crate::comparing::{against, below};
 use crate::found::Found;
 use crate::heads::{
-    box_part, device_part, exit_part, function_part, type_function_part, type_of_variable,
+    box_part, device_part, exit_part, function_part, measured_type, type_function_part,
+    type_of_variable,
 };
 use crate::instances::{Instances, instantiated};
 use crate::log::Log;
+use crate::measures::{Measures, measure_around};
 use crate::operands::{base_operand, capless, opening_set, operand, operation_argument};
-use crate::sizes::{fitting_leaf, leaf};
+use crate::sizes::{fitting_leaf, leaf, measured_leaf};
 use crate::steps::{entries, in_context};
 use crate::stop::{Stop, refused};
 use cc_base::code::Code;
@@ -112,13 +115,20 @@ fn base_answered(operation: Op) -> Base
 }
 
 /// A variable has the shape of its entry, and captures itself.
-pub(crate) fn variable(alloc: Global, ctx: &Ctx, node: &Node, variable: Var) -> Result<Found, Stop>
-    requires { IsWellFormedContext (context_of ctx.now) }
+pub(crate) fn variable(
+    alloc: Global,
+    ctx: &Ctx,
+    measures: &Measures,
+    node: &Node,
+    variable: Var,
+) -> Result<Found, Stop>
+    requires context { IsWellFormedContext (context_of ctx.now) }
+    requires measures { AreMeasuresOf measures.now (context_of ctx.now) }
     ensures exact { Answers found_of result (variable_row (context_of ctx.now) variable node.now.at) }
     ensures places { IfOk result (λ f. places_of f.node.value ≡ Alone (spots_at node.now.at node.now.first node.now.second)) }
 {
-    let ty = type_of_variable(alloc, ctx, variable)?;
-    let found = leaf(alloc, node, Form::Var(variable), ty)?;
+    let (ty, known) = measured_type(alloc, ctx, measures, variable)?;
+    let found = measured_leaf(alloc, node, Form::Var(variable), ty, known)?;
     Ok(found)
 }
 
@@ -132,15 +142,30 @@ pub(crate) fn literal(alloc: Global, node: &Node, literal: &Lit) -> Result<Found
     Ok(found)
 }
 
+// The type of a box, with the empty set.
+fn box_type(alloc: Global, inside: Ty) -> Result<Ty, AllocError>
+    ensures { IfOk result (λ t. type_of t ≡ record { shape = BoxShape (type_of inside).shape (type_of inside).set; set = empty }) }
+{
+    let shape = Rc::new(alloc, Shape::Boxed(Rc::new(alloc, inside)?))?;
+    Ok(pure_type(alloc, shape))
+}
+
 /// A box has the type of its content in its shape, and captures nothing.
-pub(crate) fn boxed(alloc: Global, ctx: &Ctx, node: &Node, content: Var) -> Result<Found, Stop>
-    requires { IsWellFormedContext (context_of ctx.now) }
+pub(crate) fn boxed(
+    alloc: Global,
+    ctx: &Ctx,
+    measures: &Measures,
+    node: &Node,
+    content: Var,
+) -> Result<Found, Stop>
+    requires context { IsWellFormedContext (context_of ctx.now) }
+    requires measures { AreMeasuresOf measures.now (context_of ctx.now) }
     ensures exact { Answers found_of result (box_row (context_of ctx.now) content node.now.at) }
     ensures places { IfOk result (λ f. places_of f.node.value ≡ Alone (spots_at node.now.at node.now.first node.now.second)) }
 {
-    let inside = type_of_variable(alloc, ctx, content)?;
-    let shape = Rc::new(alloc, Shape::Boxed(Rc::new(alloc, inside)?))?;
-    let found = leaf(alloc, node, Form::Boxed(content), pure_type(alloc, shape))?;
+    let (inside, known) = measured_type(alloc, ctx, measures, content)?;
+    let ty = box_type(alloc, inside)?;
+    let found = measured_leaf(alloc, node, Form::Boxed(content), ty, measure_around(known))?;
     Ok(found)
 }
 
@@ -181,7 +206,7 @@ fn type_application_end(
     match instantiated(alloc, gives, read, instances)? {
         Some(ty) => {
             let form = Form::TApp(function, argument.clone()?);
-            let found = fitting_leaf(alloc, node, form, ty)?;
+            let found = fitting_leaf(alloc, node, form, ty, None)?;
             Ok(found)
         }
         None => Err(refused(Code::E18, node.at)),

@@ -7,15 +7,17 @@ ghost use Rattle.cc_core.specs.Sizes.{type_size, size_with};
 ghost use Rattle.cc_core.specs.Views.{shape_of, type_of, form_of, term_of};
 ghost use Rattle.cc_sets.specs.Inference.{result as plain_result, tested, greatest_size};
 ghost use Rattle.cc_type.specs.Logs.{Answers};
+ghost use Rattle.cc_type.specs.Measures.{IsMeasuredBy};
 ghost use Rattle.cc_type.specs.Parts.{found_of};
 ghost use Rattle.cc_type.specs.Rows.{ways};
 
 use crate::found::Found;
+use crate::measures::{Measure, measured_size};
 use crate::stop::{Stop, refused};
 use cc_base::code::Code;
 use cc_capture::CapSet;
 use cc_core::captured::cv;
-use cc_core::sizes::{size, subst_size};
+use cc_core::sizes::subst_size;
 use cc_core::{Form, Node, Shape, Ty};
 use std::alloc::{AllocError, Global};
 use std::rc::Rc;
@@ -24,10 +26,11 @@ use std::rc::Rc;
 const GREATEST_SIZE: u64 = 4096;
 
 // Whether the type is not too large.
-fn fits(ty: &Ty) -> bool
+fn fits(ty: &Ty, known: Option<Measure>) -> bool
+    requires { IsMeasuredBy known (shape_of ty.now.shape.value) }
     ensures { result ≡ nat_le (type_size (type_of ty.now)) greatest_size }
 {
-    size(ty) <= GREATEST_SIZE
+    measured_size(known, &ty.shape).saturating_add(ty.set.len() as u64) <= GREATEST_SIZE
 }
 
 /// Whether the type is not too large with the shape put for the outermost index.
@@ -51,43 +54,79 @@ fn at_places_of(alloc: Global, node: &Node, form: Form) -> Result<Rc<Node>, Allo
     Ok(Rc::new(alloc, node)?)
 }
 
-/// What is found for a form without parts, at the places of the node, where the type is not too large.
-pub(crate) fn fitting_leaf(alloc: Global, node: &Node, form: Form, ty: Ty) -> Result<Found, Stop>
-    requires { nat_le (type_size (type_of ty)) greatest_size ≡ true }
+/// What is found for a form without parts, at the places of the node, where the type is not too large and this is known
+/// of its shape.
+pub(crate) fn fitting_leaf(
+    alloc: Global,
+    node: &Node,
+    form: Form,
+    ty: Ty,
+    known: Option<Measure>,
+) -> Result<Found, Stop>
+    requires fits { nat_le (type_size (type_of ty)) greatest_size ≡ true }
+    requires measured { IsMeasuredBy known (shape_of ty.shape.value) }
     ensures exact { Answers found_of result (tested ways node.now.at (plain_result (type_of ty) (form_of form))) }
     ensures places { IfOk result (λ f. places_of f.node.value ≡ places_around (spots_at node.now.at node.now.first node.now.second) form) }
 {
     let node = at_places_of(alloc, node, form)?;
     let captured = cv(alloc, &node)?;
-    Ok(Found { ty, node, captured })
+    Ok(Found {
+        ty,
+        node,
+        captured,
+        known,
+    })
 }
 
 /// The same of any type. One that is too large is refused.
+pub(crate) fn measured_leaf(
+    alloc: Global,
+    node: &Node,
+    form: Form,
+    ty: Ty,
+    known: Option<Measure>,
+) -> Result<Found, Stop>
+    requires { IsMeasuredBy known (shape_of ty.shape.value) }
+    ensures exact { Answers found_of result (tested ways node.now.at (plain_result (type_of ty) (form_of form))) }
+    ensures places { IfOk result (λ f. places_of f.node.value ≡ places_around (spots_at node.now.at node.now.first node.now.second) form) }
+{
+    if !fits(&ty, known) {
+        return Err(refused(Code::E18, node.at));
+    }
+    fitting_leaf(alloc, node, form, ty, known)
+}
+
+/// The same where nothing is known of the shape.
 pub(crate) fn leaf(alloc: Global, node: &Node, form: Form, ty: Ty) -> Result<Found, Stop>
     ensures exact { Answers found_of result (tested ways node.now.at (plain_result (type_of ty) (form_of form))) }
     ensures places { IfOk result (λ f. places_of f.node.value ≡ places_around (spots_at node.now.at node.now.first node.now.second) form) }
 {
-    if !fits(&ty) {
-        return Err(refused(Code::E18, node.at));
-    }
-    fitting_leaf(alloc, node, form, ty)
+    measured_leaf(alloc, node, form, ty, None)
 }
 
-/// What is found for a form with these captured variables, at the places of the node, where the type is not too large.
+/// What is found for a form with these captured variables, at the places of the node, where the type is not too large
+/// and this is known of its shape.
 pub(crate) fn fitting_parts(
     alloc: Global,
     node: &Node,
     form: Form,
     ty: Ty,
+    known: Option<Measure>,
     captured: CapSet,
 ) -> Result<Found, Stop>
     requires captured { captured ≡ captured_variables (form_of form) }
     requires fits { nat_le (type_size (type_of ty)) greatest_size ≡ true }
+    requires measured { IsMeasuredBy known (shape_of ty.shape.value) }
     ensures exact { Answers found_of result (tested ways node.now.at (plain_result (type_of ty) (form_of form))) }
     ensures places { IfOk result (λ f. places_of f.node.value ≡ places_around (spots_at node.now.at node.now.first node.now.second) form) }
 {
     let node = at_places_of(alloc, node, form)?;
-    Ok(Found { ty, node, captured })
+    Ok(Found {
+        ty,
+        node,
+        captured,
+        known,
+    })
 }
 
 /// The same of any type. One that is too large is refused.
@@ -96,14 +135,16 @@ pub(crate) fn with_parts(
     node: &Node,
     form: Form,
     ty: Ty,
+    known: Option<Measure>,
     captured: CapSet,
 ) -> Result<Found, Stop>
-    requires { captured ≡ captured_variables (form_of form) }
+    requires captured { captured ≡ captured_variables (form_of form) }
+    requires measured { IsMeasuredBy known (shape_of ty.shape.value) }
     ensures exact { Answers found_of result (tested ways node.now.at (plain_result (type_of ty) (form_of form))) }
     ensures places { IfOk result (λ f. places_of f.node.value ≡ places_around (spots_at node.now.at node.now.first node.now.second) form) }
 {
-    if !fits(&ty) {
+    if !fits(&ty, known) {
         return Err(refused(Code::E18, node.at));
     }
-    fitting_parts(alloc, node, form, ty, captured)
+    fitting_parts(alloc, node, form, ty, known, captured)
 }

@@ -1,25 +1,11 @@
-use Rattle.cc_core.specs.Views.{context_of}
-use Rattle.cc_check.specs.Definitions.{definition_of}
-use Rattle.cc_check.proofs.JudgedResults.{answered_typed, answered_over_devices, answered_without_hole}
-use Rattle.cc_check.proofs.JudgedResults.{answered_without_type}
+use Rattle.std.proofs.Common.{sym, ◌∙◌}
+use Rattle.std.proofs.lemmas.List.{length-map}
+use Rattle.cc_core.specs.Views.{bind_of, context_of}
+use Rattle.cc_type.proofs.MeasuredEntries.{all_unmeasured}
 use Rattle.cc_check.proofs.definition.check_next.Goals as goal
 
-pub returns-clause-typed : goal.returns-clause-typed
-returns-clause-typed c =
-    answered_typed c.args.devices (context_of c.args.ctx.now) (definition_of c.args.def.now) c.requires.fits
-    c.judge.result c.judge.ensures.verdict
-
-pub returns-clause-over_devices : goal.returns-clause-over_devices
-returns-clause-over_devices c =
-    answered_over_devices c.args.devices (context_of c.args.ctx.now) (definition_of c.args.def.now) c.requires.fits
-    c.judge.result c.judge.ensures.verdict
-
-pub returns-clause-no_hole : goal.returns-clause-no_hole
-returns-clause-no_hole c =
-    answered_without_hole c.args.devices (context_of c.args.ctx.now) (definition_of c.args.def.now) c.requires.fits
-    c.judge.result c.judge.ensures.verdict
-
-pub returns-clause-no_type : goal.returns-clause-no_type
-returns-clause-no_type c =
-    answered_without_type c.args.devices (context_of c.args.ctx.now) (definition_of c.args.def.now) c.requires.fits
-    c.requires.holes c.judge.result c.judge.ensures.verdict
+pub check_known-requires-clause-measures : goal.check_known-requires-clause-measures
+check_known-requires-clause-measures c =
+    all_unmeasured c.args.devices c.new-measures.result (context_of c.args.ctx.now) c.new-measures.ensures.sizes
+    c.new-measures.ensures.first
+    (c.new-measures.ensures.before ∙ c.len.ensures ∙ sym (length-map c.args.ctx.now bind_of))

@@ -5,4 +5,4 @@ use Rattle.cc_type.proofs.ends.names_newest.Goals as goal
 
 pub returns : goal.returns
 returns c = λ fails.
-    subst (λ n. Meets (without n) 0 (shape_of c.args.shape.now)) c.entries.ensures (c.occurs_in_shape.ensures.0 fails)
+    subst (λ n. Meets (without n) 0 (shape_of c.args.shape.now)) c.entries.ensures (c.occurs_in_measured.ensures fails)

@@ -1,20 +1,9 @@
-use Rattle.std.proofs.Common.{subst}
-use Rattle.cc_core.specs.Places.{places_of}
-use Rattle.cc_core.specs.Views.{term_of, context_of}
-use Rattle.cc_subty.specs.Demands.{asked_of}
-use Rattle.cc_type.specs.Logs.{Meets}
-use Rattle.cc_type.specs.Parts.{found_of}
-use Rattle.cc_type.proofs.InferredLogs.{inferred_logs}
-use Rattle.cc_type.proofs.StandingTerms.{stands_well}
+use Rattle.std.proofs.Common.{sym, subst, ◌≤◌, length, arith}
+use Rattle.cc_core.specs.Views.{context_of}
+use Rattle.cc_type.proofs.MeasuredEntries.{nothing_measured}
 use Rattle.cc_type.proofs.infer.infer_term.Goals as goal
 
-pub infer-requires-clause-term : goal.infer-requires-clause-term
-infer-requires-clause-term c = stands_well c.args.root (context_of c.args.ctx.now)
-    (term_of c.args.node.now.value) c.requires.term
-
-pub returns-clause-exact : goal.returns-clause-exact
-returns-clause-exact c =
-    subst (Meets found_of c.infer.result (asked_of c.infer.new.log.demands))
-    (inferred_logs c.args.root (term_of c.args.node.now.value) (context_of c.args.ctx.now)
-    (places_of c.args.node.now.value) (asked_of c.args.log.now.demands))
-    c.infer.ensures.exact
+pub infer_known-requires-clause-measures : goal.infer_known-requires-clause-measures
+infer_known-requires-clause-measures c =
+    let before = c.new-measures.ensures.before in
+    nothing_measured c.new-measures.result (context_of c.args.ctx.now) c.new-measures.ensures.sizes (omega (arith, before))
