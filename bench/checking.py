@@ -111,6 +111,43 @@ def closures(count):
     return ''.join(text % at for at in range(count))
 
 
+def in_turn(sets, outer):
+    """A type of so many functions that each take one with 20 parameters: the sets take turns."""
+    text, at = '', 0
+    for _ in range(outer):
+        row = ''.join('(a:Unit^%s)->' % sets[(at + step) % len(sets)] for step in range(20))
+        text, at = text + '(a:%sUnit)->' % row, at + 20
+    return text + 'Unit'
+
+
+def kept(count, omitted, vals, sets, outer):
+    """So many calls of a function, whose argument has types with these sets, which are to be below that of a device.
+    They are kept, since they lead to the omitted sets of the parameters of these names."""
+    parameters = ''.join('fun(%s:((x:Int)->Unit)^?)=>' % name for name in omitted)
+    types = in_turn(['{out}'], outer), in_turn(sets, outer)
+    return 'def m=%s%sfun(f:(y:%s)->Int)=>fun(y:%s)=>%s\n' % (parameters, vals, *types, tree_of('f(y)', count))
+
+
+def kept_through_closures(count):
+    vals = ''.join('val p%d=fun(x:Int)=>h(x);' % at for at in range(40))
+    return kept(count, ['h'], vals, ['{p%d}' % at for at in range(40)], 32)
+
+
+def kept_behind_closures(count):
+    """Two sets take turns, each of which leads to an omitted one by way of 12 closures."""
+    vals = ''
+    for name in 'gh':
+        vals += 'val %s0=fun(x:Int)=>%s(x);' % (name, name)
+        vals += ''.join('val %s%d=fun(x:Int)=>%s%d(x);' % (name, at, name, at - 1) for at in range(1, 12))
+    return kept(count, 'gh', vals, ['{g11}', '{h11}'], 32)
+
+
+def kept_of_omitted(count):
+    """The sets of 60 parameters take turns, and each is omitted."""
+    omitted = ['h%d' % at for at in range(60)]
+    return kept(count, omitted, '', ['{%s}' % name for name in omitted], 16)
+
+
 def applications(count):
     """So many applications to a shape of size 10, each of a type of size 4,091."""
     application = 'p[%s]' % functions('Int', 4, 'Box[Int]')
@@ -182,6 +219,9 @@ TEXTS = [
     ('the same where one set is omitted', comparisons_of_holes, 4200, 1),
     ('comparisons of types nested to the left', comparisons_to_the_left, 4200, 1),
     ('comparisons through 90 definitions', comparisons_through_definitions, 4000, 91),
+    ('kept comparisons of 40 closures', kept_through_closures, 3600, 1),
+    ('kept comparisons behind 12 closures each', kept_behind_closures, 3600, 1),
+    ('kept comparisons of 60 omitted sets', kept_of_omitted, 4800, 1),
     ('chains of 62 omitted sets', chains_of_holes, 32, 1),
     ('definitions of 30 closures', closures, 60, 60),
     ('type applications to a shape', applications, 1160, 1),

@@ -2,7 +2,7 @@
 use Rattle.std.proofs.Common.{refl, [], arith}
 use Rattle.cc_capture.specs.Elements.{element_order, same_element}
 use Rattle.cc_capture.specs.Rising.{placed}
-use Rattle.cc_capture.specs.Sets.{contains, empty, insert, is_subset, same_set, flat_image, from_list, union}
+use Rattle.cc_capture.specs.Sets.{contains, empty, insert, is_subset, same_set, flat_image, from_list, union, retain, remove}
 use Rattle.cc_core.specs.Substitution.{single}
 use Rattle.cc_core.proofs.Moving.{Member-single_itself}
 use Rattle.cc_capture.specs.declared.var.Elem.TheVariants.{Hole}
@@ -12,6 +12,7 @@ use Rattle.cc_sets.specs.Inference.{demand_at}
 use Rattle.cc_type.specs.KeepingExamples.{with_local, number, NumbersAreBelowNothing, ConsolesAreKept, NumbersAreForced}
 use Rattle.cc_type.specs.KeepingExamples.{HolesAreBelowThemselves, HolesMayHaveCap, ConsolesAreLost}
 use Rattle.cc_type.specs.KeepingExamples.{OneLostAndWhatForcesAreKept, WhatMayFailIsKept, RepeatedIsKeptOnce}
+use Rattle.cc_type.specs.KeepingExamples.{OneOfAlikeEndsIsKept}
 use Rattle.cc_type.specs.KeepingExamples.{GreatestIsFound}
 
 pub numbers_are_below_nothing : NumbersAreBelowNothing
@@ -44,16 +45,20 @@ unfolding contains empty insert placed element_order same_element is_subset flat
 consoles_are_lost = (refl, refl, refl, refl, refl)
 
 pub one_lost_and_what_forces_are_kept : OneLostAndWhatForcesAreKept
-unfolding contains empty insert placed element_order same_element is_subset same_set flat_image from_list union
+unfolding contains empty insert placed element_order same_element is_subset same_set flat_image from_list union retain remove
 one_lost_and_what_forces_are_kept at = refl
 
 pub what_may_fail_is_kept : WhatMayFailIsKept
-unfolding contains empty insert placed element_order same_element is_subset same_set flat_image from_list union
+unfolding contains empty insert placed element_order same_element is_subset same_set flat_image from_list union retain remove
 what_may_fail_is_kept at = refl
 
 pub repeated_is_kept_once : RepeatedIsKeptOnce
-unfolding contains empty insert placed element_order same_element is_subset same_set flat_image from_list union
+unfolding contains empty insert placed element_order same_element is_subset same_set flat_image from_list union retain remove
 repeated_is_kept_once at other = (refl, refl)
+
+pub one_of_alike_ends_is_kept : OneOfAlikeEndsIsKept
+unfolding contains empty insert placed element_order same_element is_subset same_set flat_image from_list union retain remove
+one_of_alike_ends_is_kept at other = (refl, refl, refl)
 
 pub greatest_is_found : GreatestIsFound
 unfolding contains empty insert placed element_order same_element is_subset

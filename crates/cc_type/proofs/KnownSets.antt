@@ -59,7 +59,7 @@ settled_on [] base l r h = h
 settled_on (b ∷ passed) base l r h = settled_deeper b (passed ++ base) l r (settled_on passed base l r h)
 
 -- a well-formed set stands as it is read
-still : (n : ℕ) (g : Context) (x : Set) → IsWellFormedSet g x → read_set n x ≡ x
+pub still : (n : ℕ) (g : Context) (x : Set) → IsWellFormedSet g x → read_set n x ≡ x
 still n g x h = read_set-still n 0 x (well_formed-bound_within SetSort g x h)
 
 -- two sets that are known

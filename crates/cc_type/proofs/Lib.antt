@@ -2,12 +2,15 @@ pub mod AvoidedGreatest
 pub mod CheckedHoles
 pub mod ClosingWithout
 pub mod ComparedAgain
+pub mod DemandEnds
+pub mod EndedLists
 pub mod FilledAlike
 pub mod FormedParts
 pub mod FoundHoles
 pub mod Gathering
 pub mod GreatestEntries
 pub mod GreatestPositions
+pub mod HashedSets
 pub mod HolesBelow
 pub mod InferredLogs
 pub mod KeptDemands

@@ -2,12 +2,11 @@
 use Rattle.std.proofs.Common.{◌≡◌, ℕ, zero, suc, ◌≤◌, ◌<◌, Bool, true, false, ◌&&◌, ◌||◌, not, cond, map, List, [], ◌∷◌}
 use Rattle.std.proofs.Common.{◌++◌, length, length-append, Option, Some, None, inl, inr, refl, sym, ap, ◌∙◌, subst, arith}
 use Rattle.std.specs.Prelude.{get_or}
-use Rattle.std.specs.List.{list_all, list_any}
-use Rattle.std.proofs.lemmas.Bool.{and_from, and_parts, or_cases, or_left, or_right}
+use Rattle.std.specs.List.{list_all}
+use Rattle.std.proofs.lemmas.Bool.{and_from, and_parts, or_cases, or_left, or_right, not_from_false}
 use Rattle.cc_base.specs.declared.place.Place.{Place}
 use Rattle.cc_capture.specs.declared.var.Var.{Var}
 use Rattle.cc_capture.specs.declared.var.Var.TheVariants.{Bound, Free}
-use Rattle.cc_capture.specs.Sets.{same_set}
 use Rattle.cc_core.specs.Shapes.{Shape, TypeVariable}
 use Rattle.cc_core.specs.Contexts.{TypeEntry, Context}
 use Rattle.cc_core.specs.Reading.{read_shape}
@@ -23,15 +22,16 @@ use Rattle.cc_core.proofs.WellFormedness.{well_formed-bound_within}
 use Rattle.cc_meta_typing.proofs.ComparisonLemmas.{comparison_more}
 use Rattle.cc_sets.specs.Comparison.{Demand, Comparison, Unfinished, Mismatch, Matches, bound_in, bound_of}
 use Rattle.cc_sets.specs.Comparison.{bound_compared, comparison}
-use Rattle.cc_sets.specs.Outcomes.{Asked, IsBelow, IsCapless, Placed}
+use Rattle.cc_sets.specs.Outcomes.{IsBelow, Placed}
 use Rattle.cc_sets.specs.Inference.{demand_at}
 use Rattle.cc_subty.proofs.WalkAgreement.{entry_at}
 use Rattle.cc_type.specs.ComparedAgain.{told}
-use Rattle.cc_type.specs.Keeping.{has_hole, is_demand_settled, has_lost, is_alike, is_again, recent}
+use Rattle.cc_type.specs.Keeping.{has_hole, is_demand_settled, has_lost, ends_beyond}
 use Rattle.cc_type.specs.Keeping.{is_repeated, is_needless, with_one, keeping}
 use Rattle.cc_type.specs.KeptWalks.{Keeps, StandsOn, goes, is_told, is_remembered_as, is_remembered}
 use Rattle.cc_type.specs.declared.pairs.Pair.{Pair}
 use Rattle.cc_type.proofs.ComparedAgain.{TestsAgain, has_hole-renamed, settled-again, told_again}
+use Rattle.cc_type.proofs.RepeatedDemands.{any_ended_has_none}
 use Rattle.cc_type.proofs.KeptWalks.{settled_goes}
 
 untrue : false ≡ true → ⊥
@@ -198,22 +198,6 @@ all_needless log (p ∷ list) e =
           absurd (omega (arith, more, long, same))
     ] refl e
 
-again_has_none : (d : Demand) (a : Asked) → is_again d a ≡ true → not (has_hole d.right) ≡ true
-again_has_none d (IsBelow first) h =
-    let alike : Bool = list_all (is_alike first.context d.context d.right) d.left.list in
-    (and_parts (not (has_hole d.right)) alike
-    (and_parts (same_set first.left d.left && same_set first.right d.right) (not (has_hole d.right) && alike) h).1).0
-again_has_none d (IsCapless set) h = absurd (untrue h)
-
-any_again_has_none : (d : Demand) (list : List Placed) → list_any (λ placed. is_again d placed.asked) list ≡ true
-    → not (has_hole d.right) ≡ true
-any_again_has_none d [] h = absurd (untrue h)
-any_again_has_none d (p ∷ list) h =
-    elim (or_cases (is_again d p.asked) (list_any (λ placed. is_again d placed.asked) list) h) as (λ _. not (has_hole d.right) ≡ true) [
-      | inl here ↦ again_has_none d p.asked here
-      | inr later ↦ any_again_has_none d list later
-    ]
-
 needless_goes : (log : List Placed) (d : Demand) → is_needless log (IsBelow d) ≡ true → goes true d ≡ true
 needless_goes log d h =
     elim (or_cases ((has_lost log && not (has_hole d.right)) || is_demand_settled d) (is_repeated log (IsBelow d)) h) as (λ _. goes true d ≡ true) [
@@ -222,7 +206,8 @@ needless_goes log d h =
             | inl lost ↦ or_right (is_demand_settled d) (not (has_hole d.right)) (and_parts (has_lost log) (not (has_hole d.right)) lost).1
             | inr settled ↦ or_left (is_demand_settled d) (not (has_hole d.right)) settled
           ]
-      | inr again ↦ or_right (is_demand_settled d) (not (has_hole d.right)) (any_again_has_none d (recent log) again)
+      | inr again ↦ or_right (is_demand_settled d) (not (has_hole d.right)) (not_from_false (has_hole d.right)
+          (any_ended_has_none log (ends_beyond d.context d.right d.left) d.right again))
     ]
 
 needless_go : (at : Place) (log : List Placed) (ds : List Demand) → AllNeedless log (map (demand_at at) ds)

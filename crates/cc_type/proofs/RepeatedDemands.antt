@@ -1,71 +1,251 @@
 -- What repeats a demand is served by each filling over the globals that serves it.
-use Rattle.std.proofs.Common.{◌≡◌, ◌⊎◌, ℕ, ◌<◌, Bool, true, false, not, ◌||◌, ◌&&◌, List, [], ◌∷◌, ◌++◌, length, take, drop}
-use Rattle.std.proofs.Common.{zero, suc, ◌+◌, ◌-◌, ◌≤◌, get_or, arith, length-drop}
-use Rattle.std.proofs.Common.{Option, Some, None, refl, sym, ap, ◌∙◌, subst, inl, inr}
-use Rattle.std.specs.List.{list_any, list_all}
-use Rattle.std.proofs.lemmas.Bool.{and_parts, or_cases, or_left, or_right}
-use Rattle.std.proofs.lemmas.List.{length-map}
+use Rattle.std.proofs.Common.{◌≡◌, ◌↔◌, ◌⊎◌, ℕ, zero, suc, ◌<◌, Bool, true, false, not, cond, ◌&&◌, List, [], ◌∷◌}
+use Rattle.std.proofs.Common.{◌++◌, length, Some, None, refl, sym, ap, ◌∙◌, subst, inl, inr, arith}
+use Rattle.std.proofs.lemmas.Bool.{and_parts, or_cases, both_ways, not-true, false_from_ne_true}
 use Rattle.cc_capture.specs.declared.var.Var.TheVariants.{Bound, Free}
 use Rattle.cc_capture.specs.declared.var.Elem.{Elem}
 use Rattle.cc_capture.specs.declared.var.Elem.TheVariants.{Var as Variable, Cap, Hole}
-use Rattle.cc_capture.specs.Sets.{Set, Member, contains, same_set}
+use Rattle.cc_capture.specs.Elements.{same_element}
+use Rattle.cc_capture.specs.ElementOrder.{same_element-true, same_element-itself}
+use Rattle.cc_capture.specs.Sets.{Set, Member, contains, same_set, union, remove}
 use Rattle.cc_capture.proofs.Equality.{same_set-decides}
-use Rattle.cc_core.specs.Shapes.{Shape}
-use Rattle.cc_core.specs.Contexts.{Bind, TermEntry, TypeEntry, Context, lookup}
+use Rattle.cc_capture.proofs.Membership.{Member-retain, Member-remove, Member-union}
+use Rattle.cc_core.specs.Contexts.{TermEntry, Context, lookup}
 use Rattle.cc_core.specs.Questions.{is_hole}
 use Rattle.cc_core.specs.Substitution.{single, filled, filled_element, filled_set}
 use Rattle.cc_core.specs.Subcapturing.{Subcaptures, SubcapturesSet, element, variable}
-use Rattle.cc_core.specs.WellFormed.{TermKind, kinds_of, IsWellFormedContext}
-use Rattle.cc_core.proofs.CallLemmas.{any-push}
-use Rattle.cc_core.proofs.KindFacts.{IsKindedElement, IsKindedSet-test}
+use Rattle.cc_core.specs.WellFormed.{TermKind, kinds_of, IsWellFormedContext, IsWellFormedSet}
+use Rattle.cc_core.proofs.KindFacts.{IsKindedElement, IsKindedSet, IsKindedSet-from, IsKindedSet-test}
 use Rattle.cc_core.proofs.Moving.{Member-single, Member-single_itself}
+use Rattle.cc_core.proofs.SubcapturingContexts.{entry_of_term}
 use Rattle.cc_core.proofs.SubcapturingLemmas.{subcaptures_longer, subcaptures_shorter, subcaptures_variable}
-use Rattle.cc_core.proofs.SubcapturingLemmas.{subcaptures_other}
 use Rattle.cc_sets.specs.Comparison.{Demand}
 use Rattle.cc_sets.specs.Outcomes.{Asked, IsBelow, IsCapless, Placed}
 use Rattle.cc_sets.specs.Fillings.{Filling, filled_context, IsServed, AllServed, IsGlobal, IsOverGlobals}
+use Rattle.cc_sets.proofs.SubcapturingSearch.{set_lower}
 use Rattle.cc_meta_checking.specs.FillingLaws.{AreGlobals, IsFit}
 use Rattle.cc_meta_checking.proofs.CheckedDefinitions.{all_terms}
 use Rattle.cc_meta_checking.proofs.LeastFillings.{Member-filled, Member-from_filled, lookup-filled, globals_still}
 use Rattle.cc_meta_checking.proofs.LeastFillings.{filled_context-append}
-use Rattle.cc_subty.specs.declared.demands.Demand.{Demand as DeclaredDemand}
-use Rattle.cc_subty.specs.Demands.{demand_of, asked_of}
-use Rattle.cc_solve.proofs.CollectedDemands.{take_one, take_whole}
-use Rattle.cc_type.specs.Keeping.{has_hole, is_end, has_ends_beside, is_declared_with, are_declared_alike, is_alike}
-use Rattle.cc_type.specs.Keeping.{may_force, repeats, is_again, recent, is_repeated}
-use Rattle.cc_type.proofs.KeptDemands.{listed_passes, none_passes}
-
-not_is_false : (b : Bool) → not b ≡ true → b ≡ false
-not_is_false true h = cc
-not_is_false false h = refl
-
--- entries that are declared alike
-declared_parts : (right : Set) (o o' : Option Bind) → are_declared_alike right o o' ≡ true
-    → (s s' : Shape) × (d : Set) × (o ≡ Some (TermEntry s d)) × (o' ≡ Some (TermEntry s' d))
-    × (has_ends_beside right d ≡ true)
-declared_parts right (Some (TermEntry s d)) (Some (TermEntry s' d')) h =
-    let both = and_parts (same_set d' d) (has_ends_beside right d) h in
-    let same : d' ≡ d = (same_set-decides d' d).0 both.0 in
-    (s, s', d, refl, ap (λ x. Some (TermEntry s' x)) same, both.1)
-declared_parts right (Some (TermEntry s d)) (Some (TypeEntry b)) h = cc
-declared_parts right (Some (TermEntry s d)) None h = cc
-declared_parts right (Some (TypeEntry b)) o' h = cc
-declared_parts right None o' h = cc
+use Rattle.cc_type.specs.Keeping.{has_hole, is_end, beyond, declared_of, all_given_way, ends_beyond}
+use Rattle.cc_type.specs.Keeping.{is_ended_so, has_ended_so, may_force, is_repeated}
+use Rattle.cc_type.proofs.DemandEnds.{beyond_both, both_beyond, member_cases, declared_is_lower, declared_is_kinded}
+use Rattle.cc_type.proofs.KeptDemands.{none_passes}
 
 -- all that is asked is fit over the globals
 abbrev pub AllFit : Context → List Placed → Type 0
 AllFit globals [] = Unit {0}
 AllFit globals (p ∷ list) = IsFit globals p.asked × AllFit globals list
 
-fit_dropped : (globals : Context) (n : ℕ) (list : List Placed) → AllFit globals list → AllFit globals (drop n list)
-fit_dropped globals zero list fits = fits
-fit_dropped globals (suc n) [] fits = fits
-fit_dropped globals (suc n) (p ∷ list) fits = fit_dropped globals n list fits.1
+no_hole : (right : Set) → has_hole right ≡ false → (n : ℕ) → Member (Hole n) right → ⊥
+unfolding contains
+no_hole right none n m = let no : true ≡ false = none_passes is_hole right.list none (Hole n) m in cc
 
-served_dropped : (f : Filling) (n : ℕ) (list : List Placed) → AllServed f list → AllServed f (drop n list)
-served_dropped f zero list all = all
-served_dropped f (suc n) [] all = all
-served_dropped f (suc n) (p ∷ list) all = served_dropped f n list all.1
+-- a set on the way to the ends: its variables are declared, below a limit, and it has nothing that the right set has
+record OnTheWay (context : Context) (right : Set) (limit : ℕ) (set : Set) : Type 0 where
+  known : IsKindedSet (kinds_of context) [] set
+  low : (q : ℕ) → Member (Variable (Free q)) set → q < limit
+  apart : (e : Elem) → Member e set → contains e right ≡ false
+
+same_or_other : (x y : Elem) → (x ≡ y) ⊎ (x ≡ y → ⊥)
+same_or_other x y = by_test (same_element x y) refl
+  where
+    by_test : (b : Bool) → same_element x y ≡ b → (x ≡ y) ⊎ (x ≡ y → ⊥)
+    by_test true is = inl (same_element-true x y is)
+    by_test false is =
+        inr (λ same. both_ways (same_element x y) is (ap (λ z. same_element z y) same ∙ same_element-itself y))
+
+module _ (f : Filling) (context : Context) (right : Set) (well : IsWellFormedContext context)
+    (none : has_hole right ≡ false) where
+  abbrev stands : Context
+  stands = filled_context f context
+
+  abbrev above : Set
+  above = filled_set f right
+
+  abbrev Below : Set → Type 0
+  Below set = SubcapturesSet stands (filled_set f set) above
+
+  -- a variable that the right set has not is not in what is filled of it
+  out_of_above : (p : ℕ) → contains (Variable (Free p)) right ≡ false → Member (Variable (Free p)) above → ⊥
+  out_of_above p out m = let k = Member-from_filled f (Variable (Free p)) right m in by_element k.0 k.1 k.2
+    where
+      by_element : (x : Elem) → Member x right → Member (Variable (Free p)) (filled_element f x) → ⊥
+      by_element (Variable v) m l =
+          both_ways (contains (Variable (Free p)) right) out
+          (ap (λ x. contains x right) (Member-single (Variable (Free p)) (Variable v) l) ∙ m)
+      by_element Cap m l = let same = Member-single (Variable (Free p)) Cap l in cc
+      by_element (Hole n) m l = no_hole right none n m
+
+  module _ (p : ℕ) (set : Set) (way : OnTheWay context right (suc p) set) where
+    abbrev declared : Set
+    declared = declared_of (lookup context p)
+
+    abbrev next : Set
+    next = union (remove (Variable (Free p)) set) (beyond right declared)
+
+    next_cases : (e : Elem) → Member e next
+        → ((e ≡ Variable (Free p) → ⊥) × Member e set) ⊎ (Member e declared × (contains e right ≡ false))
+    next_cases e m =
+        elim ((Member-union e (remove (Variable (Free p)) set) (beyond right declared)).0 m)
+        as (λ _. ((e ≡ Variable (Free p) → ⊥) × Member e set) ⊎ (Member e declared × (contains e right ≡ false))) [
+          | inl was ↦ inl ((Member-remove e (Variable (Free p)) set).0 was)
+          | inr new ↦ inr (beyond_both right declared e new)
+        ]
+
+    way_on : OnTheWay context right p next
+    way_on = record {
+      known = λ e m.
+          elim (next_cases e m) as (λ _. IsKindedElement (kinds_of context) [] e) [
+            | inl was ↦ way.known e was.1
+            | inr new ↦ declared_is_kinded context p well e new.0
+          ];
+      low = λ q m.
+          elim (next_cases (Variable (Free q)) m) as (λ _. q < p) [
+            | inl was ↦
+                let low = way.low q was.1 in
+                let apart : q ≡ p → ⊥ = λ same. was.0 (ap (λ n. Variable (Free n)) same) in
+                omega (arith, low, apart)
+            | inr new ↦ declared_is_lower context p well q new.0
+          ];
+      apart = λ e m.
+          elim (next_cases e m) as (λ _. contains e right ≡ false) [
+            | inl was ↦ way.apart e was.1
+            | inr new ↦ new.1
+          ];
+    }
+
+    way_stays : contains (Variable (Free p)) set ≡ false → OnTheWay context right p set
+    way_stays out = record {
+      known = way.known;
+      low = λ q m.
+          let low = way.low q m in
+          let apart : q ≡ p → ⊥ = λ same.
+          both_ways (contains (Variable (Free q)) set) (ap (λ n. contains (Variable (Free n)) set) same ∙ out) m in
+          omega (arith, low, apart);
+      apart = way.apart;
+    }
+
+    -- the entry of the variable
+    module _ (member : Member (Variable (Free p)) set) where
+      entry : (s : _) × (d : Set) × (lookup context p ≡ Some (TermEntry s d))
+      entry = entry_of_term context p (way.known (Variable (Free p)) member)
+
+      is_declared : declared ≡ entry.1
+      is_declared = ap declared_of entry.2
+
+      forward : Below set → Below next
+      forward below e m =
+          let k = Member-from_filled f e next m in
+          elim (next_cases k.0 k.1) as (λ _. Subcaptures stands e above) [
+            | inl was ↦ below e (Member-filled f k.0 e set was.1 k.2)
+            | inr new ↦
+                elim ((subcaptures_variable stands p (filled f entry.0) (filled_set f entry.1) above
+                (lookup-filled f context p entry.0 entry.1 entry.2)).0
+                (below (Variable (Free p))
+                (Member-filled f (Variable (Free p)) (Variable (Free p)) set member (Member-single_itself (Variable (Free p))))))
+                as (λ _. Subcaptures stands e above) [
+                  | inl there ↦ absurd (out_of_above p (way.apart (Variable (Free p)) member) there)
+                  | inr each ↦ each e (Member-filled f k.0 e entry.1 (subst (Member k.0) is_declared new.0) k.2)
+                ]
+          ]
+
+      backward : Below next → Below set
+      backward below e m =
+          let k = Member-from_filled f e set m in
+          elim (same_or_other k.0 (Variable (Free p))) as (λ _. Subcaptures stands e above) [
+            | inl same ↦
+                let is : e ≡ Variable (Free p) =
+                Member-single e (Variable (Free p)) (subst (λ x. Member e (filled_element f x)) same k.2) in
+                subst (λ y. Subcaptures stands y above) (sym is)
+                (variable (lookup-filled f context p entry.0 entry.1 entry.2)
+                (λ y l.
+                let j = Member-from_filled f y entry.1 l in
+                elim (member_cases j.0 right) as (λ _. Subcaptures stands y above) [
+                  | inl inside ↦ element (Member-filled f j.0 y right inside j.2)
+                  | inr out ↦
+                      below y
+                      (Member-filled f j.0 y next
+                      ((Member-union j.0 (remove (Variable (Free p)) set) (beyond right declared)).1
+                      (inr (both_beyond right declared j.0 (subst (Member j.0) (sym is_declared) j.1) out)))
+                      j.2)
+                ]))
+            | inr other ↦
+                below e
+                (Member-filled f k.0 e next
+                ((Member-union k.0 (remove (Variable (Free p)) set) (beyond right declared)).1
+                (inl ((Member-remove k.0 (Variable (Free p)) set).1 (other, k.1))))
+                k.2)
+          ]
+
+  abbrev Comes : ℕ → Set → Type 0
+  Comes limit from =
+      OnTheWay context right zero (all_given_way context right limit from)
+      × (Below from ↔ Below (all_given_way context right limit from))
+
+  -- what becomes of a set that is on the way is below alike
+  becomes : (limit : ℕ) (set : Set) → OnTheWay context right limit set
+      → OnTheWay context right zero (all_given_way context right limit set)
+      × (Below set ↔ Below (all_given_way context right limit set))
+  becomes zero set way = (way, (λ h. h, λ h. h))
+  becomes (suc p) set way =
+      by_test (becomes p (next p set way) (way_on p set way)) (λ on. becomes p set on)
+      (contains (Variable (Free p)) set) refl
+    where
+      by_test : Comes p (next p set way) → (OnTheWay context right p set → Comes p set) → (b : Bool)
+          → contains (Variable (Free p)) set ≡ b
+          → OnTheWay context right zero (all_given_way context right p (cond b (next p set way) set))
+          × (Below set ↔ Below (all_given_way context right p (cond b (next p set way) set)))
+      by_test rest still true is =
+          (rest.0, (λ h. rest.1.0 (forward p set way is h), λ h. backward p set way is (rest.1.1 h)))
+      by_test rest still false is = still (way_stays p set way is)
+
+  -- on the way to no position there are ends alone
+  only_ends : (set : Set) → OnTheWay context right zero set → (e : Elem) → Member e set → is_end e ≡ true
+  only_ends set way (Variable (Free q)) m = let low = way.low q m in absurd (omega (arith, low))
+  only_ends set way (Variable (Bound i)) m = absurd (none_bound (way.known (Variable (Bound i)) m))
+    where
+      none_bound : None ≡ Some TermKind → ⊥
+      none_bound e = cc
+  only_ends set way Cap m = refl
+  only_ends set way (Hole n) m = refl
+
+  module _ (left : Set) (formed : IsWellFormedSet context left) where
+    begun : OnTheWay context right (length context) (beyond right left)
+    begun = record {
+      known = λ e m. IsKindedSet-from (kinds_of context) [] left formed e (beyond_both right left e m).0;
+      low = λ q m. set_lower context left formed q (beyond_both right left (Variable (Free q)) m).0;
+      apart = λ e m. (beyond_both right left e m).1;
+    }
+
+    abbrev last : Set
+    last = all_given_way context right (length context) (beyond right left)
+
+    -- the left set is below the right one where its ends are
+    ends_below : Below left ↔ Below (ends_beyond context right left)
+    ends_below =
+        let done = becomes (length context) (beyond right left) begun in (
+          λ below e m.
+              let k = Member-from_filled f e (ends_beyond context right left) m in
+              done.1.0
+              (λ x l.
+              let j = Member-from_filled f x (beyond right left) l in
+              below x (Member-filled f j.0 x left (beyond_both right left j.0 j.1).0 j.2))
+              e (Member-filled f k.0 e last ((Member-retain is_end k.0 last).0 k.1).1 k.2),
+          λ below e m.
+              let k = Member-from_filled f e left m in
+              elim (member_cases k.0 right) as (λ _. Subcaptures stands e above) [
+                | inl inside ↦ element (Member-filled f k.0 e right inside k.2)
+                | inr out ↦
+                    done.1.1
+                    (λ x l.
+                    let j = Member-from_filled f x last l in
+                    below x
+                    (Member-filled f j.0 x (ends_beyond context right left)
+                    ((Member-retain is_end j.0 last).1 (only_ends last done.0 j.0 j.1, j.1)) j.2))
+                    e (Member-filled f k.0 e (beyond right left) (both_beyond right left k.0 k.1 out) k.2)
+              ],
+        )
 
 module _ (globals : Context) (formed : IsWellFormedContext globals) (alone : AreGlobals globals) (f : Filling)
     (over : IsOverGlobals (length globals) f) where
@@ -117,159 +297,79 @@ module _ (globals : Context) (formed : IsWellFormedContext globals) (alone : Are
         below
     end_moves (Hole n) e is m below = global_moves later later' e filled_right (over n e m) below
 
-    -- so is what becomes of a declared set that has ends beside the right one
-    declared_moves : (d : Set) → has_ends_beside right d ≡ true → SubcapturesSet g (filled_set f d) filled_right
-        → SubcapturesSet g' (filled_set f d) filled_right
-    unfolding contains
-    declared_moves d ends below e m =
-        let m' = Member-from_filled f e d m in
-        elim (or_cases (contains m'.0 right) (is_end m'.0) (listed_passes (λ x. contains x right || is_end x) d.list ends m'.0 m'.1))
-        as (λ _. Subcaptures g' e filled_right) [
-          | inl member ↦ member_moves m'.0 e member m'.2
-          | inr end ↦ end_moves m'.0 e end m'.2 (below e m)
-        ]
+    -- so are all ends
+    ends_move : (set : Set) → ((x : Elem) → Member x set → is_end x ≡ true) → SubcapturesSet g (filled_set f set) filled_right
+        → SubcapturesSet g' (filled_set f set) filled_right
+    ends_move set only below e m =
+        let m' = Member-from_filled f e set m in end_moves m'.0 e (only m'.0 m'.1) m'.2 (below e m)
 
-    -- so is what becomes of an element of which both contexts say the same
-    alike_moves : (x e : Elem) → is_alike (later ++ globals) (later' ++ globals) right x ≡ true
-        → Member e (filled_element f x) → Subcaptures g e filled_right → Subcaptures g' e filled_right
-    unfolding contains
-    alike_moves (Variable (Free p)) e alike m below =
-        elim (or_cases (contains (Variable (Free p)) right)
-        (are_declared_alike right (lookup (later ++ globals) p) (lookup (later' ++ globals) p)) alike)
-        as (λ _. Subcaptures g' e filled_right) [
-          | inl member ↦ member_moves (Variable (Free p)) e member m
-          | inr declared ↦ by_entries (declared_parts right _ _ declared)
-        ]
-      where
-        same : e ≡ Variable (Free p)
-        same = Member-single e (Variable (Free p)) m
-
-        by_entries : (s s' : Shape) × (d : Set) × (lookup (later ++ globals) p ≡ Some (TermEntry s d))
-            × (lookup (later' ++ globals) p ≡ Some (TermEntry s' d)) × (has_ends_beside right d ≡ true)
-            → Subcaptures g' e filled_right
-        by_entries (s, s', d, there, there', ends) =
-            subst (λ y. Subcaptures g' y filled_right) (sym same)
-            (elim ((subcaptures_variable g p (filled f s) (filled_set f d) filled_right
-            (lookup-filled f (later ++ globals) p s d there)).0
-            (subst (λ y. Subcaptures g y filled_right) same below))
-            as (λ _. Subcaptures g' (Variable (Free p)) filled_right) [
-              | inl member ↦ element member
-              | inr each ↦
-                  variable (lookup-filled f (later' ++ globals) p s' d there') (declared_moves d ends each)
-            ])
-    alike_moves (Variable (Bound i)) e alike m below = member_moves (Variable (Bound i)) e alike m
-    alike_moves Cap e alike m below = end_moves Cap e refl m below
-    alike_moves (Hole n) e alike m below = end_moves (Hole n) e refl m below
-
-  -- what repeats a demand that is served is served
-  pub served_again : (demand again : Demand) → IsFit globals (IsBelow demand) → IsFit globals (IsBelow again)
-      → repeats demand again ≡ true → IsServed f (IsBelow demand) → IsServed f (IsBelow again)
-  unfolding contains
-  served_again demand again fit fit' is served =
-      let k = and_parts (same_set demand.left again.left && same_set demand.right again.right)
-      (not (has_hole again.right) && list_all (is_alike demand.context again.context again.right) again.left.list) is in
-      let sets = and_parts (same_set demand.left again.left) (same_set demand.right again.right) k.0 in
-      let rest = and_parts (not (has_hole again.right))
-      (list_all (is_alike demand.context again.context again.right) again.left.list) k.1 in
-      let left : demand.left ≡ again.left = (same_set-decides demand.left again.left).0 sets.0 in
-      let right : demand.right ≡ again.right = (same_set-decides demand.right again.right).0 sets.1 in
-      λ e m.
-      let m' = Member-from_filled f e again.left m in
-      let alike = listed_passes (is_alike demand.context again.context again.right) again.left.list rest.1 m'.0 m'.1 in
-      let alike' : is_alike (fit.0.0 ++ globals) (fit'.0.0 ++ globals) again.right m'.0 ≡ true =
-      subst (λ h. is_alike (fit.0.0 ++ globals) h again.right m'.0 ≡ true) fit'.0.1
-      (subst (λ h. is_alike h again.context again.right m'.0 ≡ true) fit.0.1 alike) in
-      let below : Subcaptures (filled_context f (fit.0.0 ++ globals)) e (filled_set f again.right) =
-      subst (λ r. Subcaptures (filled_context f (fit.0.0 ++ globals)) e (filled_set f r)) right
-      (subst (λ h. Subcaptures (filled_context f h) e (filled_set f demand.right)) fit.0.1
-      (served e (subst (λ l. Member e (filled_set f l)) (sym left) m))) in
-      subst (λ h. Subcaptures (filled_context f h) e (filled_set f again.right)) (sym fit'.0.1)
-      (alike_moves fit.0.0 fit'.0.0 again.right m'.0 e alike' m'.2 below)
-
-  -- so what is repeated is served where all of the list is
-  again_served : (list : List Placed) (again : Demand) → AllFit globals list → IsFit globals (IsBelow again)
-      → AllServed f list → list_any (λ placed. is_again again placed.asked) list ≡ true → IsServed f (IsBelow again)
-  again_served [] again fits fit all is = cc
-  again_served (p ∷ list) again fits fit all is =
-      elim (or_cases (is_again again p.asked) (list_any (λ placed. is_again again placed.asked) list) is)
-      as (λ _. IsServed f (IsBelow again)) [
-        | inl here ↦ by_asked p.asked fits.0 all.0 here
-        | inr later ↦ again_served list again fits.1 fit all.1 later
-      ]
-    where
-      by_asked : (a : Asked) → IsFit globals a → IsServed f a → is_again again a ≡ true → IsServed f (IsBelow again)
-      by_asked (IsBelow d) fit' served h = served_again d again fit' fit h served
-      by_asked (IsCapless c) fit' served h = cc
+  -- what has the ends and the right set of a demand that is served is served
+  served_again : (first again : Demand) → IsFit globals (IsBelow first) → IsFit globals (IsBelow again)
+      → is_ended_so (ends_beyond again.context again.right again.left) again.right (IsBelow first) ≡ true
+      → IsServed f (IsBelow first) → IsServed f (IsBelow again)
+  served_again first again fit fit' is served =
+      let k = and_parts (not (has_hole first.right))
+      (same_set (ends_beyond again.context again.right again.left) (ends_beyond first.context first.right first.left)
+      && same_set again.right first.right) is in
+      let both = and_parts
+      (same_set (ends_beyond again.context again.right again.left) (ends_beyond first.context first.right first.left))
+      (same_set again.right first.right) k.1 in
+      let ends : ends_beyond again.context again.right again.left ≡ ends_beyond first.context first.right first.left =
+      (same_set-decides _ _).0 both.0 in
+      let right : again.right ≡ first.right = (same_set-decides again.right first.right).0 both.1 in
+      let none : has_hole first.right ≡ false = not-true (has_hole first.right) k.0 in
+      let none' : has_hole again.right ≡ false = ap has_hole right ∙ none in
+      let here = (ends_below f first.context first.right fit.1 none first.left fit.2).0 served in
+      let there = ends_move fit.0.0 fit'.0.0 first.right (ends_beyond first.context first.right first.left)
+      (λ x m. ((Member-retain is_end x
+      (all_given_way first.context first.right (length first.context) (beyond first.right first.left))).0 m).0)
+      (subst (λ g. SubcapturesSet (filled_context f g)
+      (filled_set f (ends_beyond first.context first.right first.left)) (filled_set f first.right)) fit.0.1 here) in
+      (ends_below f again.context again.right fit'.1 none' again.left fit'.2).1
+      (subst (λ g. SubcapturesSet (filled_context f g)
+      (filled_set f (ends_beyond again.context again.right again.left)) (filled_set f again.right)) (sym fit'.0.1)
+      (subst (λ e. SubcapturesSet (filled_context f (fit'.0.0 ++ globals)) (filled_set f e) (filled_set f again.right))
+      (sym ends)
+      (subst (λ r. SubcapturesSet (filled_context f (fit'.0.0 ++ globals))
+      (filled_set f (ends_beyond first.context first.right first.left)) (filled_set f r)) (sym right) there)))
 
   pub repeated_served : (list : List Placed) (a : Asked) → AllFit globals list → IsFit globals a → AllServed f list
       → is_repeated list a ≡ true → IsServed f a
-  repeated_served list (IsBelow d) fits fit all is =
-      again_served (recent list) d (fit_dropped globals _ list fits) fit (served_dropped f _ list all) is
+  repeated_served [] (IsBelow d) fits fit all is = cc
+  repeated_served (p ∷ list) (IsBelow d) fits fit all is =
+      elim (or_cases (is_ended_so (ends_beyond d.context d.right d.left) d.right p.asked)
+      (is_repeated list (IsBelow d)) is)
+      as (λ _. IsServed f (IsBelow d)) [
+        | inl here ↦ by_asked p.asked fits.0 all.0 here
+        | inr later ↦ repeated_served list (IsBelow d) fits.1 fit all.1 later
+      ]
+    where
+      by_asked : (a : Asked) → IsFit globals a → IsServed f a
+          → is_ended_so (ends_beyond d.context d.right d.left) d.right a ≡ true → IsServed f (IsBelow d)
+      by_asked (IsBelow first) fit' served h = served_again first d fit' fit h served
+      by_asked (IsCapless c) fit' served h = cc
   repeated_served list (IsCapless c) fits fit all is = cc
+
+-- what is ended so has no hole on its right side
+pub ended_has_none : (ends right : Set) (a : Asked) → is_ended_so ends right a ≡ true → has_hole right ≡ false
+ended_has_none ends right (IsBelow d) h =
+    let k = and_parts (not (has_hole d.right)) (same_set ends (ends_beyond d.context d.right d.left) && same_set right d.right) h in
+    let both = and_parts (same_set ends (ends_beyond d.context d.right d.left)) (same_set right d.right) k.1 in
+    ap has_hole ((same_set-decides right d.right).0 both.1) ∙ not-true (has_hole d.right) k.0
+ended_has_none ends right (IsCapless c) h = cc
+
+pub any_ended_has_none : (list : List Placed) (ends right : Set) → has_ended_so list ends right ≡ true
+    → has_hole right ≡ false
+any_ended_has_none [] ends right h = cc
+any_ended_has_none (p ∷ list) ends right h =
+    elim (or_cases (is_ended_so ends right p.asked) (has_ended_so list ends right) h) as (λ _. has_hole right ≡ false) [
+      | inl here ↦ ended_has_none ends right p.asked here
+      | inr later ↦ any_ended_has_none list ends right later
+    ]
 
 -- what may force something is never repeated
 pub force_not_repeated : (list : List Placed) (a : Asked) → may_force a ≡ true → is_repeated list a ≡ false
-force_not_repeated list (IsBelow d) force = none (recent list)
-  where
-    nothing : (b c : Bool) → (b && (not true && c)) ≡ false
-    nothing true c = refl
-    nothing false c = refl
-
-    one : (a : Asked) → is_again d a ≡ false
-    one (IsBelow d') =
-        ap (λ h. (same_set d'.left d.left && same_set d'.right d.right)
-        && (not h && list_all (is_alike d'.context d.context d.right) d.left.list)) force
-        ∙ nothing (same_set d'.left d.left && same_set d'.right d.right)
-        (list_all (is_alike d'.context d.context d.right) d.left.list)
-    one (IsCapless c) = refl
-
-    none : (xs : List Placed) → list_any (λ placed. is_again d placed.asked) xs ≡ false
-    none [] = refl
-    none (p ∷ xs) = (λ i. one p.asked i || none xs i)
+force_not_repeated list (IsBelow d) force =
+    false_from_ne_true (is_repeated list (IsBelow d))
+    (λ h. both_ways (has_hole d.right) (any_ended_has_none list (ends_beyond d.context d.right d.left) d.right h) force)
 force_not_repeated list (IsCapless c) force = refl
-
--- one of the program's demands is asked again
-pub any_here : (again : Demand) (ds : List DeclaredDemand) (i : ℕ) (d : DeclaredDemand) → i < length ds
-    → d ≡ get_or ds i d → is_again again (demand_of d).asked ≡ true
-    → true ≡ list_any (λ placed. is_again again placed.asked) (asked_of ds)
-any_here again [] i d below is h = absurd (omega arith)
-any_here again (x ∷ ds) zero d below is h =
-    sym
-    (or_left (is_again again (demand_of x).asked) (list_any (λ placed. is_again again placed.asked) (asked_of ds))
-    (ap (λ y. is_again again (demand_of y).asked) (sym is) ∙ h))
-any_here again (x ∷ ds) (suc i) d below is h =
-    sym
-    (or_right (is_again again (demand_of x).asked) (list_any (λ placed. is_again again placed.asked) (asked_of ds))
-    (sym (any_here again ds i d (omega arith) is h)))
-
--- one more is not
-pub none_more : (again : Demand) (ds : List DeclaredDemand) (i : ℕ) (d : DeclaredDemand) → i < length ds
-    → d ≡ get_or ds i d → list_any (λ placed. is_again again placed.asked) (asked_of (take i ds)) ≡ false
-    → is_again again (demand_of d).asked ≡ false
-    → list_any (λ placed. is_again again placed.asked) (asked_of (take (i + 1) ds)) ≡ false
-none_more again ds i d below is before fails =
-    ap (list_any (λ placed. is_again again placed.asked)) (take_one ds i d below is)
-    ∙ any-push (λ (placed : Placed). is_again again placed.asked) (asked_of (take i ds)) (demand_of d) before fails
-
--- at the end none is
-pub none_whole : (again : Demand) (ds : List DeclaredDemand) (i : ℕ) → length ds ≤ i
-    → list_any (λ placed. is_again again placed.asked) (asked_of (take i ds)) ≡ false
-    → false ≡ list_any (λ placed. is_again again placed.asked) (asked_of ds)
-none_whole again ds i past none =
-    sym (subst (λ l. list_any (λ placed. is_again again placed.asked) (asked_of l) ≡ false) (take_whole ds i past) none)
-
--- what the last of the program's demands ask
-asked_dropped : (n : ℕ) (ds : List DeclaredDemand) → asked_of (drop n ds) ≡ drop n (asked_of ds)
-asked_dropped zero ds = refl
-asked_dropped (suc n) [] = refl
-asked_dropped (suc n) (d ∷ ds) = asked_dropped n ds
-
-pub asked_recent : (ds : List DeclaredDemand) → asked_of (drop (length ds - 8) ds) ≡ recent (asked_of ds)
-asked_recent ds =
-    asked_dropped (length ds - 8) ds ∙ ap (λ n. drop (n - 8) (asked_of ds)) (sym (length-map ds demand_of))
-
-pub asked_from : (ds : List DeclaredDemand) (start : ℕ) → start ≡ length ds - 8
-    → asked_of (take (length ds - start) (drop start ds)) ≡ recent (asked_of ds)
-asked_from ds start is =
-    ap asked_of (take_whole (drop start ds) (length ds - start) (omega (arith, length-drop start ds)))
-    ∙ ap (λ n. asked_of (drop n ds)) is ∙ asked_recent ds

@@ -1,12 +1,12 @@
 -- Of what is asked, only what may force an element into a hole, or may be the first to fail under some filling, has to
 -- be kept.
-use Rattle.std.specs.Prelude.{ℕ, ◌-◌, nat_eq, Bool, true, false, not, ◌&&◌, ◌||◌, List, [], ◌∷◌, ◌++◌, length, drop}
+use Rattle.std.specs.Prelude.{ℕ, zero, suc, nat_eq, Bool, true, false, not, ◌&&◌, ◌||◌, List, [], ◌∷◌, ◌++◌, length}
 use Rattle.std.specs.Prelude.{Option, Some, None, if◌then◌else◌}
 use Rattle.std.specs.List.{list_any, list_all}
 use Rattle.cc_capture.specs.declared.var.Var.TheVariants.{Bound, Free}
 use Rattle.cc_capture.specs.declared.var.Elem.{Elem}
 use Rattle.cc_capture.specs.declared.var.Elem.TheVariants.{Var as Variable, Cap, Hole}
-use Rattle.cc_capture.specs.Sets.{Set, contains, empty, is_subset, same_set}
+use Rattle.cc_capture.specs.Sets.{Set, contains, empty, is_subset, same_set, union, retain, remove}
 use Rattle.cc_core.specs.Contexts.{Bind, TermEntry, TypeEntry, Context, lookup}
 use Rattle.cc_core.specs.Questions.{is_hole}
 use Rattle.cc_core.specs.Substitution.{filled_set}
@@ -82,51 +82,52 @@ is_end (Variable variable) = false
 is_end Cap = true
 is_end (Hole number) = true
 
--- Whether nothing has to be looked up to tell that the declared set is below the right one under some filling: besides
--- members of that one it has ends alone.
-abbrev pub has_ends_beside : Set → Set → Bool
-has_ends_beside right declared = list_all (λ e. contains e right || is_end e) declared.list
+-- the members of the one set that the other has not
+abbrev pub beyond : Set → Set → Set
+beyond right set = retain (λ e. not (contains e right)) set
 
--- whether the entry is of a variable that is declared with this set, which has ends beside the right set
-abbrev pub is_declared_with : Set → Set → Option Bind → Bool
-is_declared_with right declared (Some (TermEntry shape set)) = same_set set declared && has_ends_beside right declared
-is_declared_with right declared (Some (TypeEntry bound)) = false
-is_declared_with right declared None = false
+-- the declared set of an entry, which a type variable has not
+abbrev pub declared_of : Option Bind → Set
+declared_of (Some (TermEntry shape declared)) = declared
+declared_of (Some (TypeEntry bound)) = empty
+declared_of None = empty
 
--- whether both entries are so, with one set
-abbrev pub are_declared_alike : Set → Option Bind → Option Bind → Bool
-are_declared_alike right (Some (TermEntry shape set)) other = is_declared_with right set other
-are_declared_alike right (Some (TypeEntry bound)) other = false
-are_declared_alike right None other = false
+-- the set, where the variable at the position gives way to what it is declared with, beyond the right set
+abbrev pub given_way : Context → Set → ℕ → Set → Set
+given_way context right position set =
+    if contains (Variable (Free position)) set
+    then union (remove (Variable (Free position)) set) (beyond right (declared_of (lookup context position)))
+    else set
 
--- whether two contexts say the same of whether the element is below the right set
-abbrev pub is_alike : Context → Context → Set → Elem → Bool
-is_alike context other right (Variable (Free position)) =
-    contains (Variable (Free position)) right
-    || are_declared_alike right (lookup context position) (lookup other position)
-is_alike context other right (Variable (Bound index)) = contains (Variable (Bound index)) right
-is_alike context other right Cap = true
-is_alike context other right (Hole number) = true
+-- the same of all variables below a position, the newest first
+abbrev pub all_given_way : Context → Set → ℕ → Set → Set
+all_given_way context right zero set = set
+all_given_way context right (suc position) set =
+    all_given_way context right position (given_way context right position set)
 
--- Whether the second demand is the first one again: it forces nothing, its sets are the same, and the contexts say the
--- same of the left set.
-abbrev pub repeats : Demand → Demand → Bool
-repeats demand again =
-    (same_set demand.left again.left && same_set demand.right again.right)
-    && (not (has_hole again.right) && list_all (is_alike demand.context again.context again.right) again.left.list)
+-- Where the left set of a demand ends: at which holes, and whether at the universal capability, when each variable that
+-- the right set has not gives way to its declared set. A filling serves the demand where what it puts into these holes
+-- is below the right set, and none does where the universal capability is an end.
+abbrev pub ends_beyond : Context → Set → Set → Set
+ends_beyond context right left =
+    retain is_end (all_given_way context right (length context) (beyond right left))
 
--- whether a demand is asked again
-abbrev pub is_again : Demand → Asked → Bool
-is_again again (IsBelow demand) = repeats demand again
-is_again again (IsCapless set) = false
+-- Whether what is asked forces nothing, has this right set, and ends so: fillings over the globals serve all such
+-- demands alike.
+abbrev pub is_ended_so : Set → Set → Asked → Bool
+is_ended_so ends right (IsBelow demand) =
+    not (has_hole demand.right)
+    && (same_set ends (ends_beyond demand.context demand.right demand.left) && same_set right demand.right)
+is_ended_so ends right (IsCapless set) = false
 
--- the last of the list, eight at most
-abbrev pub recent : List Placed → List Placed
-recent list = drop (length list - 8) list
+-- whether something in the list is ended so
+abbrev pub has_ended_so : List Placed → Set → Set → Bool
+has_ended_so list ends right = list_any (λ placed. is_ended_so ends right placed.asked) list
 
--- whether it is among the last of the list already
+-- whether it has the ends and the right set of something in the list
 abbrev pub is_repeated : List Placed → Asked → Bool
-is_repeated list (IsBelow demand) = list_any (λ placed. is_again demand placed.asked) (recent list)
+is_repeated list (IsBelow demand) =
+    has_ended_so list (ends_beyond demand.context demand.right demand.left) demand.right
 is_repeated list (IsCapless set) = false
 
 -- Whether it need not be kept behind the list. What forces nothing cannot be the first to fail behind what is lost, nor

@@ -4,7 +4,7 @@ use Rattle.cc_base.specs.declared.literal.Base.TheVariants as bases
 use Rattle.cc_capture.specs.declared.var.Var.TheVariants.{Free}
 use Rattle.cc_capture.specs.declared.var.Elem.{Elem}
 use Rattle.cc_capture.specs.declared.var.Elem.TheVariants.{Var as Variable, Cap, Hole}
-use Rattle.cc_capture.specs.Sets.{empty, insert}
+use Rattle.cc_capture.specs.Sets.{Set, empty, insert}
 use Rattle.cc_core.specs.Shapes.{BaseShape, FunctionShape, capturing}
 use Rattle.cc_core.specs.Contexts.{TermEntry, Context}
 use Rattle.cc_core.specs.Substitution.{single}
@@ -110,6 +110,34 @@ RepeatedIsKeptOnce =
     ≡ local_below_nothing at with_local ∷ [])
     × (kept (local_below_nothing at with_local ∷ local_below_nothing other with_other ∷ [])
     ≡ local_below_nothing at with_local ∷ local_below_nothing other with_other ∷ [])
+
+-- a local variable on top, whose declared set is the first one
+abbrev pub with_two_locals : Context
+with_two_locals = TermEntry (BaseShape bases.Int) (single local) ∷ with_local
+
+-- the variable on top
+abbrev pub second_local : Elem
+second_local = Variable (Free 3)
+
+-- that a set is below another one, in the context with both
+abbrev pub below_with_two : Place → Set → Set → Placed
+below_with_two at left right = demand_at at (demanded with_two_locals left right)
+
+-- A variable ends where its declared set does, so behind the first one it is not kept, and neither is it beside a number,
+-- which ends nowhere. Below another set it is, and beside another hole.
+abbrev pub OneOfAlikeEndsIsKept : Type 0
+OneOfAlikeEndsIsKept =
+    (at other : Place)
+    → (kept
+    (local_below_nothing at with_local ∷ below_with_two other (single second_local) empty
+    ∷ below_with_two other (insert number (single second_local)) empty ∷ [])
+    ≡ local_below_nothing at with_local ∷ [])
+    × (kept
+    (local_below_nothing at with_local ∷ below_with_two other (single second_local) (single console) ∷ [])
+    ≡ local_below_nothing at with_local ∷ below_with_two other (single second_local) (single console) ∷ [])
+    × (kept
+    (local_below_nothing at with_local ∷ below_with_two other (insert (Hole 1) (single second_local)) empty ∷ [])
+    ≡ local_below_nothing at with_local ∷ below_with_two other (insert (Hole 1) (single second_local)) empty ∷ [])
 
 -- the greatest position from the first definition on, and none where only devices are free
 abbrev pub GreatestIsFound : Type 0

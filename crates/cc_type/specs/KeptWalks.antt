@@ -14,10 +14,10 @@ use Rattle.cc_core.specs.Views.{shape_of}
 use Rattle.cc_core.specs.WellFormed.{kinds_of, is_well_formed_shape, IsWellFormedSet}
 use Rattle.cc_sets.specs.Comparison.{Demand, demanded, Comparison, Unfinished, Mismatch, Matches, bound_of}
 use Rattle.cc_sets.specs.Comparison.{bound_compared, by_form, comparison}
-use Rattle.cc_sets.specs.Outcomes.{Placed}
+use Rattle.cc_sets.specs.Outcomes.{IsBelow, Placed}
 use Rattle.cc_sets.specs.Inference.{demand_at}
 use Rattle.cc_type.specs.ComparedAgain.{told}
-use Rattle.cc_type.specs.Keeping.{has_hole, is_demand_settled, keeping}
+use Rattle.cc_type.specs.Keeping.{has_hole, is_demand_settled, is_repeated, keeping}
 use Rattle.cc_type.specs.declared.pairs.Pair.{Pair}
 
 -- What is kept of a comparison that ends: the two do not match, or they do, and what they demand is kept behind the
@@ -53,6 +53,12 @@ pub record IsKnown (context : Context) (left right : Set) : Type 0 where
   pub lower : IsWellFormedSet context left
   pub upper : IsWellFormedSet context right
   pub settled : is_demand_settled (demanded context left right) ≡ true
+
+-- two well-formed sets, of which it is asked already that the left one is below the right one
+pub record IsKnownAgain (context : Context) (log : List Placed) (left right : Set) : Type 0 where
+  pub lower : IsWellFormedSet context left
+  pub upper : IsWellFormedSet context right
+  pub again : is_repeated log (IsBelow (demanded context left right)) ≡ true
 
 -- Whether a demand is not kept behind any log, or else behind one where something is lost.
 abbrev pub goes : Bool → Demand → Bool

@@ -1,4 +1,5 @@
 pub mod ComparedAgain
+pub mod EndedDemands
 pub mod Ends
 pub mod FilledHoles
 pub mod FormedDemands

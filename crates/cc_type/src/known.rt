@@ -1,25 +1,102 @@
 //! What is known on the way through a comparison.
 
-ghost use Rattle.std.specs.Prelude.{◌≡◌, true, IsTrue, OnOk};
+ghost use Rattle.std.specs.Prelude.{◌≡◌, ◌<◌, ◌≤◌, true, length, IsTrue, IfOk, OnOk, IfSome};
 ghost use Rattle.std.specs.List.{list_all};
+ghost use Rattle.cc_core.specs.Contexts.{Context};
 ghost use Rattle.cc_core.specs.Views.{shape_of, context_of};
+ghost use Rattle.cc_type.specs.EndedDemands.{IsEndedIn, is_known_end};
 ghost use Rattle.cc_type.specs.KeptWalks.{IsKnown, is_remembered, is_remembered_as};
 
+use crate::ended::{EndedDemand, number_of};
 use crate::pairs::{Pair, is_among, pair_of};
 use cc_capture::{CapSet, Var};
 use cc_core::{Ctx, Shape};
 use std::alloc::{AllocError, Global};
 
-/// Two sets of which the left one was found to be below the right one, and pairs of a type variable and a shape that
-/// were found to match, in the context in which a comparison began. So it is in each context on top of that one.
+// For so many places the ends of a set are known.
+const PLACES: usize = 64;
+
+/// A left set with the ends that it has beyond a right set.
+#[derive(Drop)]
+pub struct KnownEnds {
+    pub left: CapSet,
+    pub demand: EndedDemand,
+}
+
+// Sets without members, which have no ends.
+fn no_ends(alloc: Global) -> KnownEnds
+    ensures { (context : Context) → is_known_end context result ≡ true }
+{
+    let left = CapSet::new(alloc);
+    let ends = CapSet::new(alloc);
+    let right = CapSet::new(alloc);
+    KnownEnds {
+        left,
+        demand: EndedDemand { ends, right },
+    }
+}
+
+// The same at all places.
+fn no_ends_anywhere(alloc: Global) -> Result<Vec<KnownEnds>, AllocError>
+    ensures known { IfOk result (λ s. (context : Context) → list_all (is_known_end context) s.items ≡ true) }
+    ensures long { IfOk result (λ s. PLACES ≤ length s.items) }
+{
+    let mut sets = Vec::new(alloc);
+    while sets.len() < PLACES {
+        let known = no_ends(alloc);
+        sets.push(known)?;
+    }
+    Ok(sets)
+}
+
+// A left set with the ends that it has in the context.
+fn known_ends(base: &Ctx, left: CapSet, demand: EndedDemand) -> KnownEnds
+    requires { IsEndedIn (context_of base.now) left demand.right demand }
+    ensures { is_known_end (context_of base.now) result ≡ true }
+{
+    KnownEnds { left, demand }
+}
+
+// The demand, where it is that of the two sets.
+fn ends_if<'a>(known: &'a KnownEnds, left: &CapSet, right: &CapSet) -> Option<&'a EndedDemand>
+    ensures { IfSome result (λ d. (context : Context) → is_known_end context known.now ≡ true → IsEndedIn context left.now right.now d.now) }
+{
+    if known.left == *left && known.demand.right == *right {
+        Some(&known.demand)
+    } else {
+        None
+    }
+}
+
+// The number of the last member.
+fn newest(set: &CapSet) -> u32 {
+    match set.get(set.len().saturating_sub(1)) {
+        Some(elem) => number_of(elem),
+        None => 0,
+    }
+}
+
+// The place of two sets, by their last members.
+fn place_of(left: &CapSet, right: &CapSet) -> usize
+    ensures { result < PLACES }
+{
+    let number = newest(left).wrapping_mul(31).wrapping_add(newest(right));
+    number as usize % PLACES
+}
+
+/// Two sets of which the left one was found to be below the right one, pairs of a type variable and a shape that were
+/// found to match, and sets whose ends were found, in the context in which a comparison began. So it is in each context
+/// on top of that one.
 #[derive(Drop)]
 pub struct Known {
     pub base: Ctx,
     pub left: CapSet,
     pub right: CapSet,
     pub pairs: Vec<Pair>,
+    pub sets: Vec<KnownEnds>,
     pub ghost known: { IsKnown (context_of base) left right },
     pub ghost remembered: { list_all (is_remembered (context_of base)) pairs.items ≡ true },
+    pub ghost ended: { list_all (is_known_end (context_of base)) sets.items ≡ true },
 }
 
 impl Known {
@@ -32,6 +109,7 @@ impl Known {
             left: CapSet::new(alloc),
             right: CapSet::new(alloc),
             pairs: Vec::new(alloc),
+            sets: Vec::new(alloc),
         }
     }
 
@@ -71,6 +149,45 @@ impl Known {
     {
         let pair = pair_of(variable, right, steps, lost)?;
         self.pairs.push(pair)?;
+        Ok(())
+    }
+
+    /// The demand of the two sets by its ends, where that is known.
+    pub fn ended(&self, left: &CapSet, right: &CapSet) -> Option<&EndedDemand>
+        ensures { IfSome result (λ d. IsEndedIn (context_of self.now.base) left.now right.now d.now) }
+    {
+        match self.sets.get(place_of(left, right)) {
+            Some(known) => ends_if(known, left, right),
+            None => None,
+        }
+    }
+
+    // Makes room for all places.
+    fn make_room(&mut self, alloc: Global) -> Result<(), AllocError>
+        ensures base { self.new.base ≡ self.old.base }
+        ensures room { OnOk result (PLACES ≤ length self.new.sets.items) }
+    {
+        if self.sets.len() >= PLACES {
+            return Ok(());
+        }
+        self.sets = no_ends_anywhere(alloc)?;
+        Ok(())
+    }
+
+    /// Keeps in mind which ends the left set has beyond the right one.
+    pub fn learn_ends(
+        &mut self,
+        alloc: Global,
+        left: CapSet,
+        demand: EndedDemand,
+    ) -> Result<(), AllocError>
+        requires { IsEndedIn (context_of self.old.base) left demand.right demand }
+        ensures { self.new.base ≡ self.old.base }
+    {
+        self.make_room(alloc)?;
+        let place = place_of(&left, &demand.right);
+        let known = known_ends(&self.base, left, demand);
+        self.sets[place] = known;
         Ok(())
     }
 }

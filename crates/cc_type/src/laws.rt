@@ -85,5 +85,6 @@ pub fn examples()
     ensures kept { example.OneLostAndWhatForcesAreKept }
     ensures may_fail { example.WhatMayFailIsKept }
     ensures repeated { example.RepeatedIsKeptOnce }
+    ensures alike { example.OneOfAlikeEndsIsKept }
     ensures greatest { example.GreatestIsFound }
 {}

@@ -3,6 +3,8 @@
 
 pub mod comparing;
 pub mod contexts;
+mod demand_ends;
+mod ended;
 mod ends;
 pub mod found;
 mod heads;
@@ -14,7 +16,6 @@ pub mod log;
 pub mod measures;
 pub mod operands;
 mod pairs;
-mod repeated;
 mod rows;
 mod sizes;
 mod steps;

@@ -1,20 +1,24 @@
 //! The log of inference: all that is kept of what was asked.
 
-ghost use Rattle.std.specs.Prelude.{◌≡◌, ◌↔◌, ◌<◌, ◌≤◌, [], ◌∷◌, ◌++◌, ◌&&◌, ◌||◌, not, true, length, IsTrue, OnOk, IfOk};
+ghost use Rattle.std.specs.Prelude.{◌≡◌, ◌↔◌, ◌<◌, ◌≤◌, [], ◌∷◌, ◌++◌, ◌&&◌, ◌||◌, not, true, cond, length, Some, None, IsTrue, OnOk, IfOk};
+ghost use Rattle.std.specs.HashSet.{spare};
 ghost use Rattle.cc_core.specs.Subcapturing.{SubcapturesSet};
 ghost use Rattle.cc_core.specs.Views.{context_of};
 ghost use Rattle.cc_core.specs.WellFormed.{IsWellFormedContext, IsWellFormedSet};
 ghost use Rattle.cc_sets.specs.Comparison.{demanded};
+ghost use Rattle.cc_sets.specs.Outcomes.{IsBelow};
 ghost use Rattle.cc_sets.specs.Inference.{demand_at};
 ghost use Rattle.cc_sets.specs.Marked.{IsClear};
 ghost use Rattle.cc_subty.specs.Demands.{demand_of, asked_of};
+ghost use Rattle.cc_type.specs.EndedDemands.{HasEnds, AreThose, is_among, same_ended};
 ghost use Rattle.cc_type.specs.Keeping as keeping;
 ghost use Rattle.cc_type.specs.Keeping.{has_lost};
 ghost use Rattle.cc_type.specs.FormedDemands.{IsWellFormedAsked};
 
+use crate::demand_ends::ended;
+use crate::ended::EndedDemand;
 use crate::instances::Instances;
 use crate::known::Known;
-use crate::repeated::is_repeated;
 use cc_base::place::Place;
 use cc_base::steps::Steps;
 use cc_capture::{CapSet, Elem};
@@ -25,6 +29,7 @@ use cc_sets::subcapturing::subcap;
 use cc_solve::{Filling, is_served};
 use cc_subty::{Demand, Demands};
 use std::alloc::{AllocError, Global};
+use std::collections::HashSet;
 use std::marker::Brand;
 use std::sync::ledger::{Blank, Ledger};
 
@@ -37,6 +42,8 @@ pub struct Log {
     lost: bool,
     // For the tests of a demand: they are clear between two tests.
     marks: Marks,
+    // What is kept without a hole on its right side, by its ends.
+    ended: HashSet<EndedDemand>,
     // What was last found to be settled.
     pub(crate) known: Known,
     // Whether all that was demanded since it was last said so was settled.
@@ -45,6 +52,7 @@ pub struct Log {
     pub(crate) instances: Instances,
     ghost clear: { IsClear marks },
     ghost told: { lost ≡ has_lost (asked_of demands) },
+    ghost noted: { AreThose ended.keys (asked_of demands) },
 }
 
 impl Log {
@@ -56,6 +64,7 @@ impl Log {
             demands: Demands::new(alloc),
             lost: false,
             marks: Marks::new(alloc),
+            ended: HashSet::new(alloc),
             known: Known::new(alloc, Ctx::new()),
             settled: false,
             instances: Instances::new(alloc),
@@ -67,6 +76,13 @@ impl Log {
         ensures { result ≡ has_lost (asked_of self.now.demands) }
     {
         self.lost
+    }
+
+    // Whether it has the ends of something that is kept.
+    pub(crate) fn repeats(&self, demand: &EndedDemand) -> bool
+        ensures { result ≡ keeping.has_ended_so (asked_of self.now.demands) demand.now.ends demand.now.right }
+    {
+        self.ended.contains(demand)
     }
 
     /// What is kept, in order.
@@ -232,9 +248,29 @@ fn is_either_lost(
     is_lost(alloc, marks, demand)
 }
 
-// Whether what is asked is among the last that are kept already.
-fn is_kept(kept: &[Demand], demand: &Demand) -> bool
-    ensures { result ≡ keeping.is_repeated (asked_of kept.now) (demand_of demand.now).asked }
+// Whether the demand of the two sets in the context repeats something that is kept.
+fn is_repeated(
+    alloc: Global,
+    log: &Log,
+    ctx: &Ctx,
+    left: &CapSet,
+    right: &CapSet,
+) -> Result<bool, AllocError>
+    requires context { IsWellFormedContext (context_of ctx.now) }
+    requires left { IsWellFormedSet (context_of ctx.now) left.now }
+    ensures { IfOk result (λ b. b ≡ keeping.is_repeated (asked_of log.now.demands) (IsBelow (demanded (context_of ctx.now) left.now right.now))) }
+{
+    if has_hole(right) {
+        return Ok(false);
+    }
+    let demand = ended(alloc, ctx, left, right)?;
+    Ok(log.repeats(&demand))
+}
+
+// Whether what is asked repeats something that is kept.
+fn is_kept(alloc: Global, log: &Log, demand: &Demand) -> Result<bool, AllocError>
+    requires { IsWellFormedAsked (demand_of demand.now).asked }
+    ensures { IfOk result (λ b. b ≡ keeping.is_repeated (asked_of log.now.demands) (demand_of demand.now).asked) }
 {
     match demand {
         Demand::Sub {
@@ -242,13 +278,13 @@ fn is_kept(kept: &[Demand], demand: &Demand) -> bool
             left,
             right,
             at: _,
-        } => is_repeated(kept, ctx, left, right),
-        Demand::NoCap { set: _, at: _ } => false,
+        } => is_repeated(alloc, log, ctx, left, right),
+        Demand::NoCap { set: _, at: _ } => Ok(false),
     }
 }
 
 // Whether what is asked need not be kept behind what is kept.
-fn is_needless(log: &mut Log, demand: &Demand) -> Result<bool, AllocError>
+fn is_needless(alloc: Global, log: &mut Log, demand: &Demand) -> Result<bool, AllocError>
     requires { IsWellFormedAsked (demand_of demand.now).asked }
     ensures needless { IfOk result (λ b. b ≡ keeping.is_needless (asked_of log.old.demands) (demand_of demand.now).asked) }
     ensures demands { log.new.demands ≡ log.old.demands }
@@ -259,12 +295,73 @@ fn is_needless(log: &mut Log, demand: &Demand) -> Result<bool, AllocError>
     if is_settled(&mut log.marks, demand)? {
         return Ok(true);
     }
-    Ok(is_kept(log.demands.as_slice(), demand))
+    is_kept(alloc, log, demand)
 }
 
-// Puts a demand behind the others.
-fn add(log: &mut Log, demand: Demand, lost: bool) -> Result<(), AllocError>
-    requires { lost ≡ has_lost (asked_of log.old.demands ++ demand_of demand ∷ []) }
+// The ends of the demand of the two sets, where it has no hole on its right side.
+fn ends_below(
+    alloc: Global,
+    ctx: &Ctx,
+    left: &CapSet,
+    right: &CapSet,
+) -> Result<Option<EndedDemand>, AllocError>
+    requires context { IsWellFormedContext (context_of ctx.now) }
+    requires left { IsWellFormedSet (context_of ctx.now) left.now }
+    ensures { IfOk result (λ e. HasEnds e (IsBelow (demanded (context_of ctx.now) left.now right.now))) }
+{
+    if has_hole(right) {
+        return Ok(None);
+    }
+    let demand = ended(alloc, ctx, left, right)?;
+    Ok(Some(demand))
+}
+
+// The same of what is asked.
+fn ends_of(alloc: Global, demand: &Demand) -> Result<Option<EndedDemand>, AllocError>
+    requires { IsWellFormedAsked (demand_of demand.now).asked }
+    ensures { IfOk result (λ e. HasEnds e (demand_of demand.now).asked) }
+{
+    match demand {
+        Demand::Sub {
+            ctx,
+            left,
+            right,
+            at: _,
+        } => ends_below(alloc, ctx, left, right),
+        Demand::NoCap { set: _, at: _ } => Ok(None),
+    }
+}
+
+// Puts a demand to the others, for which there is room.
+fn note(ended: &mut HashSet<EndedDemand>, demand: EndedDemand)
+    requires { 0 < spare ended.old }
+    ensures { (other : EndedDemand) → is_among ended.new.keys other ≡ cond (same_ended demand other) true (is_among ended.old.keys other) }
+{
+    match ended.insert(demand) {
+        Ok(_) => {}
+        Err(_) => unreachable!(),
+    }
+}
+
+// Puts a demand with these ends behind the others.
+fn add_ended(log: &mut Log, demand: Demand, lost: bool, ends: EndedDemand) -> Result<(), AllocError>
+    requires lost { lost ≡ has_lost (asked_of log.old.demands ++ demand_of demand ∷ []) }
+    requires ends { HasEnds (Some ends) (demand_of demand).asked }
+    ensures added { OnOk result (asked_of log.new.demands ≡ asked_of log.old.demands ++ demand_of demand ∷ []) }
+    ensures base { log.new.known.base ≡ log.old.known.base }
+    ensures still { log.new.settled ≡ log.old.settled }
+{
+    log.ended.reserve(1)?;
+    log.demands.push(demand)?;
+    note(&mut log.ended, ends);
+    log.lost = lost;
+    Ok(())
+}
+
+// The same without ends.
+fn add_other(log: &mut Log, demand: Demand, lost: bool) -> Result<(), AllocError>
+    requires lost { lost ≡ has_lost (asked_of log.old.demands ++ demand_of demand ∷ []) }
+    requires ends { HasEnds None (demand_of demand).asked }
     ensures added { OnOk result (asked_of log.new.demands ≡ asked_of log.old.demands ++ demand_of demand ∷ []) }
     ensures base { log.new.known.base ≡ log.old.known.base }
     ensures still { log.new.settled ≡ log.old.settled }
@@ -274,17 +371,37 @@ fn add(log: &mut Log, demand: Demand, lost: bool) -> Result<(), AllocError>
     Ok(())
 }
 
+// Puts a demand behind the others.
+fn add(
+    log: &mut Log,
+    demand: Demand,
+    lost: bool,
+    ends: Option<EndedDemand>,
+) -> Result<(), AllocError>
+    requires lost { lost ≡ has_lost (asked_of log.old.demands ++ demand_of demand ∷ []) }
+    requires ends { HasEnds ends (demand_of demand).asked }
+    ensures added { OnOk result (asked_of log.new.demands ≡ asked_of log.old.demands ++ demand_of demand ∷ []) }
+    ensures base { log.new.known.base ≡ log.old.known.base }
+    ensures still { log.new.settled ≡ log.old.settled }
+{
+    match ends {
+        Some(ends) => add_ended(log, demand, lost, ends),
+        None => add_other(log, demand, lost),
+    }
+}
+
 /// Keeps what is asked, unless that is needless.
 pub(crate) fn keep(alloc: Global, log: &mut Log, demand: &Demand) -> Result<(), AllocError>
     requires { IsWellFormedAsked (demand_of demand.now).asked }
     ensures { OnOk result (asked_of log.new.demands ≡ keeping.with_one (asked_of log.old.demands) (demand_of demand.now)) }
 {
-    if is_needless(log, demand)? {
+    if is_needless(alloc, log, demand)? {
         return Ok(());
     }
     let lost = is_either_lost(alloc, log.lost, &mut log.marks, demand)?;
+    let ends = ends_of(alloc, demand)?;
     let demand = copy(demand)?;
-    add(log, demand, lost)
+    add(log, demand, lost, ends)
 }
 
 // What asks that the left set is below the right one.
@@ -322,14 +439,15 @@ pub(crate) fn keep_below(
     if log.lost && !has_hole(right) {
         return Ok(false);
     }
-    if is_repeated(log.demands.as_slice(), ctx, left, right) {
-        return Ok(false);
-    }
     if is_demand_settled(ctx, &mut log.marks, left, right)? {
         return Ok(true);
     }
+    if is_repeated(alloc, log, ctx, left, right)? {
+        return Ok(false);
+    }
+    let ends = ends_below(alloc, ctx, left, right)?;
     let demand = below(ctx, left, right, at)?;
     let lost = is_either_lost(alloc, log.lost, &mut log.marks, &demand)?;
-    add(log, demand, lost)?;
+    add(log, demand, lost, ends)?;
     Ok(false)
 }

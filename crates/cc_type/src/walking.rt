@@ -14,15 +14,16 @@ ghost use Rattle.cc_sets.specs.Comparison.{comparison, demanded};
 ghost use Rattle.cc_sets.specs.Inference.{demand_at, shape_in, type_in};
 ghost use Rattle.cc_subty.specs.Demands.{asked_of};
 ghost use Rattle.cc_type.specs.Keeping.{with_one, is_demand_settled};
-ghost use Rattle.cc_type.specs.KeptWalks.{Keeps, StandsOn, form_compared, variable_compared};
+ghost use Rattle.cc_type.specs.KeptWalks.{Keeps, StandsOn, IsKnownAgain, form_compared, variable_compared};
 
-use crate::log::{Log, keep_below};
+use crate::demand_ends::ended;
+use crate::log::{Log, has_hole, keep_below};
 use crate::steps::entries;
 use cc_base::place::Place;
 use cc_capture::{CapSet, Var};
 use cc_core::acting::read_variable;
 use cc_core::reading::read_if_other;
-use cc_core::wellformed::wf_shape;
+use cc_core::wellformed::{wf_set, wf_shape};
 use cc_core::{Ctx, Shape, Ty};
 use cc_subty::exposing::bound_of;
 use cc_subty::walking::{is_any, is_variable, same_read, under_bound, under_parameter};
@@ -68,6 +69,35 @@ fn learn_read(
     Ok(())
 }
 
+// Keeps in mind which ends the left set has beyond the right one, where they stand in the context in which the
+// comparison began. Behind something lost that serves nothing.
+fn learn_ends(alloc: Global, left: &CapSet, right: &CapSet, log: &mut Log) -> Result<(), AllocError>
+    requires { IsWellFormedContext (context_of log.old.known.base) }
+    ensures demands { log.new.demands ≡ log.old.demands }
+    ensures base { log.new.known.base ≡ log.old.known.base }
+    ensures still { log.new.settled ≡ log.old.settled }
+{
+    if log.is_lost() || has_hole(right) {
+        return Ok(());
+    }
+    if wf_set(&log.known.base, left) && wf_set(&log.known.base, right) {
+        let demand = ended(alloc, &log.known.base, left, right)?;
+        let left = left.clone()?;
+        log.known.learn_ends(alloc, left, demand)?;
+    }
+    Ok(())
+}
+
+// Whether the demand of the two sets is known to repeat something that is kept.
+fn is_known_again(left: &CapSet, right: &CapSet, log: &Log) -> bool
+    ensures { IsTrue result → IsKnownAgain (context_of log.now.known.base) (asked_of log.now.demands) left.now right.now }
+{
+    match log.known.ended(left, right) {
+        Some(demand) => log.repeats(demand),
+        None => false,
+    }
+}
+
 // Keeps that the left set is below the right one, where both are read in the context, unless that is needless.
 fn keep_read_sets(
     alloc: Global,
@@ -94,6 +124,7 @@ fn keep_read_sets(
         learn_read(ctx, left, right, &left_read, &right_read, log)?;
     } else {
         log.settled = false;
+        learn_ends(alloc, left, right, log)?;
     }
     Ok(())
 }
@@ -120,6 +151,10 @@ fn keep_sets(
         return Ok(());
     }
     if log.known.has(left, right) {
+        return Ok(());
+    }
+    if is_known_again(left, right, log) {
+        log.settled = false;
         return Ok(());
     }
     keep_read_sets(alloc, ctx, left, right, at, log)

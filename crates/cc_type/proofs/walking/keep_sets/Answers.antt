@@ -2,6 +2,7 @@ use Rattle.std.proofs.Common.{length, sym, ◌∙◌}
 use Rattle.cc_capture.proofs.Equality.{same_set-decides}
 use Rattle.cc_core.specs.Views.{context_of}
 use Rattle.cc_subty.specs.Demands.{asked_of}
+use Rattle.cc_type.proofs.EndedLists.{again_goes}
 use Rattle.cc_type.proofs.KeptWalks.{one_read, one_goes}
 use Rattle.cc_type.proofs.KnownSets.{known_settled, known_goes}
 use Rattle.cc_type.proofs.walking.keep_sets.Goals as goal
@@ -29,3 +30,9 @@ returns-then-has-clause-settled c =
     let g = context_of c.args.ctx.now in
     λ said. known_settled (length g) (context_of c.args.log.now.known.base) g c.args.left.now c.args.right.now
     c.requires.base (c.has.ensures c.if-has.true)
+
+pub returns-then-is_known_again-clause-kept : goal.returns-then-is_known_again-clause-kept
+returns-then-is_known_again-clause-kept c =
+    let g = context_of c.args.ctx.now in
+    again_goes c.args.at (length g) (context_of c.args.log.now.known.base) g c.args.left.now c.args.right.now
+    (asked_of c.args.log.now.demands) c.requires.base (c.is_known_again.ensures c.if-is_known_again.true)
