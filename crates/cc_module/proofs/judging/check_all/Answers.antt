@@ -8,7 +8,7 @@ use Rattle.cc_module.proofs.judging.check_all.Goals as goal
 
 pub returns-in_err-next : goal.returns-in_err-next
 returns-in_err-next c =
-    let error = err_from_is_err_and c.from_residual-in_err-next.result c.from_residual-in_err-next.ensures.1 in
+    let error = err_from_is_err_and c.from_residual.result c.from_residual.ensures.1 in
     rw (error.1, error.2)
     (checked_stops c.args.devices (context_of c.args.ctx) (map definition_of c.args.defs.now) (context_of c.loop-def.globals)
     c.args.defs.now c.loop-def.def-index c.def-item.result c.loop-def.checked.items c.in_err-next.field-0.0 c.loop-def-test.true
