@@ -4,6 +4,7 @@ of it.
 Usage: sharing.py PROGRAM RUNS
 """
 import math
+import resource
 import sys
 
 import measuring
@@ -75,4 +76,7 @@ row('functions that give the definition before', lambda size: one(givers(size)),
 row('type functions that give the definition before', lambda size: one(polymorphic(size)), 1700, 20)
 row('modules of 3,000 boxes', lambda size: many(boxes(3000), size), 46, 500)
 row('modules of 1,780 functions', lambda size: many(givers(1780), size), 48, 500)
+_, most_stack = resource.getrlimit(resource.RLIMIT_STACK)
+resource.setrlimit(resource.RLIMIT_STACK, (512 * 1024, most_stack))
+row('boxes on a stack of 512 KB', lambda size: one(boxes(size)), 3000, 20)
 sys.exit(1 if failed else 0)
