@@ -148,6 +148,17 @@ def kept_of_omitted(count):
     return kept(count, omitted, '', ['{%s}' % name for name in omitted], 16)
 
 
+def comparisons_of_a_variable(count):
+    """So many comparisons of a type variable with each of 288 shapes."""
+    bases = ['Int', 'Unit', 'Bool', 'Str', 'Box[Int]', 'Box[Unit]', 'Box[Bool]', 'Box[Str]']
+    above = ['(z:(u:%s)->(v:%s)->%s)->Int' % (one, two, last) for one in bases for two in bases for last in bases]
+    types = ['', '']
+    for row in range(32):
+        for at, shapes in enumerate((['X'] * 9, above[row * 9:row * 9 + 9])):
+            types[at] += '(a:%sUnit)->' % ''.join('(a:%s)->' % shape for shape in shapes)
+    return 'def f=fun[X<:(z:Any)->Int]=>fun(g:%sUnit)=>fun(h:(k:%sUnit)->Unit)=>%s\n' % (*types, tree_of('h(g)', count))
+
+
 def applications(count):
     """So many applications to a shape of size 10, each of a type of size 4,091."""
     application = 'p[%s]' % functions('Int', 4, 'Box[Int]')
@@ -219,6 +230,7 @@ TEXTS = [
     ('the same where one set is omitted', comparisons_of_holes, 4200, 1),
     ('comparisons of types nested to the left', comparisons_to_the_left, 4200, 1),
     ('comparisons through 90 definitions', comparisons_through_definitions, 4000, 91),
+    ('comparisons of a variable with 288 shapes', comparisons_of_a_variable, 2800, 1),
     ('kept comparisons of 40 closures', kept_through_closures, 3600, 1),
     ('kept comparisons behind 12 closures each', kept_behind_closures, 3600, 1),
     ('kept comparisons of 60 omitted sets', kept_of_omitted, 4800, 1),

@@ -9,9 +9,11 @@ ghost use Rattle.cc_type.specs.KeptWalks.{IsKnown, is_remembered, is_remembered_
 
 use crate::ended::{EndedDemand, number_of};
 use crate::pairs::{Pair, is_among, pair_of};
+use crate::traces::trace_of;
 use cc_capture::{CapSet, Var};
 use cc_core::{Ctx, Shape};
 use std::alloc::{AllocError, Global};
+use std::collections::HashMap;
 
 // For so many places the ends of a set are known.
 const PLACES: usize = 64;
@@ -93,6 +95,8 @@ pub struct Known {
     pub left: CapSet,
     pub right: CapSet,
     pub pairs: Vec<Pair>,
+    // Where the last pair with a trace stands.
+    pub last: HashMap<u64, usize>,
     pub sets: Vec<KnownEnds>,
     pub ghost known: { IsKnown (context_of base) left right },
     pub ghost remembered: { list_all (is_remembered (context_of base)) pairs.items ≡ true },
@@ -109,6 +113,7 @@ impl Known {
             left: CapSet::new(alloc),
             right: CapSet::new(alloc),
             pairs: Vec::new(alloc),
+            last: HashMap::new(alloc),
             sets: Vec::new(alloc),
         }
     }
@@ -133,7 +138,8 @@ impl Known {
     pub fn matches(&self, variable: Var, right: &Shape, steps: u32, lost: bool) -> bool
         ensures { IsTrue result → IsTrue (is_remembered_as (context_of self.now.base) lost steps variable (shape_of right.now)) }
     {
-        is_among(self.pairs.as_slice(), variable, right, steps, lost)
+        let last = self.last.get(&trace_of(variable, right)).copied();
+        is_among(self.pairs.as_slice(), last, variable, right, steps, lost)
     }
 
     /// Remembers that the variable and the shape match in so many steps.
@@ -147,9 +153,15 @@ impl Known {
         requires { IsTrue (is_remembered_as (context_of self.old.base) lost steps variable (shape_of right.now)) }
         ensures { self.new.base ≡ self.old.base }
     {
-        let pair = pair_of(variable, right, steps, lost)?;
+        let trace = trace_of(variable, right);
+        let before = self.last.get(&trace).copied();
+        let place = self.pairs.len();
+        let pair = pair_of(variable, right, steps, lost, before)?;
         self.pairs.push(pair)?;
-        Ok(())
+        match self.last.insert(trace, place) {
+            Ok(_) => Ok(()),
+            Err(_) => Err(AllocError),
+        }
     }
 
     /// The demand of the two sets by its ends, where that is known.

@@ -20,6 +20,7 @@ mod rows;
 mod sizes;
 mod steps;
 pub mod stop;
+mod traces;
 mod walking;
 
 pub use found::Found;

@@ -19,6 +19,8 @@ pub struct Pair {
     pub right: Shape,
     pub steps: u32,
     pub lost: bool,
+    // The last pair before this one with the same trace, if there is one.
+    pub before: Option<usize>,
 }
 
 // The same shape. Its parts are shared.
@@ -45,7 +47,13 @@ fn copy(shape: &Shape) -> Result<Shape, AllocError>
 }
 
 /// The pair of the variable and the shape, whose parts are shared.
-pub fn pair_of(variable: Var, right: &Shape, steps: u32, lost: bool) -> Result<Pair, AllocError>
+pub fn pair_of(
+    variable: Var,
+    right: &Shape,
+    steps: u32,
+    lost: bool,
+    before: Option<usize>,
+) -> Result<Pair, AllocError>
     ensures { IfOk result (λ p. (context : Context) → is_remembered context p ≡ is_remembered_as context lost steps variable (shape_of right.now)) }
 {
     let right = copy(right)?;
@@ -54,6 +62,7 @@ pub fn pair_of(variable: Var, right: &Shape, steps: u32, lost: bool) -> Result<P
         right,
         steps,
         lost,
+        before,
     })
 }
 
@@ -76,14 +85,30 @@ fn is_of(pair: &Pair, variable: Var, right: &Shape, steps: u32, lost: bool) -> b
     same_shape(&pair.right, right)
 }
 
-/// Whether one of the pairs is that of the variable and the shape, in as many steps at most.
-pub fn is_among(pairs: &[Pair], variable: Var, right: &Shape, steps: u32, lost: bool) -> bool
+/// Whether one of the pairs, at the place or of those with the same trace before it, is that of the variable and the
+/// shape, in as many steps at most.
+pub fn is_among(
+    pairs: &[Pair],
+    last: Option<usize>,
+    variable: Var,
+    right: &Shape,
+    steps: u32,
+    lost: bool,
+) -> bool
     ensures { IsTrue result → (context : Context) → list_all (is_remembered context) pairs.now ≡ true → IsTrue (is_remembered_as context lost steps variable (shape_of right.now)) }
 {
-    for pair in pairs {
+    let mut limit = pairs.len();
+    let mut next = last;
+    while let Some(place) = next {
+        if place >= limit {
+            return false;
+        }
+        let pair = &pairs[place];
         if is_of(pair, variable, right, steps, lost) {
             return true;
         }
+        limit = place;
+        next = pair.before;
     }
     false
 }

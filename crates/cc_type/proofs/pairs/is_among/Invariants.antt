@@ -1,4 +1,8 @@
+use Rattle.std.proofs.Common.{◌≤◌, length}
 use Rattle.cc_type.proofs.pairs.is_among.Given as goal
 
-abbrev pub invariant-loop-pair : goal.invariant-loop-pair
-invariant-loop-pair l = Unit {0}
+abbrev pub invariant-loop-next : goal.invariant-loop-next
+invariant-loop-next l = l.limit ≤ length l.pairs
+
+abbrev pub decreases-loop-next : goal.decreases-loop-next
+decreases-loop-next l = l.limit

@@ -11,5 +11,5 @@ invariant_of-result c =
     record {
       known = known_as g empty empty c.new.result c.new-2.result c.new.ensures c.new-2.ensures (none_known g);
       remembered = none_remembered g c.new-3.result.items c.new-3.ensures.items;
-      ended = none_ended g c.new-4.result.items c.new-4.ensures.items;
+      ended = none_ended g c.new-5.result.items c.new-5.ensures.items;
     }

@@ -1,0 +1,62 @@
+//! Numbers by which shapes are told apart before they are compared. Which number a shape has is no one's concern, but
+//! that it is the same each time: a wrong one costs time alone.
+
+use crate::ended::number_of;
+use cc_base::literal::Base;
+use cc_capture::{CapSet, Elem, Var};
+use cc_core::{Shape, Ty};
+
+// One number more. The factor is a prime number by which the bits are spread.
+fn mixed(trace: u64, number: u32) -> u64 {
+    (trace ^ u64::from(number)).wrapping_mul(1099511628211)
+}
+
+fn of_set(set: &CapSet, before: u64) -> u64 {
+    let mut trace = mixed(before, 13);
+    for elem in set.iter() {
+        trace = mixed(trace, number_of(elem));
+    }
+    trace
+}
+
+#[cycle(traces)]
+fn of_type(ty: &Ty, before: u64) -> u64 {
+    let trace = of_set(&ty.set, before);
+    of_shape(&ty.shape, trace)
+}
+
+#[cycle(traces)]
+fn of_shape(shape: &Shape, before: u64) -> u64 {
+    match shape {
+        Shape::Base(base) => mixed(before, number_of_base(*base)),
+        Shape::Any => mixed(before, 1),
+        Shape::TVar(variable) => mixed(before, number_of(Elem::Var(*variable))),
+        Shape::Fun(takes, gives) => {
+            let trace = of_type(takes, mixed(before, 2));
+            of_type(gives, trace)
+        }
+        Shape::TFun(bound, gives) => {
+            let trace = of_shape(bound, mixed(before, 3));
+            of_type(gives, trace)
+        }
+        Shape::Boxed(content) => of_type(content, mixed(before, 4)),
+        Shape::Exit(gives) => of_shape(gives, mixed(before, 5)),
+    }
+}
+
+fn number_of_base(base: Base) -> u32 {
+    match base {
+        Base::Unit => 6,
+        Base::Bool => 7,
+        Base::Int => 8,
+        Base::Str => 9,
+        Base::Console => 10,
+        Base::File => 11,
+        Base::Counter => 12,
+    }
+}
+
+/// The number of a variable with a shape.
+pub(crate) fn trace_of(variable: Var, right: &Shape) -> u64 {
+    of_shape(right, u64::from(number_of(Elem::Var(variable))))
+}
