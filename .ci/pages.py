@@ -5,7 +5,8 @@
 - Each path between backticks exists: from the top, from `crates/`, or of a crate that its line, or else its section, names.
 - docs/definitions.md links to each file of definitions once.
 - README.md and docs/certificates.md show their examples as they are.
-- In crates.txt each crate stands behind those that it names, and in docs/architecture.md under its layer.
+- In crates.txt each crate stands behind those that it names, which are those that its files name, and in
+  docs/architecture.md under its layer.
 - In the tables of docs/developing.md each name of a file stands in its crate's folder.
 - In a row of docs/rules.md that has one link to a file, the names between backticks before it stand in that file.
 - Each clause and function that docs/proved.md and README.md name in a row stands in a file or crate that the row names.
@@ -122,9 +123,20 @@ def check_rules():
                 fail(page, number, f"no {name} in {links[0]}")
 
 
+def named_in(crate):
+    """The words of a crate's files, comments apart."""
+    words = set()
+    for file in glob.glob(os.path.join(TOP, f"crates/{crate}/[sp]*/**/*.*t"), recursive=True):
+        comment = "//" if file.endswith(".rt") else "--"
+        words.update(re.findall(r"\w+", re.sub(comment + r"[^\n]*", "", read(os.path.relpath(file, TOP)))))
+    return words
+
+
 def check_crates():
-    """In crates.txt each crate stands behind those that it names, and docs/architecture.md has it under its layer."""
+    """In crates.txt each crate stands behind those that it names, which are those that its files name, and
+    docs/architecture.md has it under its layer."""
     page, layer, before = "docs/architecture.md", "", []
+    listed = {other for line in read("crates.txt").splitlines() for other in line.partition(":")[2].split()}
     sections = dict(re.findall(r"^## (.*)\n((?:(?!## ).*\n)*)", read(page), re.M))
     for number, line in enumerate(read("crates.txt").splitlines(), 1):
         if line.startswith("# "):
@@ -134,6 +146,9 @@ def check_crates():
             for other in others.split():
                 if other in CRATES and other not in before:
                     fail("crates.txt", number, f"{crate} names {other}, which does not stand before it")
+            differing = set(others.split()) ^ (listed & named_in(crate) - {crate})
+            if differing:
+                fail("crates.txt", number, f"the line of {crate} and its files differ in {', '.join(sorted(differing))}")
             if f"`{crate}`" not in sections.get(layer, ""):
                 fail(page, 1, f"no {crate} under {layer}")
             before.append(crate)
