@@ -4,7 +4,7 @@
 The output and the exit status are those of `rt ci`. While it runs, each check that it has started is looked at five times a
 second for its time so far; what came behind the last look is not seen. A check that works in its crate's folder is one of
 the proof, or of the tests where it says so; any other is one of the edits: also that of the crate as it stands, with which
-its edits begin. What is left of the whole run, `rt` itself, linking and the runs of tests, is no crate's.
+its edits begin. What is left of the whole run, `rt` itself, linking and the runs of tests, is no crate's: a hundredth of it.
 
 Crates that it proved get new lines in out/minutes.txt. For one that it took from an earlier run the line is kept, with what
 was tried of its edits in this run where that took longer.
@@ -16,7 +16,6 @@ import collections
 import contextlib
 import glob
 import os
-import resource
 import signal
 import subprocess
 import sys
@@ -27,7 +26,6 @@ PAGE = os.path.join(TOP, "docs", "developing.md")
 FIGURES = os.path.join(TOP, "out", "minutes.txt")
 MARKS = "<!-- what .ci/minutes.py --write writes -->\n", "<!-- up to here -->\n"
 KINDS = ("proof", "tests", "edits")
-REST = "rest"
 EACH = 0.2  # the seconds between two looks
 LEAST = 0.5  # the minutes from which on a crate has a row
 TICKS = os.sysconf("SC_CLK_TCK")
@@ -42,7 +40,7 @@ def looked_at(run, kinds, times):
     """Takes down the time so far of each check that the run has started, and of the children of these that have ended."""
     for children in glob.glob(f"/proc/{run.pid}/task/*/children"):
         for number in text(children).split():
-            with contextlib.suppress(OSError):  # it has ended
+            with contextlib.suppress(OSError, IndexError):  # it has ended
                 # (a name between brackets stands before the fields, and may have spaces)
                 fields = text(f"/proc/{number}/stat").rpartition(")")[2].split()
                 process = number, fields[19]  # with the moment when it began: numbers are used again
@@ -74,9 +72,7 @@ def measured(words):
     for process, kind in kinds.items():
         if kind:
             totals[kind] += times[process]
-    used = resource.getrusage(resource.RUSAGE_CHILDREN)
-    rest = used.ru_utime + used.ru_stime - sum(totals.values())
-    return run.returncode, totals, rest
+    return run.returncode, totals
 
 
 def figures():
@@ -86,8 +82,8 @@ def figures():
     return {crate: [float(one) for one in seconds] for crate, *seconds in map(str.split, text(FIGURES).splitlines())}
 
 
-def keep(totals, rest):
-    kept = {**figures(), REST: [rest]}
+def keep(totals):
+    kept = figures()
     for crate in {crate for crate, _ in totals}:
         before = [0] * len(KINDS) if (crate, "proof") in totals else kept.get(crate, [0] * len(KINDS))
         kept[crate] = [max(old, totals[crate, kind]) for old, kind in zip(before, KINDS)]
@@ -102,7 +98,6 @@ def table():
     kept = figures()
     lines = text(os.path.join(TOP, "crates.txt")).splitlines()
     crates = [line.partition(":")[0] for line in lines if ":" in line and not line.startswith("#")]
-    rest = kept.pop(REST, [0])[0]
     rows = sorted((crate for crate in crates if crate in kept), key=lambda crate: -sum(kept[crate]))
     few = [crate for crate in rows if sum(kept[crate]) < 60 * LEAST]
 
@@ -113,7 +108,7 @@ def table():
     lines = ["| Crate | Proof | Tests of its own | Edits | Together |", "|---|---|---|---|---|"]
     lines += [row(f"`{crate}`", [crate]) for crate in rows if crate not in few]
     lines += [row(f"{len(few)} crates with less than {LEAST} together each", few)] if few else []
-    lines += [row("All of these", rows), "", f"Besides, `rt` itself, linking and the runs of tests, in the last run: {rest / 60:.1f}."]
+    lines += [row("All of these", rows)]
     lacking = [f"`{crate}`" for crate in crates if crate not in kept]
     lines += ["", f"Not measured: {', '.join(lacking)}."] if lacking else []
     return "\n".join(lines) + "\n"
@@ -126,10 +121,10 @@ def main():
         with open(PAGE, "w", encoding="utf-8") as file:
             file.write(before + mark + "\n" + table() + "\n" + behind[end:])
         return 0
-    status, totals, rest = measured(sys.argv[1:])
+    status, totals = measured(sys.argv[1:])
     try:
-        keep(totals, rest)
-    except OSError as error:
+        keep(totals)
+    except (OSError, ValueError) as error:
         print(f"out/minutes.txt is not written: {error}", file=sys.stderr)
     return status if status >= 0 else 128 - status
 
