@@ -7,5 +7,3 @@ pub mod links;
 mod step;
 mod steps;
 pub mod target;
-#[cfg(test)]
-mod tests;
