@@ -13,11 +13,6 @@ use Rattle.cc_capture.specs.Sets.{Set, same_list, Member, contains, empty, inser
 use Rattle.cc_capture.specs.Sets.{image, flat_image, is_subset}
 use Rattle.cc_capture.proofs.RisingLists.{rising_same, is_listed-placed}
 
-same_as : (a b : Bool) → (a ≡ true → b ≡ true) → (b ≡ true → a ≡ true) → a ≡ b
-same_as true b f g = sym (f refl)
-same_as false true f g = g refl
-same_as false false f g = refl
-
 true_same : {a b : Bool} → a ≡ b → a ≡ true → b ≡ true
 true_same e h = sym e ∙ h
 

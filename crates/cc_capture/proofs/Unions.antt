@@ -52,20 +52,3 @@ union-insert x a b =
           (union a b),
       contains-union e a b,
     ) (or_associative _ (contains e a) (contains e b)))
-
--- inclusion
-pub is_subset-itself : (a : Set) → is_subset a a ≡ true
-is_subset-itself a = (is_subset-Member a a).1 (λ e h. h)
-
-pub is_subset_transitive : (a b c : Set) → is_subset a b ≡ true → is_subset b c ≡ true → is_subset a c ≡ true
-is_subset_transitive a b c p q =
-    (is_subset-Member a c).1 (λ e h. (is_subset-Member b c).0 q e ((is_subset-Member a b).0 p e h))
-
-pub is_subset_antisymmetric : (a b : Set) → is_subset a b ≡ true → is_subset b a ≡ true → a ≡ b
-is_subset_antisymmetric a b p q = same_members a b ((is_subset-Member a b).0 p) ((is_subset-Member b a).0 q)
-
-pub is_subset-union_left : (a b : Set) → is_subset a (union a b) ≡ true
-is_subset-union_left a b = (is_subset-Member a (union a b)).1 (λ e h. (Member-union e a b).1 (inl h))
-
-pub is_subset-union_right : (a b : Set) → is_subset b (union a b) ≡ true
-is_subset-union_right a b = (is_subset-Member b (union a b)).1 (λ e h. (Member-union e a b).1 (inr h))

@@ -31,23 +31,6 @@ from_list-push xs x =
     )
     (last_first (is_listed e xs) (same_element e x)))
 
-pub first_members-none : (s : Set) → first_members 0 s ≡ empty
-unfolding first_members from_list
-first_members-none s = refl
-
-pub first_members-more : (s : Set) (i : ℕ) (x : Elem) → slice_get s.list i ≡ Some x
-    → first_members (i + 1) s ≡ insert x (first_members i s)
-unfolding first_members
-first_members-more s i x e =
-    let within = slice_get_within s.list i x e in
-    ap from_list (take_more s.list i x within
-    ∙ ap (λ y. take i s.list ++ y ∷ []) (get_or_from_slice_get s.list i x x e))
-    ∙ from_list-push (take i s.list) x
-
-pub first_members-all : (s : Set) (i : ℕ) → length s.list ≤ i → first_members i s ≡ s
-unfolding first_members
-first_members-all s i h = ap from_list (take_all i s.list h) ∙ from_list-list s
-
 -- there is an element at each index within the list
 pub Some-within : (xs : List Elem) (i : ℕ) → i < length xs → (x : Elem) × (slice_get xs i ≡ Some x)
 Some-within [] i h = absurd (omega arith)
@@ -59,15 +42,6 @@ pub Member-at : (s : Set) (i : ℕ) (x : Elem) → slice_get s.list i ≡ Some x
 Member-at s i x e =
     let within = slice_get_within s.list i x e in
     (Member-list x s).1 (i, within, get_or_from_slice_get s.list i x x e)
-
-pub image-first_members-more : (f : Elem → Elem) (s : Set) (i : ℕ) (x : Elem) → slice_get s.list i ≡ Some x
-    → image f (first_members (i + 1) s) ≡ insert (f x) (image f (first_members i s))
-image-first_members-more f s i x e = ap (image f) (first_members-more s i x e) ∙ image-insert f x (first_members i s)
-
-pub flat_image-first_members-more : (f : Elem → Set) (s : Set) (i : ℕ) (x : Elem) → slice_get s.list i ≡ Some x
-    → flat_image f (first_members (i + 1) s) ≡ union (f x) (flat_image f (first_members i s))
-flat_image-first_members-more f s i x e =
-    ap (flat_image f) (first_members-more s i x e) ∙ flat_image-insert f x (first_members i s)
 
 -- what a function makes of the elements that were gone over, and of the next one
 pub flat_image-push : (f : Elem → Set) (xs : List Elem) (x : Elem)

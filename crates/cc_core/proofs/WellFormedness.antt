@@ -104,11 +104,6 @@ more-well_formed sort more g x formed =
     (subst (λ ks. HasKinds sort ks [] x) (kinds_append more g)
     (moved_kinds sort (kinds_of g) [] (kinds_of more ++ kinds_of g) [] (MovesKinds-more (kinds_of more) (kinds_of g) []) [] x (HasKinds-from sort (kinds_of g) [] x formed)))
 
-pub closed-well_formed_under : (sort : Sort) (g : Context) (kind : Kind) (x : Syntax sort)
-    → IsFormed sort (kinds_of g) [] x → IsFormed sort (kinds_of g) (kind ∷ []) x
-closed-well_formed_under sort g kind x formed =
-    HasKinds-test sort (kinds_of g) (kind ∷ []) x (closed_kinded sort (kinds_of g) (kind ∷ []) x (HasKinds-from sort (kinds_of g) [] x formed))
-
 -- what is well formed meets what each variable of its kind meets
 meets : (sort : Sort) (g : Context) (passed : List Kind) (condition : Condition) → KindsGive (kinds_of g) passed condition
     → (x : Syntax sort) → IsFormed sort (kinds_of g) passed x → MeetsIn sort condition zero x

@@ -33,20 +33,6 @@ get_or_last (y ∷ xs) x d = get_or_last xs x d
 pub table_none : (build : Making) (g : Context) (right : Set) → IsTable build g right []
 table_none build g right = record { at = λ p d h. absurd (omega arith) }
 
-pub table_more : (build : Making) (g : Context) (right : Set) (table : List Tree) (tree : Tree) → IsTable build g right table
-    → IsMade build tree (element_derived g right (Variable (Free (length table)))) → IsTable build g right (table ++ tree ∷ [])
-table_more build g right table tree old new = record {
-  at = λ p d h.
-      elim (cases_lt p (length table)) as (λ _. IsMade build (get_or (table ++ tree ∷ []) p d) (element_derived g right (Variable (Free p)))) [
-        | inl below ↦ subst (λ (t : Tree). IsMade build t (element_derived g right (Variable (Free p)))) (sym (get_or_front table tree d p below)) (old.at p d below)
-        | inr beyond ↦
-            let n = length-append table (tree ∷ []) in
-            let is : length table ≡ p = omega arith in
-            subst (λ (q : ℕ). IsMade build (get_or (table ++ tree ∷ []) q d) (element_derived g right (Variable (Free q)))) is
-            (subst (λ (t : Tree). IsMade build t (element_derived g right (Variable (Free (length table))))) (sym (get_or_last table tree d)) new)
-      ];
-}
-
 -- an element that is known
 pub reached_at : (build : Making) (g : Context) (right : Set) (table : List Tree) (p : ℕ) (tree : Tree) → IsTable build g right table
     → true ≡ nat_lt p (length table) → tree ≡ get_or table p tree → p < length table

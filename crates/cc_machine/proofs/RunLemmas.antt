@@ -36,18 +36,6 @@ abbrev pub AllGoOnward : ℕ → Configuration → Devices → List Event → �
 AllGoOnward fuel held devices events steps held' devices' =
     (configuration : Configuration) → StandsFor held configuration → GoesOnward fuel held devices events steps held' devices' configuration
 
-pub begins_onward : (fuel : ℕ) (held : Configuration) (devices : Devices) → AllGoOnward fuel held devices [] 0 held devices
-begins_onward fuel held devices c stands =
-    let same : fuel - 0 ≡ fuel = omega arith in
-    record {
-      now = c;
-      stands = stands;
-      onward = sym (ap (λ n. onward [] 0 (run n (with_devices c devices))) same ∙ ap (λ n. record (run fuel (with_devices c devices)) { steps = n }) (zero_more (run fuel (with_devices c devices)).steps));
-    }
-  where
-    zero_more : (n : ℕ) → 0 + n ≡ n
-    zero_more n = omega arith
-
 abbrev pub listed : Option Event → List Event
 listed None = []
 listed (Some event) = event ∷ []

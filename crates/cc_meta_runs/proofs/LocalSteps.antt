@@ -26,9 +26,6 @@ use Rattle.cc_meta_runs.proofs.RunTheorems.{moves_are_sound}
 pub kept_from : (state : State) → IsSoundState state → (event : Option Event) (next : State) → move state ≡ Moves event next → IsKeptSound state event next
 kept_from state sound event next is = subst (IsSoundMove state) is (moves_are_sound state sound)
 
-operated_number : {n n' : ℕ} {op op' : Op} {l l' : Literal} → Some (Operated n op l) ≡ Some (Operated n' op' l') → n ≡ n'
-operated_number e = cc
-
 pub steps_change_what_they_reach : StepsChangeWhatTheyReach
 steps_change_what_they_reach state next event sound is number not =
     moves_touch_one_device state next event is number (λ op l same. not (base_operated op, (kept_from state sound event next is).operated number op l same))

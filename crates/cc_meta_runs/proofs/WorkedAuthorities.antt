@@ -59,9 +59,6 @@ pub below_declared : (g : Context) (p : ℕ) (s : Shape) (d : Set) → lookup g 
 below_declared g p s d there e m =
     subst (λ x. Subcaptures g x d) (sym (Member-single e (Variable (Free p)) m)) (variable {shape = s} {declared = d} there (subcaptures_reflexive g d))
 
-nothing_below : (g : Context) (c : Set) → SubcapturesSet g empty c
-nothing_below g c e m = absurd (Member-empty e m)
-
 -- def f
 prints_typing : HasTyping with_devices prints_number printing (captured_variables prints_number)
 unfolding with_devices contains same_element flat_image from_list insert placed union element_order empty

@@ -39,23 +39,6 @@ is_answer-put e (Operation p v o) = refl
 is_answer-put e (Boundary s t) = refl
 is_answer-put e (Leave s c v w) = refl
 
-pub literal_of-put : (e : Environment) (t : Term) → literal_in (Some (ValueCell (put_all e t))) ≡ literal_of_term t
-literal_of-put e (VariableTerm v) = refl
-literal_of-put e (LiteralTerm l) = refl
-literal_of-put e (FunctionTerm s c t) = refl
-literal_of-put e (TypeFunctionTerm s t) = refl
-literal_of-put e (BoxTerm v) = refl
-literal_of-put e (Application v w) = refl
-literal_of-put e (TypeApplication v s) = refl
-literal_of-put e (Unboxing o v) = refl
-literal_of-put e (Let n s t) = refl
-literal_of-put e (Primitive p v w) = refl
-literal_of-put e (Conditional n v s t) = refl
-literal_of-put e (Repetition v w) = refl
-literal_of-put e (Operation p v o) = refl
-literal_of-put e (Boundary s t) = refl
-literal_of-put e (Leave s c v w) = refl
-
 module _ (st : Store) (k : Stack) (made : ℕ) where
   -- the body of a function, and of a type function
   pub function_applied : (q : ℕ) (e : Environment) (t : Term) {s : Shape} {c : Set} {b : Term} (body : Term) → t ≡ FunctionTerm s c b → body ≡ b
