@@ -1,9 +1,8 @@
 -- How unions and inclusion behave.
 use Rattle.std.proofs.Common.{◌≡◌, Bool, true, false, ◌||◌, inl, inr, refl, ◌∙◌}
 use Rattle.cc_capture.specs.declared.var.Elem.{Elem}
-use Rattle.cc_capture.specs.Sets.{Set, contains, empty, insert, union, is_subset}
-use Rattle.cc_capture.proofs.Membership.{same_members, same_contains, contains-empty, contains-insert, contains-union}
-use Rattle.cc_capture.proofs.Membership.{Member-union, is_subset-Member}
+use Rattle.cc_capture.specs.Sets.{Set, contains, empty, insert, union}
+use Rattle.cc_capture.proofs.Membership.{same_contains, contains-empty, contains-insert, contains-union}
 
 or_associative : (a b c : Bool) → ((a || b) || c) ≡ (a || (b || c))
 or_associative true b c = refl

@@ -2,16 +2,14 @@
 use Rattle.std.proofs.Common.{◌≡◌, zero, suc, ◌<◌, ◌||◌, ◌≤◌, ℕ, ◌+◌, Bool, true, false, Some, List, [], ◌∷◌, ◌++◌}
 use Rattle.std.proofs.Common.{length, take, refl, ap, ◌∙◌, arith}
 use Rattle.std.specs.List.{slice_get}
-use Rattle.std.proofs.lemmas.List.{take_more, take_all}
 use Rattle.std.proofs.lemmas.List.Folds.{list_any-append}
 use Rattle.std.proofs.lemmas.Option.{slice_get_within, get_or_from_slice_get}
 use Rattle.cc_capture.specs.declared.var.Elem.{Elem}
 use Rattle.cc_capture.specs.Elements.{same_element}
 use Rattle.cc_capture.specs.Rising.{is_listed}
-use Rattle.cc_capture.specs.Sets.{Set, Member, empty, insert, from_list, first_members, union, image, flat_image}
+use Rattle.cc_capture.specs.Sets.{Set, Member, insert, from_list, union, flat_image}
 use Rattle.cc_capture.proofs.Membership.{same_contains, contains-from_list, contains-insert, Member-list}
-use Rattle.cc_capture.proofs.SetLists.{from_list-list}
-use Rattle.cc_capture.proofs.Images.{image-insert, flat_image-insert}
+use Rattle.cc_capture.proofs.Images.{flat_image-insert}
 
 last_first : (a b : Bool) → (a || (b || false)) ≡ (b || a)
 last_first true true = refl

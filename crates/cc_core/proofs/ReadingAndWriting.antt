@@ -8,17 +8,17 @@ use Rattle.cc_capture.specs.declared.var.Var.{Var}
 use Rattle.cc_capture.specs.declared.var.Var.TheVariants.{Bound, Free}
 use Rattle.cc_capture.specs.Sets.{Set}
 use Rattle.cc_core.specs.Shapes.{Shape, CapturingType}
-use Rattle.cc_core.specs.Terms.{Note, Term}
-use Rattle.cc_core.specs.Traversal.{act, act_set, act_type, act_note, act_term}
+use Rattle.cc_core.specs.Terms.{Term}
+use Rattle.cc_core.specs.Traversal.{act, act_set, act_type, act_term}
 use Rattle.cc_core.specs.Substitution.{put_variable, opening}
 use Rattle.cc_core.specs.Reading.{read_variable, written_variable, reading, writing}
 use Rattle.cc_core.specs.ReadingLaws.{of_the_term}
-use Rattle.cc_core.specs.Occurrences.{Meets, MeetsInSet, MeetsInType, MeetsInNote, MeetsInTerm, HasBinder, IsPositionBelow, bound_within}
-use Rattle.cc_core.proofs.Conditions.{gives_here, MeetsInSet-here, Meets-here, MeetsInType-here, MeetsInNote-here, MeetsInTerm-here}
+use Rattle.cc_core.specs.Occurrences.{Meets, MeetsInSet, MeetsInType, MeetsInTerm, HasBinder, IsPositionBelow, bound_within}
+use Rattle.cc_core.proofs.Conditions.{gives_here, MeetsInSet-here, Meets-here, MeetsInType-here, MeetsInTerm-here}
 use Rattle.cc_core.proofs.Moving.{same_moves, moving-moving, moving-still}
-use Rattle.cc_core.proofs.Sorts.{SetSort, ShapeSort, TypeSort, NoteSort, TermSort}
+use Rattle.cc_core.proofs.Sorts.{SetSort, ShapeSort, TypeSort, TermSort}
 use Rattle.cc_core.proofs.Opening.{put_variable-same, put_variable-other}
-use Rattle.cc_core.proofs.Shifting.{shift, shift_type, shift_note, shift_term}
+use Rattle.cc_core.proofs.Shifting.{shift, shift_type, shift_term}
 
 -- both tests pass
 both_pass : (a b c e : ℕ) → a ≤ b → c < e → (nat_le a b && nat_lt c e) ≡ true

@@ -15,7 +15,7 @@ use Rattle.cc_core.specs.Traversal.{act, act_set, act_type}
 use Rattle.cc_core.specs.Substitution.{moved_element, moving, put_variable, closed_variable, opening, closing, put_shape, putting_shape}
 use Rattle.cc_core.specs.Occurrences.{Meets, MeetsInSet, MeetsInType, on_variables, without, bound_within}
 use Rattle.cc_core.specs.Sizes.{set_size, shape_size, type_size, size_with, counted_variable, counted_shape, counted_type}
-use Rattle.cc_core.proofs.Conditions.{gives_here, Meets-here, MeetsInType-here}
+use Rattle.cc_core.proofs.Conditions.{gives_here, MeetsInType-here}
 use Rattle.cc_core.proofs.Opening.{closed_put, put_closed}
 use Rattle.cc_core.proofs.FreeActions.{putting_shape_set}
 use Rattle.cc_core.proofs.Moving.{moving-moving, moving-still}

@@ -13,7 +13,7 @@ use Rattle.cc_core.specs.Occurrences.{Condition, without, bound_within, position
 use Rattle.cc_core.proofs.Opening.{closed-opened}
 use Rattle.cc_core.proofs.Lookups.{length_map}
 use Rattle.cc_core.proofs.KindFacts.{IsKindedSet-from, IsKindedTerm-from, IsKindedSet-test, IsKinded-from}
-use Rattle.cc_core.proofs.KindRespecting.{KeepsKinds-moving, MovesKinds-opening, MovesKinds-closing, MovesKinds-putting, MovesKinds-renaming, MovesKinds-more, moved_kinds, KeepsKinds-putting_shape, KeepsKinds-freely, KeepsKinds-filling_in, kinds-positions_below, kinds-bound_within, kinds-under_type_binder, kinds-under_term_binder, kinds-no_outermost_type, closed_kinded}
+use Rattle.cc_core.proofs.KindRespecting.{KeepsKinds-moving, MovesKinds-opening, MovesKinds-closing, MovesKinds-putting, MovesKinds-renaming, MovesKinds-more, moved_kinds, KeepsKinds-putting_shape, KeepsKinds-freely, KeepsKinds-filling_in, kinds-positions_below, kinds-bound_within, kinds-under_type_binder, kinds-under_term_binder, kinds-no_outermost_type}
 use Rattle.cc_core.proofs.Sorts.{HasKinds, HasKinds-act, HasKinds-from, HasKinds-meets, HasKinds-test, IsFormed, MeetsIn, Sort, Syntax, acted}
 use Rattle.cc_core.proofs.KindedActions.{KindsGive}
 use Rattle.cc_core.proofs.CapturedKinds.{captured_variables_kinded}

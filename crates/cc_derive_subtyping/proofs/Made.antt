@@ -3,7 +3,7 @@ use Rattle.std.proofs.Common.{◌≡◌, ℕ, ◌+◌, ◌≤◌, ◌<◌, Bool,
 use Rattle.std.specs.Prelude.{nat_lt}
 use Rattle.std.specs.Option.{MatchOption}
 use Rattle.std.proofs.lemmas.Bool.{cases_lt, lt-ltb}
-use Rattle.cc_core.specs.Derivations.{Rule, Claim, Derivation, Node}
+use Rattle.cc_core.specs.Derivations.{Derivation}
 use Rattle.cc_sets.specs.DerivationSizes.{nodes, nodes_of}
 use Rattle.cc_derivation.specs.Views.{der_of}
 use Rattle.cc_derive_subtyping.specs.declared.trees.Tree.{Tree}

@@ -2,8 +2,7 @@
 use Rattle.std.proofs.Common.{◌≡◌, ℕ, zero, suc, ◌+◌, ◌<◌, Bool, true, false, cond, List, [], ◌∷◌, ◌++◌, length, get_or, map, Option, Some, None, refl, sym, ap, ◌∙◌, subst, inl, inr, arith}
 use Rattle.std.specs.Prelude.{nat_lt}
 use Rattle.std.specs.Option.{option_and_then, option_map}
-use Rattle.std.proofs.lemmas.Bool.{cond-true, cases_lt, lt-ltb}
-use Rattle.std.proofs.lemmas.List.{length-append}
+use Rattle.std.proofs.lemmas.Bool.{cond-true, lt-ltb}
 use Rattle.cc_capture.specs.declared.var.Var.TheVariants.{Free}
 use Rattle.cc_capture.specs.declared.var.Elem.{Elem}
 use Rattle.cc_capture.specs.declared.var.Elem.TheVariants.{Var as Variable}

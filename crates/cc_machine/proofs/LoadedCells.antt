@@ -3,7 +3,7 @@ use denote.Bor.{Bor}
 use Rattle.std.proofs.Common.{◌≡◌, ℕ, suc, ◌+◌, ◌<◌, ◌≤◌, ◌^◌, List, [], ◌∷◌, ◌++◌, map, reverse, length, None, refl, sym, ap, ◌∙◌, subst, take, get_or, arith}
 use Rattle.std.specs.List.{slice_get}
 use Rattle.std.proofs.lemmas.Grind.{reverse_onto}
-use Rattle.std.proofs.lemmas.List.{map-append, reverse-append, reverse-reverse, append-nil, append_assoc, length-reverse, length-take-le, take_more}
+use Rattle.std.proofs.lemmas.List.{map-append, reverse-append, reverse-reverse, append_assoc, length-reverse, length-take-le, take_more}
 use Rattle.cc_base.specs.declared.literal.Base.{Base}
 use Rattle.cc_base.specs.Literals.{UnitLiteral}
 use Rattle.cc_core.specs.declared.terms.Node.{Node}

@@ -1,8 +1,8 @@
 -- The text of a run's lines has these lines, and is replayed.
-use Rattle.std.proofs.Common.{◌≡◌, ◌≢◌, ℕ, zero, suc, ◌+◌, ◌-◌, ◌/◌, ◌%◌, Bool, true, false, not, ◌==◌, cond, List, [], ◌∷◌, ◌++◌, length, map, flat_map, Option, Some, None, inl, inr, ◌⊎◌, refl, sym, ap, ◌∙◌, subst, arith, true≢false}
-use Rattle.std.specs.Prelude.{ℤ, pos, negsuc, nat_lt, codes, encode_utf8_all, slice_index_or, IsTrue, if◌then◌else◌}
-use Rattle.std.specs.Fmt.{decimal, signed_decimal, digits, digits_onto, digit_glyph}
-use Rattle.std.specs.List.{AllByRecursion, list_all}
+use Rattle.std.proofs.Common.{◌≡◌, ◌≢◌, ℕ, zero, suc, ◌+◌, ◌-◌, ◌/◌, ◌%◌, Bool, true, false, ◌==◌, cond, List, [], ◌∷◌, ◌++◌, length, map, flat_map, Option, Some, None, inl, inr, ◌⊎◌, refl, sym, ap, ◌∙◌, subst, arith, true≢false}
+use Rattle.std.specs.Prelude.{ℤ, nat_lt, codes, encode_utf8_all, slice_index_or, IsTrue, if◌then◌else◌}
+use Rattle.std.specs.Fmt.{decimal}
+use Rattle.std.specs.List.{AllByRecursion}
 use Rattle.std.proofs.lemmas.Bool.Decides.{Decides-eqb}
 use Rattle.std.proofs.lemmas.List.{append-nil, append_assoc}
 use Rattle.cc_base.specs.Literals.{Literal, UnitLiteral, TruthLiteral, NumberLiteral, TextLiteral}
@@ -18,9 +18,8 @@ use Rattle.cc_meta_runs.specs.Answers.{shown}
 use Rattle.cc_meta_runs.specs.Runs.{State, Move, IsStuck, IsFinal, Moves, move, Ending, Ends, IsStopped, end_with, ending_of, run}
 use Rattle.cc_meta_runs.specs.SoundRuns.{IsAmong}
 use Rattle.cc_meta_runs.proofs.RunSteps.{runs_are_exact}
-use Rattle.cc_print.specs.TermTexts.{truth_text, quoted, literal_text}
+use Rattle.cc_print.specs.TermTexts.{quoted, literal_text}
 use Rattle.cc_print.specs.TypeTexts.{numbered, position_text}
-use Rattle.cc_print.proofs.Words.{both}
 use Rattle.cc_replay.specs.AnsweredRuns.{trace_lines}
 use Rattle.cc_replay.specs.LineLiterals.{StandsInLine, IsLineState}
 use Rattle.cc_replay.specs.ReplayLaws.{HasAnswersOf64Bits, lines_of_run, written_lines, WrittenRunsAreReplayed}

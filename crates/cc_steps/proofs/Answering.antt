@@ -5,26 +5,24 @@ use Rattle.cc_capture.specs.declared.var.Var.TheVariants.{Free}
 use Rattle.cc_core.specs.declared.terms.Node.{Node}
 use Rattle.cc_core.specs.Captured.{is_value}
 use Rattle.cc_core.specs.Stores.{ValueCell}
-use Rattle.cc_core.specs.Terms.{Term, VariableTerm}
+use Rattle.cc_core.specs.Terms.{Term}
 use Rattle.cc_core.specs.Views.{term_of}
-use Rattle.cc_device.specs.Events.{Event, Ended}
-use Rattle.cc_meta_runs.specs.Answers.{is_answer}
-use Rattle.cc_meta_runs.specs.Machine.{LetFrame, ScopeFrame, configured, Outcome, Final, Next, going, put_in, term_step, step}
-use Rattle.cc_meta_runs.proofs.Finality.{final_exactly_where_answered}
+use Rattle.cc_device.specs.Events.{Event}
+use Rattle.cc_meta_runs.specs.Machine.{LetFrame, configured, Outcome, going, put_in, term_step, step}
 use Rattle.cc_steps.specs.declared.parts.Cell.{Cell}
 use Rattle.cc_steps.specs.declared.parts.Frame.{Frame}
 use Rattle.cc_steps.specs.declared.parts.Parts.{Parts}
 use Rattle.cc_steps.specs.Environments.{extended, follow}
-use Rattle.cc_steps.specs.Growing.{Enters, Adds, Pops, HasNoFrame}
+use Rattle.cc_steps.specs.Growing.{Enters, Adds, Pops}
 use Rattle.cc_steps.specs.Lines.{GoesAs, Goes}
 use Rattle.cc_steps.specs.Naming.{Names}
 use Rattle.cc_steps.specs.Parts.{cell_in, frame_in, focus_in, store_of, stack_of, configuration_of, cell_environment, focus_environment, AreLinked, IsLinked, HasRoom}
 use Rattle.cc_steps.specs.Placing.{body_in}
 use Rattle.cc_steps.specs.Putting.{put_all}
-use Rattle.cc_steps.proofs.Following.{goes_same, stays, Grows, grows_cell, same_parts, entered_goes}
+use Rattle.cc_steps.proofs.Following.{goes_same, Grows, grows_cell, same_parts, entered_goes}
 use Rattle.cc_steps.proofs.Linking.{store-push, stack-push, length-store, linked_front, linked_top, IsLinkedFrame}
 use Rattle.cc_steps.proofs.PutBodies.{put_in-body}
-use Rattle.cc_steps.proofs.StepLines.{value_named, answer_ends}
+use Rattle.cc_steps.proofs.StepLines.{value_named}
 
 -- a value is, where its new cell stands
 pub names_value : {c : Cell} {position : ℕ} {before after : Parts} (value : Term) → IsLinked before → cell_environment (Some c) ≤ length before.links.items

@@ -1,35 +1,34 @@
 -- Repetitions, lets that wait, boundaries and exits: what the code does is their line of the table.
 use denote.Bor.{Bor}
-use Rattle.std.proofs.Common.{◌≡◌, ℕ, suc, ◌+◌, ◌<◌, ◌≤◌, ◌^◌, ℤ, pos, Bool, true, false, [], ◌∷◌, ◌++◌, length, Some, None, refl, sym, ap, ◌∙◌, arith, vec_len, vec_capacity}
+use Rattle.std.proofs.Common.{◌≡◌, ℕ, suc, ◌+◌, ◌<◌, ◌≤◌, ◌^◌, ℤ, pos, true, false, [], ◌∷◌, ◌++◌, length, Some, None, refl, sym, ap, ◌∙◌, arith, vec_len, vec_capacity}
 use Rattle.std.specs.Prelude.{nat_eq}
 use Rattle.std.proofs.lemmas.Bool.{cond-true, cond-false, eq-eqb, ne_eqb}
 use Rattle.cc_base.specs.Literals.{UnitLiteral, NumberLiteral}
 use Rattle.cc_capture.specs.declared.var.Var.TheVariants.{Free}
 use Rattle.cc_core.specs.declared.terms.Node.{Node}
 use Rattle.cc_core.specs.Stores.{ValueCell, LabelCell}
-use Rattle.cc_core.specs.Terms.{VariableTerm, LiteralTerm, Application}
+use Rattle.cc_core.specs.Terms.{LiteralTerm, Application}
 use Rattle.cc_core.specs.Views.{term_of}
-use Rattle.cc_device.specs.Events.{Entered, Exited}
+use Rattle.cc_device.specs.Events.{Entered}
 use Rattle.cc_meta_runs.specs.Answers.{is_answer}
-use Rattle.cc_meta_runs.specs.Machine.{LetFrame, ScopeFrame, RepetitionFrame, Stack, configured, Outcome, Stuck, Next, going, put_in, let_step, call_with_number, repeat_step, below_scope, exit_step, boundary_step}
+use Rattle.cc_meta_runs.specs.Machine.{LetFrame, ScopeFrame, RepetitionFrame, Stack, configured, going, put_in, let_step, call_with_number, repeat_step, below_scope, boundary_step}
 use Rattle.cc_steps.specs.declared.parts.Small.TheVariants as smalls
 use Rattle.cc_steps.specs.declared.parts.Cell.TheVariants as cell_forms
 use Rattle.cc_steps.specs.declared.parts.Frame.{Frame}
 use Rattle.cc_steps.specs.declared.parts.Frame.TheVariants as frame_forms
-use Rattle.cc_steps.specs.declared.parts.Focus.{Focus}
 use Rattle.cc_steps.specs.declared.parts.Focus.TheVariants as focuses
 use Rattle.cc_steps.specs.declared.parts.Parts.{Parts}
 use Rattle.cc_steps.specs.Environments.{extended, follow}
-use Rattle.cc_steps.specs.Growing.{Enters, Adds, Waits, Pops, HasNoFrame}
-use Rattle.cc_steps.specs.Lines.{GoesAs, Goes}
-use Rattle.cc_steps.specs.Parts.{frame_in, focus_in, store_of, stack_of, configuration_of, focus_environment, AreLinked, IsLinked}
+use Rattle.cc_steps.specs.Growing.{Enters, Adds, Waits, Pops}
+use Rattle.cc_steps.specs.Lines.{Goes}
+use Rattle.cc_steps.specs.Parts.{frame_in, store_of, stack_of, configuration_of, AreLinked, IsLinked}
 use Rattle.cc_steps.specs.Placing.{term_in, body_in}
 use Rattle.cc_steps.specs.Putting.{put_all}
 use Rattle.cc_steps.specs.Unwinding.{Unwinds}
 use Rattle.cc_steps.proofs.Following.{goes_same, Grows, grows_none, grows_cell, grows_frame, same_parts, entered_goes, shown_goes}
 use Rattle.cc_steps.proofs.Linking.{store-push, stack-push, length-store, linked_label, linked_frame, linked_front}
 use Rattle.cc_steps.proofs.PutBodies.{put_in-body}
-use Rattle.cc_steps.proofs.StepLines.{let-other, left, not_left}
+use Rattle.cc_steps.proofs.StepLines.{let-other}
 
 -- a cell and a frame are added, and the function of a repetition is called
 pub called : {before middle after : Parts} {position : ℕ} (number : ℤ) (function begun wanted n : ℕ) → IsLinked before

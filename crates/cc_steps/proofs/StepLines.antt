@@ -14,10 +14,9 @@ use Rattle.cc_core.specs.Views.{form_of}
 use Rattle.cc_capture.specs.Sets.{Set}
 use Rattle.cc_device.specs.Events.{Ended, Exited}
 use Rattle.cc_meta_runs.specs.Answers.{is_answer}
-use Rattle.cc_meta_runs.specs.Machine.{LetFrame, ScopeFrame, RepetitionFrame, Stack, Configuration, configured, Stuck, Next, going, bound_to_new, let_step, apply_step, type_apply_step, literal_in, result_of, primitive_step, conditional_step, repeat_step, below_scope, exit_to, exit_step, term_step}
+use Rattle.cc_meta_runs.specs.Machine.{LetFrame, ScopeFrame, RepetitionFrame, Stack, Configuration, configured, Stuck, Next, going, bound_to_new, let_step, apply_step, type_apply_step, result_of, primitive_step, conditional_step, repeat_step, below_scope, exit_to, exit_step, term_step}
 use Rattle.cc_steps.specs.Environments.{Environment, extended}
 use Rattle.cc_steps.specs.Lines.{GoesAs, number_in, truth_in}
-use Rattle.cc_steps.specs.Parts.{literal_of_term}
 use Rattle.cc_steps.specs.Putting.{put_all}
 use Rattle.cc_steps.proofs.PutBodies.{put_in-body, type_body}
 

@@ -2,15 +2,14 @@
 use Rattle.std.proofs.Common.{◌≡◌, ◌↔◌, ◌<◌, ◌≤◌, ◌+◌, ℕ, Bool, true, List, [], ◌∷◌, ◌++◌, map, length, take, get_or, Some, IsTrue, refl, sym, ap, ◌∙◌, subst, arith}
 use Rattle.std.specs.Prelude.{slice_get}
 use Rattle.std.specs.List.{AllByRecursion, AllZip}
-use Rattle.std.proofs.lemmas.List.{map-append, map_more, take_more}
+use Rattle.std.proofs.lemmas.List.{take_more}
 use Rattle.std.proofs.lemmas.Option.{slice_get_read, slice_get_past, slice_get-get_or}
 use Rattle.std.proofs.lemmas.Slice.Zip.{all_zipped_more}
 use Rattle.cc_device.specs.declared.ends.End.{End}
 use Rattle.cc_machine.specs.Machines.{held_by}
 use Rattle.cc_meta_runs.specs.Machine.{Final, step}
-use Rattle.cc_program.specs.declared.program.Program.{Program}
 use Rattle.cc_tasks.specs.declared.task.Task.{Task}
-use Rattle.cc_tasks.specs.Tasks.{holds, begins, HasEnded, HaveEnded, IsEndOf}
+use Rattle.cc_tasks.specs.Tasks.{HasEnded, IsEndOf}
 
 -- what has ended
 pub ended_there : (tasks : List Task) (n : ℕ) (some : Task) (b : Bool) → n < length tasks
