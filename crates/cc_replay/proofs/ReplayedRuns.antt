@@ -22,7 +22,7 @@ use Rattle.cc_replay.specs.AnsweredRuns as given
 use Rattle.cc_replay.specs.ReplayLaws.{HasAnswersOf64Bits, lines_of_run, RunsAreReplayed}
 use Rattle.cc_replay.specs.Replays.{ending_in}
 use Rattle.cc_replay.proofs.AgreeingReplays.{agreeing_lines_are_traces}
-use Rattle.cc_replay.proofs.QuestionsTaken.{asks_rightly}
+use Rattle.cc_meta_runs.proofs.Finality.{asks_rightly}
 
 -- a reply is an answer of the operation's kind
 replied_kind : (devices : Devices) (n : ℕ) (op : Op) (argument : Option Literal) (o : Option DeviceState) (reply : Reply) → reply_of devices n op argument o ≡ Some reply
