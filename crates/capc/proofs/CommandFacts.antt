@@ -14,7 +14,7 @@ use Rattle.cc_meta_modules.proofs.PresentLaws.{present_verdicts_exist}
 use Rattle.cc_meta_modules.specs.ModuleLaws.{NamesOfDevicesDiffer}
 use Rattle.cc_meta_modules.specs.ModuleVerdicts.{ModuleVerdict}
 use Rattle.cc_meta_modules.specs.PresentTexts.{Texts, ArePresent, AreVerdicts}
-use Rattle.cc_mnf.specs.CoreModules.{device_names}
+use Rattle.cc_mnf.specs.ElaboratedModules.{device_names}
 use Rattle.cc_replies.proofs.ReplyLaws.{replies_exist}
 use Rattle.cc_replies.specs.Replies.{Replies, put_reply, texts_after}
 use Rattle.cc_policy.specs.declared.policy.Rule.{Rule}

@@ -8,8 +8,7 @@ use Rattle.std.proofs.lemmas.List.{append-nil, length-map, length-reverse, rever
 use Rattle.std.proofs.lemmas.Slice.Eq.{bytes_eq-Decides}
 use Rattle.cc_core.specs.Programs.{Definition, Module}
 use Rattle.cc_meta_entries.specs.PresentEntries.{CheckedModule, program_module}
-use Rattle.cc_meta_modules.specs.ModuleLaws.{in_program}
-use Rattle.cc_meta_modules.specs.ModuleVerdicts.{CheckedDefinition}
+use Rattle.cc_meta_modules.specs.ModuleVerdicts.{CheckedDefinition, in_program}
 use Rattle.cc_meta_runs.specs.Links.{count_definitions, position_among, position_in}
 use Rattle.cc_module_links.specs.Laws.{AreNumbered, modules_turned}
 use Rattle.capc.specs.Explaining.{names_in, definition_names}

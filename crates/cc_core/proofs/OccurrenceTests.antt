@@ -17,7 +17,8 @@ use Rattle.cc_core.specs.declared.occurrences.Question.TheVariants as questions
 use Rattle.cc_core.specs.Shapes.{Shape, BaseShape, AnyShape, TypeVariable, FunctionShape, TypeFunctionShape, BoxShape, ExitShape, CapturingType}
 use Rattle.cc_core.specs.Terms.{Note, Absent, Written, Own, Term, VariableTerm, LiteralTerm, FunctionTerm, TypeFunctionTerm, BoxTerm, Application, TypeApplication, Unboxing, Let, Primitive, Conditional, Repetition, Operation, Boundary, Leave}
 use Rattle.cc_core.specs.Occurrences.{Condition, Meets, MeetsInSet, MeetsInType, MeetsInNote, MeetsInOptionalSet, MeetsAtOptional, MeetsInTerm, IsAskedOf, IsNoHole, without, without_holes}
-use Rattle.cc_core.specs.Questions.{Question, question_of, is_hole, occurs, occurs_in_type, occurs_in_note, occurs_in_optional_set, occurs_at_optional, occurs_in_term}
+use Rattle.cc_core.specs.Questions.{Question, is_hole, occurs, occurs_in_type, occurs_in_note, occurs_in_optional_set, occurs_at_optional, occurs_in_term}
+use Rattle.cc_core.specs.Views.{question_of}
 
 -- a test says no exactly where a fact holds
 abbrev pub SaysNo : Bool → Type 0 → Type 0

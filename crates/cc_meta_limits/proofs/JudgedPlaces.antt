@@ -12,9 +12,7 @@ use Rattle.cc_core.specs.Programs.{device_entry}
 use Rattle.cc_core.proofs.Lookups.{length_map}
 use Rattle.cc_device.specs.Declarations.{declared_bases}
 use Rattle.cc_grammar.specs.Syntax.{ImportSyntax}
-use Rattle.cc_mnf.specs.CoreModules.{device_names}
-use Rattle.cc_mnf.specs.ElaboratedModules.{CoreDefinition}
-use Rattle.cc_mnf.specs.ElaborationLaws.{import_names, definition_names}
+use Rattle.cc_mnf.specs.ElaboratedModules.{CoreDefinition, import_names, definition_names, device_names}
 use Rattle.cc_sets.specs.Verdicts.{Accepted}
 use Rattle.cc_sets.specs.Verdicts as definitions
 use Rattle.cc_meta_checking.specs.CheckingLaws.{Fits}

@@ -23,8 +23,7 @@ use Rattle.cc_grammar.specs.Syntax.{ImportSyntax}
 use Rattle.cc_meta_checking.specs.FillingLaws.{AreGlobals}
 use Rattle.cc_meta_checking.specs.CheckingLaws.{oldest}
 use Rattle.cc_meta_typing.proofs.FormedContexts.{kinded_single}
-use Rattle.cc_mnf.specs.CoreModules.{device_names}
-use Rattle.cc_mnf.specs.ElaboratedModules.{CoreModule, IsElaborated, elaboration}
+use Rattle.cc_mnf.specs.ElaboratedModules.{CoreModule, IsElaborated, elaboration, device_names}
 use Rattle.cc_grammar.specs.Syntax.{ModuleSyntax}
 use Rattle.cc_meta_modules.specs.ModuleLaws.{FitsDevices}
 use Rattle.cc_meta_modules.specs.ModuleVerdicts.{Finding, FoundDefinition, NoModule, InCycle, RefusedModule, NoDefinition, first_missing, declared_context, with_finding, with_findings}

@@ -27,7 +27,7 @@ use Rattle.cc_judge.specs.Judgements.{Judgement, judgement_in, AreCurrent}
 use Rattle.cc_judge.specs.Kept.{judged_on, judgements_from}
 use Rattle.cc_judge.specs.Places.{IsAbsentKey}
 use Rattle.cc_judge.proofs.TextPlaces.{distinct_keys}
-use Rattle.cc_meta_checking.specs.CheckingLaws.{definition_context}
+use Rattle.cc_meta_checking.specs.AcceptedDefinitions.{definition_context}
 use Rattle.cc_meta_modules.specs.ModuleLaws.{NamesOfDevicesDiffer}
 use Rattle.cc_meta_modules.specs.ModuleVerdicts.{CheckedDefinition, ModuleVerdict, IsAccepted, IsRefused}
 use Rattle.cc_meta_modules.specs.PresentTexts.{Texts, ArePresent, text_of, AreVerdicts}
