@@ -5,7 +5,7 @@ use Rattle.std.specs.BTreeMap.{insert_entry}
 use Rattle.std.specs.Map.{remove_entry}
 use Rattle.std.specs.Str.{bytes_eq}
 use Rattle.cc_base.specs.declared.device.DeviceDecl.{DeviceDecl}
-use Rattle.cc_graph.specs.Graph.{compare_names}
+use Rattle.cc_base.specs.Names.{compare_names}
 use Rattle.cc_io.specs.declared.whole.WriteAll.{WriteAll}
 use Rattle.cc_io.specs.declared.whole.WriteAll.TheVariants as errors
 use Rattle.cc_io.specs.Wholes.{WritesWhole}

@@ -12,6 +12,7 @@ use Rattle.cc_meta_modules.specs.ModuleVerdicts.{CheckedDefinition, in_program}
 use Rattle.cc_meta_runs.specs.Links.{count_definitions, position_among, position_in}
 use Rattle.cc_module_links.specs.Laws.{AreNumbered, modules_turned}
 use Rattle.capc.specs.Explaining.{names_in, definition_names}
+use Rattle.capc.proofs.ExplainingFacts.{first_part, second_part}
 
 same_bytes : (a b : List ℕ) → bytes_eq a b ≡ true → a ≡ b
 same_bytes a b h = (bytes_eq-Decides a b).0 h
@@ -304,23 +305,6 @@ get_cases (z ∷ xs) ys (suc k) x is =
       | inr (j, at, there) ↦ inr (j, omega arith, there)
     ]
 
--- the parts of a pair, if there is one
-first_of : Option (List ℕ × List ℕ) → List ℕ
-first_of (Some names) = names.0
-first_of None = []
-
-second_of : Option (List ℕ × List ℕ) → List ℕ
-second_of (Some names) = names.1
-second_of None = []
-
-second_same : (m n o p : List ℕ) → ◌≡◌ {A = Option (List ℕ × List ℕ)} (Some (m, n)) (Some (o, p)) → n ≡ p
-unfolding second_of
-second_same m n o p h = ap second_of h
-
-first_same : (m n o p : List ℕ) → ◌≡◌ {A = Option (List ℕ × List ℕ)} (Some (m, n)) (Some (o, p)) → m ≡ o
-unfolding first_of
-first_same m n o p h = ap first_of h
-
 -- the names of a definition of a module
 abbrev named_in : List ℕ → CheckedDefinition → List ℕ × List ℕ
 named_in owner one = (owner, one.name)
@@ -334,8 +318,8 @@ stands_among : (owner : List ℕ) (ds : List CheckedDefinition) (module_name nam
     → ◌≡◌ {A = Option (List ℕ × List ℕ)} (slice_get (map (named_in owner) ds) k) (Some (module_name, name)) → StandsAmong owner ds module_name name k
 stands_among owner [] module_name name k is = cc
 stands_among owner (d ∷ ds) module_name name zero is = record {
-  of_owner = first_same module_name name owner d.name (sym is);
-  among = record { before = []; one = d; after = ds; parts = refl; named = second_same module_name name owner d.name (sym is); at = refl };
+  of_owner = first_part module_name name owner d.name (sym is);
+  among = record { before = []; one = d; after = ds; parts = refl; named = second_part module_name name owner d.name (sym is); at = refl };
 }
 stands_among owner (d ∷ ds) module_name name (suc k) is =
     let it = stands_among owner ds module_name name k is in

@@ -98,7 +98,8 @@ pub found_base : (devices : List DeviceDecl) (findings : List Finding) → AllBy
     → HasBase (declared_context devices) (with_findings (declared_context devices) findings)
 found_base devices findings fit = findings_base devices (declared_context devices) findings (devices_base devices) fit
 
-found_count : (g : Context) (imports : List ImportSyntax) (findings : List Finding)
+-- how many positions there are with what is found for the imports
+pub found_count : (g : Context) (imports : List ImportSyntax) (findings : List Finding)
     → length findings ≡ length imports → first_missing imports findings ≡ None
     → length (with_findings g findings) ≡ length g + length imports
 found_count g [] [] l n = omega arith

@@ -20,7 +20,7 @@ use Rattle.cc_base.specs.declared.place.Place.{Place}
 use Rattle.cc_check.specs.Definitions.{accepted_of}
 use Rattle.cc_core.specs.Views.{context_of}
 use Rattle.cc_derive.specs.Accepting.{IsAcceptedIn}
-use Rattle.cc_graph.specs.Graph.{compare_names}
+use Rattle.cc_base.specs.Names.{compare_names}
 use Rattle.cc_graph.proofs.NameLemmas.{same_name, is_same_name}
 use Rattle.cc_judge.specs.declared.grounds.Grounds.{Grounds}
 use Rattle.cc_judge.specs.Judgements.{Judgement, judgement_in, AreCurrent}
