@@ -39,11 +39,6 @@ turned_reverse front (one ∷ rest) =
 turned_is : (ds : List CheckedDefinition) → reverse (map in_program ds) ≡ definitions_turned [] ds
 turned_is ds = sym (append-nil (reverse (map in_program ds))) ∙ turned_reverse [] ds
 
-turned_count : (front : List Definition) (ds : List CheckedDefinition) → length (definitions_turned front ds) ≡ length front + length ds
-unfolding definitions_turned
-turned_count front [] = omega arith
-turned_count front (one ∷ rest) = let more = turned_count (in_program one ∷ front) rest in omega arith
-
 -- a definition of the name, with those before and behind it
 pub record PlacedAmong (ds : List CheckedDefinition) (name : List ℕ) (place : ℕ) : Type 0 where
   pub before : List CheckedDefinition

@@ -21,20 +21,6 @@ use Rattle.cc_graph.proofs.NameLemmas.{names_total, same_name, is_same_name, pre
 use Rattle.cc_graph.proofs.OrderLemmas.{clash, list_all_at, among_listed, listed-reverse}
 use Rattle.cc_graph.proofs.Paths.{IsAmong, reaches-path}
 
--- a module of the map is present
-among_present : (imports : ImportMap) (name : List ℕ) → IsAmong name (keys_of imports) → is_present imports name ≡ true
-among_present [] name among = absurd among
-among_present (entry ∷ rest) name among =
-    elim (cases_Bool (bytes_eq name entry.0)) [
-      | inl same ↦ rw same refl
-      | inr other ↦
-          rw other
-          (elim among [
-            | inl here ↦ clash (bytes_eq name entry.0) (is_same_name name entry.0 (sym here)) other
-            | inr later ↦ among_present rest name later
-          ])
-    ]
-
 -- the module that stands before others was the next one
 next_before : (imports : ImportMap) (newer : List (List ℕ)) (name : List ℕ) (older : List (List ℕ))
     → are_in_order imports (newer ++ name ∷ older) ≡ true → is_next imports older name ≡ true
