@@ -6,8 +6,7 @@ use Rattle.cc_core.specs.Programs.{Entry, IsEntry}
 use Rattle.cc_device.specs.Devices.{Devices}
 use Rattle.cc_meta_runs.specs.Machine.{Configuration}
 use Rattle.cc_meta_runs.specs.SafeRuns.{HaveShapes}
-use Rattle.cc_meta_runs.specs.Interleavings.{Turn}
-use Rattle.cc_meta_runs.specs.Interleavings.{own_steps, ending_in, ends_from}
+use Rattle.cc_meta_runs.specs.Interleavings.{Turn, own_steps, ending_in, ends_from}
 use Rattle.cc_meta_runs.specs.SafeTasks.{RunsInterleaved}
 
 -- what an entry has, of each, and devices of the shapes of each
@@ -21,7 +20,8 @@ EndsAreOfTheirTasks =
     → slice_get (ends_from 0 turns devices tasks) task
     ≡ option_map (λ configuration. (ending_in devices configuration, own_steps task turns)) (slice_get tasks task)
 
--- The programs of entries run so, on all devices of their shapes, by every schedule and with any fuel.
+-- The programs of entries run interleaved as they should, on all devices of their shapes, by every schedule and with
+-- any fuel.
 abbrev pub EntriesRunInterleaved : Type 0
 EntriesRunInterleaved =
     (entries : List Entry) (devices : Devices) → AreEntries entries devices
