@@ -16,7 +16,8 @@ use Rattle.cc_capture.proofs.Equality.{same_variable-decides}
 use Rattle.cc_core.specs.declared.occurrences.Question.TheVariants as questions
 use Rattle.cc_core.specs.Shapes.{Shape, BaseShape, AnyShape, TypeVariable, FunctionShape, TypeFunctionShape, BoxShape, ExitShape, CapturingType}
 use Rattle.cc_core.specs.Occurrences.{Condition, Meets, MeetsInSet, MeetsInType, IsAskedOf, IsNoHole, without, without_holes}
-use Rattle.cc_core.specs.Questions.{Question, question_of, is_hole, occurs, occurs_in_type}
+use Rattle.cc_core.specs.Questions.{Question, is_hole, occurs, occurs_in_type}
+use Rattle.cc_core.specs.Views.{question_of}
 
 -- a test says no exactly where a fact holds
 abbrev pub SaysNo : Bool → Type 0 → Type 0

@@ -1,14 +1,9 @@
--- Whether something occurs in shapes and types, as the tests ask it: a free position, or a hole.
+-- Whether something occurs in shapes and types: a free position, or a hole.
 use Rattle.std.specs.Prelude.{Bool, true, false, ◌||◌}
-use Rattle.std.specs.List.{list_any}
 use Rattle.cc_capture.specs.declared.var.Var.{Var}
-use Rattle.cc_capture.specs.declared.var.Var.TheVariants.{Free}
 use Rattle.cc_capture.specs.declared.var.Elem.{Elem}
 use Rattle.cc_capture.specs.declared.var.Elem.TheVariants.{Var as Variable, Cap, Hole}
-use Rattle.cc_capture.specs.Variables.{same_variable}
-use Rattle.cc_capture.specs.Sets.{Set, contains}
-use Rattle.cc_core.specs.declared.occurrences.Question.{Question as DeclaredQuestion}
-use Rattle.cc_core.specs.declared.occurrences.Question.TheVariants as questions
+use Rattle.cc_capture.specs.Sets.{Set}
 use Rattle.cc_core.specs.Shapes.{Shape, BaseShape, AnyShape, TypeVariable, FunctionShape, TypeFunctionShape, BoxShape}
 use Rattle.cc_core.specs.Shapes.{ExitShape, CapturingType}
 
@@ -22,12 +17,6 @@ abbrev pub is_hole : Elem → Bool
 is_hole (Variable variable) = false
 is_hole Cap = false
 is_hole (Hole number) = true
-
--- the question that a value stands for
-abbrev pub question_of : DeclaredQuestion → Question
-question_of (questions.Position position) =
-    record { in_set = contains (Variable (Free position)); at = same_variable (Free position) }
-question_of questions.Hole = record { in_set = λ set. list_any is_hole set.list; at = λ variable. false }
 
 -- whether the answer is yes somewhere in the shape
 abbrev pub occurs : Question → Shape → Bool

@@ -13,7 +13,8 @@ use Rattle.cc_machine.specs.Standing.{StandsFor, StandsSoundly, with_devices, St
 use Rattle.cc_meta_runs.specs.Answers.{shown}
 use Rattle.cc_meta_runs.specs.Machine.{Configuration, Final, step}
 use Rattle.cc_meta_runs.specs.Runs.{State, Move, IsStuck, IsFinal, Moves, move, closed, with_event, Ends, Run, ended, after_move, end_with, ending_of, run_on, run}
-use Rattle.cc_meta_runs.specs.SoundRuns.{HasShapesOfCells, IsAmong}
+use Rattle.cc_meta_runs.specs.SoundRuns.{HasShapesOfCells}
+use Rattle.cc_meta_runs.specs.SafeRuns.{IsAmong}
 use Rattle.cc_meta_runs.proofs.Erasure.{erased_move, shown-erased}
 use Rattle.cc_meta_runs.proofs.Finality.{final_exactly_where_answered, final_states_are_answered}
 use Rattle.cc_meta_runs.proofs.RunSteps.{out_of_fuel_exactly}

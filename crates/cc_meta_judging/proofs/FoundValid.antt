@@ -14,8 +14,7 @@ use Rattle.cc_certificate_judging.specs.Judging.{NodeTree, listed, read_tree, Ju
 use Rattle.cc_certificate_judging.proofs.OneTree.{one_tree}
 use Rattle.cc_certificate_judging.proofs.SameParts.{same_tail, same_parts}
 use Rattle.cc_meta_certificates.specs.CertificateLaws.{IsPresentable}
-use Rattle.cc_meta_checking.specs.CheckingLaws.{definition_context}
-use Rattle.cc_meta_checking.specs.CanonicalLaws.{accepted_derived}
+use Rattle.cc_meta_checking.specs.AcceptedDefinitions.{definition_context, accepted_derived}
 use Rattle.cc_core.specs.Shapes.{CapturingType}
 use Rattle.cc_meta_certificates.proofs.DefinitionCertificates.{accepted_certifiable}
 use Rattle.cc_meta_certificates.proofs.PresentableTypings.{valid_presentable}

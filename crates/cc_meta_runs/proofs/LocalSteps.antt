@@ -15,8 +15,8 @@ use Rattle.cc_core.specs.Captured.{captured_variables}
 use Rattle.cc_meta_runs.specs.Runs.{State, Move, IsStuck, IsFinal, Moves, answered, closed, move}
 use Rattle.cc_meta_runs.specs.Soundness.{IsSound, IsSoundOutcome, OperatesNoDevice}
 use Rattle.cc_meta_runs.specs.SoundRuns.{IsSoundState, IsKeptSound, IsSoundMove}
-use Rattle.cc_meta_runs.specs.Interleavings.{state_of}
-use Rattle.cc_meta_runs.specs.InterleavingLaws.{ReachesDevice, ComesToTheSame, StepsDependOnWhatTheyReach, StepsChangeWhatTheyReach, on_device, History, then_operated}
+use Rattle.cc_meta_runs.specs.Interleavings.{state_of, on_device, History, then_operated}
+use Rattle.cc_meta_runs.specs.InterleavingLaws.{ReachesDevice, ComesToTheSame, StepsDependOnWhatTheyReach, StepsChangeWhatTheyReach}
 use Rattle.cc_meta_runs.proofs.ReachLemmas.{set_reaches-left}
 use Rattle.cc_meta_runs.proofs.StepTheorem.{steps_are_sound}
 use Rattle.cc_meta_runs.proofs.DeviceTable.{moves_touch_one_device}

@@ -19,7 +19,7 @@ use Rattle.cc_core.specs.Subcapturing.{Subcaptures, variable, SubcapturesSet}
 use Rattle.cc_core.specs.WellFormed.{IsWellFormedType, IsWellFormedTerm}
 use Rattle.cc_core.specs.Subtyping.{reflexive}
 use Rattle.cc_device.specs.Devices.{Console, Counter}
-use Rattle.cc_meta_runs.specs.Soundness.{IsListed}
+use Rattle.cc_meta_runs.specs.SafeRuns.{IsListed}
 use Rattle.cc_core.specs.Typing.{HasTyping, t-var, t-lit, t-abs, t-app, t-box, t-let, t-op, t-sub, HasType}
 use Rattle.cc_core.specs.Stores.{DeviceCell, HasStoreTyping, none_stored, value_stored, device_stored, recursive_stored}
 use Rattle.cc_core.proofs.Moving.{Member-single}

@@ -13,7 +13,8 @@ use Rattle.cc_meta_runs.specs.Machine.{Configuration, Outcome, Stuck, Final, Nex
 use Rattle.cc_meta_runs.specs.Runs.{State, Move, IsStuck, IsFinal, Moves, answered, closed, move, with_event, Ending, ending_of, LeadsIn, run}
 use Rattle.cc_meta_runs.specs.Runs as runs
 use Rattle.cc_meta_runs.specs.RunLaws.{GoesOn}
-use Rattle.cc_meta_runs.specs.SoundRuns.{IsSoundState, IsAmong}
+use Rattle.cc_meta_runs.specs.SoundRuns.{IsSoundState}
+use Rattle.cc_meta_runs.specs.SafeRuns.{IsAmong}
 use Rattle.cc_meta_runs.proofs.DeviceTable.{devices_answer_what_suits}
 use Rattle.cc_meta_runs.proofs.RunSteps.{runs_are_exact}
 use Rattle.cc_meta_runs.proofs.RunTheorems.{soundness_is_kept, sound_states_never_get_stuck}

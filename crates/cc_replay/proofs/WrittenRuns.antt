@@ -16,7 +16,7 @@ use Rattle.cc_device.specs.Endings.{Shown, ShownLiteral, ShownFunction, ShownTyp
 use Rattle.cc_device.specs.Events.{Event, Operated, Entered, Ended, Exited}
 use Rattle.cc_meta_runs.specs.Answers.{shown}
 use Rattle.cc_meta_runs.specs.Runs.{State, Move, IsStuck, IsFinal, Moves, move, Ending, Ends, IsStopped, end_with, ending_of, run}
-use Rattle.cc_meta_runs.specs.SoundRuns.{IsAmong}
+use Rattle.cc_meta_runs.specs.SafeRuns.{IsAmong}
 use Rattle.cc_meta_runs.proofs.RunSteps.{runs_are_exact}
 use Rattle.cc_print.specs.TermTexts.{quoted, literal_text}
 use Rattle.cc_print.specs.TypeTexts.{numbered, position_text}
