@@ -24,10 +24,10 @@ use Rattle.cc_sets.specs.Exposing.{followed, exposed}
 use Rattle.cc_sets.specs.Inference.{in_context, set_in, shape_in, type_in, exit_entry}
 use Rattle.cc_meta_typing.proofs.Avoiding.{avoided_type_parts}
 use Rattle.cc_meta_checking.proofs.Signatures.{avoided_set_closed, avoided_closed}
-use Rattle.cc_meta_checking.proofs.Tameness.{Closed, closed_from, LeavesHoles-moving, LeavesHoles-putting_shape, act_closed, act_set_closed}
+use Rattle.cc_meta_checking.proofs.Tameness.{Closed, closed_from, no_hole_single, LeavesHoles-moving, LeavesHoles-putting_shape, act_closed, act_set_closed}
 use Rattle.cc_meta_checking.proofs.TameFindings.{closed_to, no_hole_outside, no_hole_union, no_hole_variable, read_set_closed}
 use Rattle.std.specs.Prelude.{nat_eq}
-use Rattle.cc_meta_certificates.proofs.HolelessComparisons.{ClosedType, IsHoleless, ClosedEntry, ClosedContext, closed_entry, either, closed_single, canonical_holeless, type_holeless}
+use Rattle.cc_meta_certificates.proofs.HolelessComparisons.{ClosedType, IsHoleless, ClosedEntry, ClosedContext, closed_entry, either, canonical_holeless, type_holeless}
 
 closed_empty : HasNoHoleInSet empty
 closed_empty x m = absurd (Member-empty x m)
@@ -343,7 +343,7 @@ term_holeless (Operation o v a) g d closed k =
     operation_holeless g o (in_context g v) (argument_in g a) (base_taken o) closed
 term_holeless (Boundary s t) g d closed k =
     let gives = read_shape_closed g d s k.0 in
-    let inner : ClosedContext (exit_entry (shape_in g s) ∷ g) = ((gives, closed_single Cap tt), closed) in
+    let inner : ClosedContext (exit_entry (shape_in g s) ∷ g) = ((gives, no_hole_single Cap tt), closed) in
     let part = term_holeless t (exit_entry (shape_in g s) ∷ g) (suc d) inner k.1 in (
       (gives, closed_empty),
       tt,
