@@ -5,9 +5,13 @@ From the clauses of the function (`capc` of crates/capc/src/run.rt) each name is
 this item each name again, and so on. What is reached are items of the files in specs/, and types and traits of the program
 that stand in clauses as what they are. What the library `std` defines is followed no further. A word of an item that is the
 name of another item of its file, or of one that the file uses, is taken for that one: so too much may be reached, and never
-too little. The same is done for the laws that docs/proved.md cites: functions with a contract and nothing else.
+too little. Two kinds of items are not followed, since nothing of them has to be believed. A lemma is a proof of what its
+statement says (nothing opens it, and its statement ends in an equation or in a fact). And a function that a law says to be a
+relation (DETERMINED) may be read as that relation: the items of the law are followed instead of those of the function. The
+same is done for the laws that docs/proved.md cites: functions with a contract and nothing else.
 
-Usage: .ci/reading.py           compares the list with docs/reading.md; ends with 1 where they differ
+Usage: .ci/reading.py           compares the list with docs/reading.md; ends with 1 where they differ, or where a file has to be
+                                believed that says that it serves code, proofs or laws
        .ci/reading.py --write   writes docs/reading.md
        .ci/reading.py --why F   tells for each item of the file F (crates/CRATE/specs/FILE.antt) by which one it is reached
 """
@@ -21,6 +25,11 @@ PAGE = os.path.join(TOP, "docs", "reading.md")
 CAPC = ("crates/capc/src/run.rt", "capc")
 CERTIFY = ("crates/certify/src/run.rt", "certify")
 NAME = r"[^\s(){}\[\],;.]+"
+# functions of which a law says, of each value, that they give it exactly where a relation holds of it: the function, the law
+# with the file that has both, and the file whose function has the law as its contract
+DETERMINED = {
+    ("crates/cc_meta_modules/specs/Readings.antt", "reading_of_text"): ("ATextHasOneReading", "crates/cc_meta_modules/src/module_laws.rt"),
+}
 OPENERS = r"(?:(?:pattern|opaque|abbrev|unfoldable|pub|data|record|mutual)\b ?)+"
 
 
@@ -105,6 +114,13 @@ class Specs:
                 yield name, bool(is_type_or_function or name[0].isupper() or "-" in name) and "record" not in first
 
 
+    def is_lemma(self, name):
+        """Whether the item is a proof: it is no definition, and its statement ends in an equation or in a fact."""
+        statement = re.match(rf"(?:--.*\n)*(?:pub )?{re.escape(name)} :((?:.*\n?)(?: +[^\n]*\n?)*)", self.items[name])
+        end = re.split(r"→", statement.group(1))[-1] if statement else ""
+        return bool(re.match(r"\s*(?:Is|Are|Has)[A-Z]\w*\b", end) or "≡" in end) and "×" not in end
+
+
 class Program:
     """A file of the program: its types and traits by name, each with its text."""
 
@@ -161,6 +177,9 @@ class Reading:
         return self.files[path]
 
     def reach(self, path, name, by):
+        file = self.file(path)
+        if path.endswith(".antt") and name in file.items and file.is_lemma(name):
+            return
         if (path, name) not in self.reached:
             self.reached[path, name] = by
             self.waiting.append((path, name))
@@ -213,6 +232,12 @@ class Reading:
         file = self.file(path)
         if file is None or name not in file.items:
             sys.exit(f"{self.reached[path, name][0]}: no {name} in {path}")
+        if (path, name) in DETERMINED:
+            law, proved_in = DETERMINED[path, name]
+            if "↔" not in file.items[law] or not any(law in clause for clause in self.file(proved_in).clauses.values()):
+                sys.exit(f"{path}: {law} does not say what {name} is, or {proved_in} has it in no contract")
+            self.reach(path, law, (path, name))
+            return
         self.follow_text(path, name, file.items[name])
 
     def follow_text(self, path, name, item):
@@ -354,6 +379,10 @@ def page():
         "compares them). A file is listed where an item of it is reached, with the number of all its lines, and of those of the items "
         "that are. [definitions.md](definitions.md) has the order in which to read them, with all other definitions.",
         "",
+        "Lemmas that definitions cite are not listed: they are proofs of what their statements say. Nor is what a function is defined by "
+        "where a law says that it gives exactly what a relation holds of, which is then read in its place: "
+        + "; ".join(f"`{name}` by the law `{law}` (`{path}`)" for (path, name), (law, _) in DETERMINED.items()) + ".",
+        "",
         "## The contract of `capc`",
         "",
         f"It rests on {counted(capc, of_capc)}; here they stand by the layers of `crates.txt`. The clause `sound` says of every job what "
@@ -385,6 +414,14 @@ def page():
     return (capc, certify, laws), "\n".join(out) + "\n"
 
 
+def misplaced(contracts):
+    """The files that the contracts rest on and that docs/definitions.md has among those that serve the code and the proofs, or
+    that are files of laws by their names."""
+    serving = read("docs/definitions.md").partition("\n# Files that serve ")[2]
+    found = sorted({path for reading in contracts for path in reading.specs()})
+    return [path for path in found if f"(../{path})" in serving or re.search(r"(?:Laws|Examples)\.antt$", path)]
+
+
 def main():
     readings, text = page()
     if sys.argv[1:2] == ["--why"]:
@@ -398,9 +435,13 @@ def main():
     elif sys.argv[1:] == ["--write"]:
         with open(PAGE, "w", encoding="utf-8") as file:
             file.write(text)
-    elif not os.path.exists(PAGE) or read("docs/reading.md") != text:
-        print("docs/reading.md is not what `.ci/reading.py --write` writes")
-        sys.exit(1)
+    else:
+        for path in misplaced(readings[:2]):
+            print(f"{path} has to be believed, and is a file of laws or examples, or one that serves the code or the proofs")
+        is_written = os.path.exists(PAGE) and read("docs/reading.md") == text
+        if not is_written:
+            print("docs/reading.md is not what `.ci/reading.py --write` writes")
+        sys.exit(0 if is_written and not misplaced(readings[:2]) else 1)
 
 
 main()

@@ -11,7 +11,7 @@ use Rattle.cc_job.specs.declared.job.Command.{Command}
 use Rattle.cc_judge.specs.Judgements.{Judgement}
 use Rattle.cc_meta_modules.specs.ModuleLaws.{NamesOfDevicesDiffer}
 use Rattle.cc_meta_modules.specs.PresentTexts.{Texts, ArePresent}
-use Rattle.cc_mnf.specs.CoreModules.{device_names}
+use Rattle.cc_mnf.specs.ElaboratedModules.{device_names}
 use Rattle.cc_replies.proofs.OutputLaws.{outputs_exist}
 use Rattle.cc_replies.proofs.PresentAfter.{texts_stay_present}
 use Rattle.cc_replies.proofs.StaleLaws.{stale_exist}

@@ -5,7 +5,7 @@ use Rattle.std.specs.BTreeMap.{insert_entry}
 use Rattle.std.specs.Map.{remove_entry}
 use Rattle.std.specs.Str.{bytes_eq}
 use Rattle.cc_base.specs.declared.device.DeviceDecl.{DeviceDecl}
-use Rattle.cc_graph.specs.Graph.{compare_names}
+use Rattle.cc_base.specs.Names.{compare_names}
 use Rattle.cc_io.specs.declared.whole.WriteAll.{WriteAll}
 use Rattle.cc_io.specs.declared.whole.WriteAll.TheVariants as errors
 use Rattle.cc_io.specs.Wholes.{WritesWhole}
@@ -14,7 +14,7 @@ use Rattle.cc_meta_modules.proofs.PresentLaws.{present_verdicts_exist}
 use Rattle.cc_meta_modules.specs.ModuleLaws.{NamesOfDevicesDiffer}
 use Rattle.cc_meta_modules.specs.ModuleVerdicts.{ModuleVerdict}
 use Rattle.cc_meta_modules.specs.PresentTexts.{Texts, ArePresent, AreVerdicts}
-use Rattle.cc_mnf.specs.CoreModules.{device_names}
+use Rattle.cc_mnf.specs.ElaboratedModules.{device_names}
 use Rattle.cc_replies.proofs.ReplyLaws.{replies_exist}
 use Rattle.cc_replies.specs.Replies.{Replies, put_reply, texts_after}
 use Rattle.cc_policy.specs.declared.policy.Rule.{Rule}

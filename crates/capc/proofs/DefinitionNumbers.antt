@@ -8,11 +8,11 @@ use Rattle.std.proofs.lemmas.List.{append-nil, length-map, length-reverse, rever
 use Rattle.std.proofs.lemmas.Slice.Eq.{bytes_eq-Decides}
 use Rattle.cc_core.specs.Programs.{Definition, Module}
 use Rattle.cc_meta_entries.specs.PresentEntries.{CheckedModule, program_module}
-use Rattle.cc_meta_modules.specs.ModuleLaws.{in_program}
-use Rattle.cc_meta_modules.specs.ModuleVerdicts.{CheckedDefinition}
+use Rattle.cc_meta_modules.specs.ModuleVerdicts.{CheckedDefinition, in_program}
 use Rattle.cc_meta_runs.specs.Links.{count_definitions, position_among, position_in}
 use Rattle.cc_module_links.specs.Laws.{AreNumbered, modules_turned}
 use Rattle.capc.specs.Explaining.{names_in, definition_names}
+use Rattle.capc.proofs.ExplainingFacts.{first_part, second_part}
 
 same_bytes : (a b : List ℕ) → bytes_eq a b ≡ true → a ≡ b
 same_bytes a b h = (bytes_eq-Decides a b).0 h
@@ -38,11 +38,6 @@ turned_reverse front (one ∷ rest) =
 
 turned_is : (ds : List CheckedDefinition) → reverse (map in_program ds) ≡ definitions_turned [] ds
 turned_is ds = sym (append-nil (reverse (map in_program ds))) ∙ turned_reverse [] ds
-
-turned_count : (front : List Definition) (ds : List CheckedDefinition) → length (definitions_turned front ds) ≡ length front + length ds
-unfolding definitions_turned
-turned_count front [] = omega arith
-turned_count front (one ∷ rest) = let more = turned_count (in_program one ∷ front) rest in omega arith
 
 -- a definition of the name, with those before and behind it
 pub record PlacedAmong (ds : List CheckedDefinition) (name : List ℕ) (place : ℕ) : Type 0 where
@@ -305,23 +300,6 @@ get_cases (z ∷ xs) ys (suc k) x is =
       | inr (j, at, there) ↦ inr (j, omega arith, there)
     ]
 
--- the parts of a pair, if there is one
-first_of : Option (List ℕ × List ℕ) → List ℕ
-first_of (Some names) = names.0
-first_of None = []
-
-second_of : Option (List ℕ × List ℕ) → List ℕ
-second_of (Some names) = names.1
-second_of None = []
-
-second_same : (m n o p : List ℕ) → ◌≡◌ {A = Option (List ℕ × List ℕ)} (Some (m, n)) (Some (o, p)) → n ≡ p
-unfolding second_of
-second_same m n o p h = ap second_of h
-
-first_same : (m n o p : List ℕ) → ◌≡◌ {A = Option (List ℕ × List ℕ)} (Some (m, n)) (Some (o, p)) → m ≡ o
-unfolding first_of
-first_same m n o p h = ap first_of h
-
 -- the names of a definition of a module
 abbrev named_in : List ℕ → CheckedDefinition → List ℕ × List ℕ
 named_in owner one = (owner, one.name)
@@ -335,8 +313,8 @@ stands_among : (owner : List ℕ) (ds : List CheckedDefinition) (module_name nam
     → ◌≡◌ {A = Option (List ℕ × List ℕ)} (slice_get (map (named_in owner) ds) k) (Some (module_name, name)) → StandsAmong owner ds module_name name k
 stands_among owner [] module_name name k is = cc
 stands_among owner (d ∷ ds) module_name name zero is = record {
-  of_owner = first_same module_name name owner d.name (sym is);
-  among = record { before = []; one = d; after = ds; parts = refl; named = second_same module_name name owner d.name (sym is); at = refl };
+  of_owner = first_part module_name name owner d.name (sym is);
+  among = record { before = []; one = d; after = ds; parts = refl; named = second_part module_name name owner d.name (sym is); at = refl };
 }
 stands_among owner (d ∷ ds) module_name name (suc k) is =
     let it = stands_among owner ds module_name name k is in

@@ -58,12 +58,6 @@ numbered_itself numbers.Cap = refl
 some_same : {A : Type 0} (a b : A) → Some a ≡ Some b → a ≡ b
 some_same a b h = cc
 
-definition_same : (m n : ℕ) → numbers.Definition m ≡ numbers.Definition n → m ≡ n
-definition_same m n h = cc
-
-device_same : (m n : ℕ) → numbers.Device m ≡ numbers.Device n → m ≡ n
-device_same m n h = cc
-
 -- the element that a target is has a number as it has
 element_numbered : (number : List ℕ → List ℕ → ℕ) (target : Target) (e : Elem) → element_of target ≡ Some e
     → element_target e ≡ Some (numbered number target)

@@ -67,11 +67,11 @@ second_of : Option (List ℕ × List ℕ) → List ℕ
 second_of (Some names) = names.1
 second_of None = []
 
-first_part : (a b m d : List ℕ) → ◌≡◌ {A = Option (List ℕ × List ℕ)} (Some (a, b)) (Some (m, d)) → a ≡ m
+pub first_part : (a b m d : List ℕ) → ◌≡◌ {A = Option (List ℕ × List ℕ)} (Some (a, b)) (Some (m, d)) → a ≡ m
 unfolding first_of
 first_part a b m d h = ap first_of h
 
-second_part : (a b m d : List ℕ) → ◌≡◌ {A = Option (List ℕ × List ℕ)} (Some (a, b)) (Some (m, d)) → b ≡ d
+pub second_part : (a b m d : List ℕ) → ◌≡◌ {A = Option (List ℕ × List ℕ)} (Some (a, b)) (Some (m, d)) → b ≡ d
 unfolding second_of
 second_part a b m d h = ap second_of h
 

@@ -13,12 +13,10 @@ use Rattle.cc_meta_modules.specs.ModuleLaws.{NamesOfDevicesDiffer}
 use Rattle.cc_meta_modules.specs.ModuleVerdicts.{CheckedDefinition, ModuleVerdict, IsAccepted, IsRefused}
 use Rattle.cc_meta_modules.specs.PresentTexts.{Texts, ArePresent, text_of, definition_named, AreVerdicts}
 use Rattle.cc_meta_runs.specs.Interleavings.{state_of}
-use Rattle.cc_meta_runs.specs.LinkLaws.{RunsSafely}
 use Rattle.cc_meta_runs.specs.Links.{program_start}
 use Rattle.cc_meta_runs.specs.Runs.{Run, Ending, none}
-use Rattle.cc_meta_runs.specs.Soundness.{IsListed}
-use Rattle.cc_meta_runs.specs.SoundRuns.{IsAmong}
-use Rattle.cc_mnf.specs.CoreModules.{device_names}
+use Rattle.cc_meta_runs.specs.SafeRuns.{IsListed, IsAmong, RunsSafely}
+use Rattle.cc_mnf.specs.ElaboratedModules.{device_names}
 use Rattle.cc_policy.specs.declared.policy.Rule.{Rule}
 use Rattle.cc_replies.proofs.PolicyLaws.{permission_is_tested}
 use Rattle.cc_replies.specs.PolicyReplies.{Allows, are_allowed, permitted_told, guard_told, IsGuardAnswer}

@@ -15,7 +15,7 @@ use Rattle.cc_meta_entries.specs.PresentEntries.{started_in}
 use Rattle.cc_meta_modules.specs.ModuleVerdicts.{ModuleVerdict}
 use Rattle.cc_meta_modules.specs.PresentTexts.{Texts, AreVerdicts}
 use Rattle.cc_meta_modules.specs.StandingDefinitions.{Standing, standing_context, standing_names, standing_in}
-use Rattle.cc_mnf.specs.CoreModules.{device_names}
+use Rattle.cc_mnf.specs.ElaboratedModules.{device_names}
 use Rattle.cc_replies.specs.DerivationTexts.{shown_derivation}
 use Rattle.cc_replies.specs.Replies.{Replies, derivation_size, derivation_told, derivation_reply}
 use Rattle.cc_meta_entries.specs.PresentEntries.{CheckedEntry}

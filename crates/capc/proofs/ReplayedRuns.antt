@@ -30,15 +30,15 @@ use Rattle.cc_meta_limits.proofs.CertifiedModules.{literals_of_definitions_writt
 use Rattle.cc_meta_limits.proofs.JobDevices.{job_devices_named}
 use Rattle.cc_meta_limits.proofs.LineFeeds.{names_of_one_line, literals_of_one_line}
 use Rattle.cc_meta_limits.specs.ModuleCertificates.{AreNamed}
-use Rattle.cc_meta_modules.specs.ModuleLaws.{NamesOfDevicesDiffer, in_program}
-use Rattle.cc_meta_modules.specs.ModuleVerdicts.{CheckedDefinition, ModuleVerdict, IsAccepted}
+use Rattle.cc_meta_modules.specs.ModuleLaws.{NamesOfDevicesDiffer}
+use Rattle.cc_meta_modules.specs.ModuleVerdicts.{CheckedDefinition, ModuleVerdict, IsAccepted, in_program}
 use Rattle.cc_meta_modules.specs.PresentTexts.{Texts, ArePresent, graph_of, findings_for, AreVerdicts}
 use Rattle.cc_meta_runs.proofs.LinkedPrograms.{program_starts}
 use Rattle.cc_meta_runs.specs.Interleavings.{state_of}
 use Rattle.cc_meta_runs.specs.Links.{linked_cell, linked_position, device_cells, linked_store, program_start}
 use Rattle.cc_meta_runs.specs.Runs.{Ending}
 use Rattle.cc_meta_runs.specs.SoundRuns.{IsSoundState}
-use Rattle.cc_mnf.specs.CoreModules.{device_names}
+use Rattle.cc_mnf.specs.ElaboratedModules.{device_names}
 use Rattle.cc_replay.proofs.LineSteps.{acted_literals}
 use Rattle.cc_replay.proofs.SafeTraces.{agreeing_traces_are_safe, agreeing_traces_keep_the_authority}
 use Rattle.cc_replay.proofs.WrittenRuns.{written_runs_are_replayed}

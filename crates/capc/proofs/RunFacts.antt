@@ -12,7 +12,7 @@ use Rattle.cc_machine.proofs.StandingLemmas.{fits_back}
 use Rattle.cc_meta_entries.specs.PresentEntries.{program_entry}
 use Rattle.cc_meta_runs.specs.Alike.{erased_configuration}
 use Rattle.cc_meta_runs.specs.Interleavings.{Report, interleave, report_of}
-use Rattle.cc_meta_runs.specs.LinkLaws.{HaveShapes}
+use Rattle.cc_meta_runs.specs.SafeRuns.{HaveShapes}
 use Rattle.cc_meta_runs.specs.Links.{program_start}
 use Rattle.cc_meta_runs.specs.Machine.{Configuration}
 use Rattle.cc_meta_runs.specs.SoundRuns.{HasShapesOfCells}

@@ -10,7 +10,7 @@ use Rattle.std.proofs.lemmas.Bool.Decides.{nat_tests}
 use Rattle.std.proofs.lemmas.Slice.Eq.{bytes_eq-Decides}
 use Rattle.cc_base.specs.declared.code.Code.{Code}
 use Rattle.cc_base.specs.declared.code.Code.TheVariants.{E30, E31, E32, E34}
-use Rattle.cc_graph.specs.Graph.{compare_names}
+use Rattle.cc_base.specs.Names.{compare_names}
 use Rattle.cc_judge.specs.Judgements.{Judgement, verdicts_of, judgement_in, judgements}
 use Rattle.cc_meta_modules.specs.ModuleVerdicts.{CheckedDefinition, ModuleVerdict, IsAccepted, IsRefused}
 use Rattle.cc_meta_modules.specs.PresentTexts.{Texts, text_of}

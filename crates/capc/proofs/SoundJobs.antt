@@ -12,7 +12,7 @@ use Rattle.cc_meta_modules.specs.ModuleLaws.{NamesOfDevicesDiffer}
 use Rattle.cc_meta_modules.specs.ModuleVerdicts.{CheckedDefinition, ModuleVerdict}
 use Rattle.cc_meta_modules.specs.PresentTexts.{Texts, ArePresent, AreVerdicts}
 use Rattle.cc_meta_runs.specs.Interleavings.{Report, state_of}
-use Rattle.cc_meta_runs.specs.LinkLaws.{RunsSafely}
+use Rattle.cc_meta_runs.specs.SafeRuns.{RunsSafely}
 use Rattle.cc_meta_runs.specs.Runs.{Ending}
 use Rattle.cc_replies.specs.Outputs.{after_all}
 use Rattle.cc_replies.specs.Replies.{after}

@@ -4,7 +4,7 @@ use Rattle.cc_base.specs.declared.device.DeviceDecl.{DeviceDecl}
 use Rattle.cc_io.specs.declared.whole.WriteAll.{WriteAll}
 use Rattle.cc_io.specs.Wholes.{WritesWhole}
 use Rattle.cc_judge.specs.Judgements.{Judgement}
-use Rattle.cc_mnf.specs.CoreModules.{device_names}
+use Rattle.cc_mnf.specs.ElaboratedModules.{device_names}
 use Rattle.cc_replies.specs.Outputs.{IsOutput}
 use Rattle.cc_replies.specs.Replies.{Replies, texts_after}
 use Rattle.cc_policy.specs.declared.policy.Rule.{Rule}

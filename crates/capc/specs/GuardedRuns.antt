@@ -15,8 +15,8 @@ use Rattle.cc_meta_modules.specs.PresentTexts.{ArePresent}
 use Rattle.cc_meta_runs.specs.Interleavings.{state_of}
 use Rattle.cc_meta_runs.specs.Links.{program_start}
 use Rattle.cc_meta_runs.specs.Runs.{State, Ending, Leads}
-use Rattle.cc_meta_runs.specs.SoundRuns.{IsAmong}
-use Rattle.cc_mnf.specs.CoreModules.{device_names}
+use Rattle.cc_meta_runs.specs.SafeRuns.{IsAmong}
+use Rattle.cc_mnf.specs.ElaboratedModules.{device_names}
 use Rattle.cc_policy.specs.declared.policy.Rule.{Rule}
 use Rattle.cc_replies.specs.PolicyReplies.{Allows, IsPermitted}
 use Rattle.cc_replies.specs.Replies.{Replies}

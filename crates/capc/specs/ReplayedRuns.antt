@@ -13,9 +13,8 @@ use Rattle.cc_meta_modules.specs.PresentTexts.{Texts, ArePresent}
 use Rattle.cc_meta_runs.specs.Links.{program_start}
 use Rattle.cc_meta_runs.specs.Machine.{Configuration, step, Stuck}
 use Rattle.cc_meta_runs.specs.Runs.{Ending, IsStopped}
-use Rattle.cc_meta_runs.specs.Soundness.{IsListed}
-use Rattle.cc_meta_runs.specs.SoundRuns.{IsAmong}
-use Rattle.cc_mnf.specs.CoreModules.{device_names}
+use Rattle.cc_meta_runs.specs.SafeRuns.{IsListed, IsAmong}
+use Rattle.cc_mnf.specs.ElaboratedModules.{device_names}
 use Rattle.cc_replay.specs.AnsweredRuns.{GoesOnTo, AnsweredRun, ending_after, trace_lines, trace_of}
 use Rattle.cc_replay.specs.ReplayLaws.{written_lines}
 use Rattle.cc_replay.specs.declared.replaying.Replayed.TheVariants.{Agrees}

@@ -13,10 +13,10 @@ use Rattle.cc_meta_files.specs.PresentFiles.{IsPresentEntry, AreSoundFiles}
 use Rattle.cc_meta_modules.specs.ModuleLaws.{NamesOfDevicesDiffer}
 use Rattle.cc_meta_modules.specs.PresentTexts.{Texts, ArePresent}
 use Rattle.cc_meta_runs.specs.Interleavings.{Report, state_of, interleaved_run}
-use Rattle.cc_meta_runs.specs.LinkLaws.{RunsSafely}
+use Rattle.cc_meta_runs.specs.SafeRuns.{RunsSafely}
 use Rattle.cc_meta_runs.specs.Links.{program_start}
 use Rattle.cc_meta_runs.specs.Runs.{Run, Ending, run}
-use Rattle.cc_meta_runs.specs.TaskLaws.{RunsInterleaved}
+use Rattle.cc_meta_runs.specs.SafeTasks.{RunsInterleaved}
 use Rattle.cc_replies.specs.Outputs.{after_all}
 use Rattle.cc_replies.specs.Replies.{Replies}
 use Rattle.cc_replies.specs.ReplyTexts.{Ran, TasksRan}

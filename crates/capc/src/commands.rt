@@ -5,7 +5,7 @@ ghost use Rattle.cc_base.specs.declared.device.DeviceDecl.{DeviceDecl};
 ghost use Rattle.cc_io.specs.Wholes.{WriteAllCause};
 ghost use Rattle.cc_meta_modules.specs.ModuleLaws.{NamesOfDevicesDiffer};
 ghost use Rattle.cc_meta_modules.specs.PresentTexts.{ArePresent};
-ghost use Rattle.cc_mnf.specs.CoreModules.{device_names};
+ghost use Rattle.cc_mnf.specs.ElaboratedModules.{device_names};
 ghost use Rattle.cc_replies.specs.Replies.{rules_after};
 ghost use Rattle.cc_replies.specs.Requests.{JobState, PutText, DropModule, SetPolicy, VerifyText, Ask, holding, holding_under, no_module};
 ghost use Rattle.capc.specs.Carried.{IsReplied, Changes, Judges, AreAnswered};

@@ -1,7 +1,10 @@
 -- Names, as lists of code points.
-use Rattle.std.specs.Prelude.{ℕ, Bool, false, ◌&&◌, not, List, [], ◌∷◌, codes, IsTrue}
+use Rattle.std.specs.Prelude.{ℕ, Bool, false, ◌&&◌, not, List, [], ◌∷◌, codes, IsTrue, encode_utf8_all}
 use Rattle.std.specs.Str.{bytes_eq}
 use Rattle.std.specs.List.{list_all, list_any}
+use Rattle.std.specs.Cmp.Lexicographic.{slice_cmp}
+use Rattle.std.specs.Ordering.{is_lt, nat_cmp, on}
+use Rattle.std.specs.declared.cmp.Ordering.{Ordering}
 use Rattle.unicode_ident.specs.Ident.{is_xid_start, is_xid_continue}
 
 -- there is a first code point, and it passes the test
@@ -31,3 +34,11 @@ spells_name cs = first_passes is_xid_start cs && list_all is_xid_continue cs && 
 
 abbrev pub IsName : List ℕ → Type 0
 IsName cs = IsTrue (spells_name cs)
+
+-- the order of names as texts
+abbrev pub compare_names : List ℕ → List ℕ → Ordering
+compare_names = on encode_utf8_all (slice_cmp nat_cmp)
+
+-- whether a name comes before another in the order of texts
+abbrev pub is_name_before : List ℕ → List ℕ → Bool
+is_name_before left right = is_lt (compare_names left right)

@@ -77,14 +77,6 @@ has_bit-cleared b k i within place =
     kept true = refl
     kept false = refl
 
-bit_or_not : (n i : ℕ) → has_bit n i ≡ false → bit_at n i ≡ 0
-bit_or_not n i h = small _ (bit_at-lt n i) h
-  where
-    small : (x : ℕ) → x < 2 → eqb x 1 ≡ false → x ≡ 0
-    small zero l e = refl
-    small (suc zero) l e = absurd (both_ways true e refl)
-    small (suc (suc x)) l e = absurd (omega arith)
-
 -- words with the same bits are one
 pub same_bits : (a b : ℕ) → a < 2 ^ 64 → b < 2 ^ 64 → ((i : ℕ) → i < 64 → has_bit a i ≡ has_bit b i) → a ≡ b
 same_bits a b p q same =

@@ -13,11 +13,6 @@ use Rattle.cc_capture.specs.Sets.{Set, same_list, Member, contains, empty, inser
 use Rattle.cc_capture.specs.Sets.{image, flat_image, is_subset}
 use Rattle.cc_capture.proofs.RisingLists.{rising_same, is_listed-placed}
 
-same_as : (a b : Bool) → (a ≡ true → b ≡ true) → (b ≡ true → a ≡ true) → a ≡ b
-same_as true b f g = sym (f refl)
-same_as false true f g = g refl
-same_as false false f g = refl
-
 true_same : {a b : Bool} → a ≡ b → a ≡ true → b ≡ true
 true_same e h = sym e ∙ h
 
@@ -33,7 +28,7 @@ same_contains a b same = same_members a b (λ e h. true_same (same e) h) (λ e h
 is_listed-first : (e x : Elem) (xs : List Elem) → e ≡ x → is_listed e (x ∷ xs) ≡ true
 is_listed-first e x xs same = or_left _ _ (ap (same_element e) (sym same) ∙ same_element-itself e)
 
-is_listed-cases : (e x : Elem) (xs : List Elem) → is_listed e (x ∷ xs) ≡ true → (e ≡ x) ⊎ (is_listed e xs ≡ true)
+pub is_listed-cases : (e x : Elem) (xs : List Elem) → is_listed e (x ∷ xs) ≡ true → (e ≡ x) ⊎ (is_listed e xs ≡ true)
 is_listed-cases e x xs here =
     elim (or_cases _ _ here) [ inl same ↦ inl (same_element-true e x same) | inr there ↦ inr there ]
 
@@ -113,7 +108,7 @@ is_listed-flat_map g e x (y ∷ ys) here made =
       | inr there ↦ or_right _ _ (is_listed-flat_map g e x ys there made)
     ])
 
-list_all-is_listed : (test : Elem → Bool) (xs : List Elem) → list_all test xs ≡ true → (e : Elem)
+pub list_all-is_listed : (test : Elem → Bool) (xs : List Elem) → list_all test xs ≡ true → (e : Elem)
     → is_listed e xs ≡ true → test e ≡ true
 list_all-is_listed test [] all e here = absurd (both_ways false refl here)
 list_all-is_listed test (x ∷ xs) all e here =
@@ -123,7 +118,7 @@ list_all-is_listed test (x ∷ xs) all e here =
       | inr there ↦ list_all-is_listed test xs parts.1 e there
     ]
 
-list_all-from_is_listed : (test : Elem → Bool) (xs : List Elem) → ((e : Elem) → is_listed e xs ≡ true → test e ≡ true)
+pub list_all-from_is_listed : (test : Elem → Bool) (xs : List Elem) → ((e : Elem) → is_listed e xs ≡ true → test e ≡ true)
     → list_all test xs ≡ true
 list_all-from_is_listed test [] each = refl
 list_all-from_is_listed test (x ∷ xs) each =

@@ -1,9 +1,8 @@
 -- How unions and inclusion behave.
 use Rattle.std.proofs.Common.{◌≡◌, Bool, true, false, ◌||◌, inl, inr, refl, ◌∙◌}
 use Rattle.cc_capture.specs.declared.var.Elem.{Elem}
-use Rattle.cc_capture.specs.Sets.{Set, contains, empty, insert, union, is_subset}
-use Rattle.cc_capture.proofs.Membership.{same_members, same_contains, contains-empty, contains-insert, contains-union}
-use Rattle.cc_capture.proofs.Membership.{Member-union, is_subset-Member}
+use Rattle.cc_capture.specs.Sets.{Set, contains, empty, insert, union}
+use Rattle.cc_capture.proofs.Membership.{same_contains, contains-empty, contains-insert, contains-union}
 
 or_associative : (a b c : Bool) → ((a || b) || c) ≡ (a || (b || c))
 or_associative true b c = refl
@@ -52,20 +51,3 @@ union-insert x a b =
           (union a b),
       contains-union e a b,
     ) (or_associative _ (contains e a) (contains e b)))
-
--- inclusion
-pub is_subset-itself : (a : Set) → is_subset a a ≡ true
-is_subset-itself a = (is_subset-Member a a).1 (λ e h. h)
-
-pub is_subset_transitive : (a b c : Set) → is_subset a b ≡ true → is_subset b c ≡ true → is_subset a c ≡ true
-is_subset_transitive a b c p q =
-    (is_subset-Member a c).1 (λ e h. (is_subset-Member b c).0 q e ((is_subset-Member a b).0 p e h))
-
-pub is_subset_antisymmetric : (a b : Set) → is_subset a b ≡ true → is_subset b a ≡ true → a ≡ b
-is_subset_antisymmetric a b p q = same_members a b ((is_subset-Member a b).0 p) ((is_subset-Member b a).0 q)
-
-pub is_subset-union_left : (a b : Set) → is_subset a (union a b) ≡ true
-is_subset-union_left a b = (is_subset-Member a (union a b)).1 (λ e h. (Member-union e a b).1 (inl h))
-
-pub is_subset-union_right : (a b : Set) → is_subset b (union a b) ≡ true
-is_subset-union_right a b = (is_subset-Member b (union a b)).1 (λ e h. (Member-union e a b).1 (inr h))

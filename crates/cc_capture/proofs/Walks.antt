@@ -2,16 +2,14 @@
 use Rattle.std.proofs.Common.{◌≡◌, zero, suc, ◌<◌, ◌||◌, ◌≤◌, ℕ, ◌+◌, Bool, true, false, Some, List, [], ◌∷◌, ◌++◌}
 use Rattle.std.proofs.Common.{length, take, refl, ap, ◌∙◌, arith}
 use Rattle.std.specs.List.{slice_get}
-use Rattle.std.proofs.lemmas.List.{take_more, take_all}
 use Rattle.std.proofs.lemmas.List.Folds.{list_any-append}
 use Rattle.std.proofs.lemmas.Option.{slice_get_within, get_or_from_slice_get}
 use Rattle.cc_capture.specs.declared.var.Elem.{Elem}
 use Rattle.cc_capture.specs.Elements.{same_element}
 use Rattle.cc_capture.specs.Rising.{is_listed}
-use Rattle.cc_capture.specs.Sets.{Set, Member, empty, insert, from_list, first_members, union, image, flat_image}
+use Rattle.cc_capture.specs.Sets.{Set, Member, insert, from_list, union, flat_image}
 use Rattle.cc_capture.proofs.Membership.{same_contains, contains-from_list, contains-insert, Member-list}
-use Rattle.cc_capture.proofs.SetLists.{from_list-list}
-use Rattle.cc_capture.proofs.Images.{image-insert, flat_image-insert}
+use Rattle.cc_capture.proofs.Images.{flat_image-insert}
 
 last_first : (a b : Bool) → (a || (b || false)) ≡ (b || a)
 last_first true true = refl
@@ -31,23 +29,6 @@ from_list-push xs x =
     )
     (last_first (is_listed e xs) (same_element e x)))
 
-pub first_members-none : (s : Set) → first_members 0 s ≡ empty
-unfolding first_members from_list
-first_members-none s = refl
-
-pub first_members-more : (s : Set) (i : ℕ) (x : Elem) → slice_get s.list i ≡ Some x
-    → first_members (i + 1) s ≡ insert x (first_members i s)
-unfolding first_members
-first_members-more s i x e =
-    let within = slice_get_within s.list i x e in
-    ap from_list (take_more s.list i x within
-    ∙ ap (λ y. take i s.list ++ y ∷ []) (get_or_from_slice_get s.list i x x e))
-    ∙ from_list-push (take i s.list) x
-
-pub first_members-all : (s : Set) (i : ℕ) → length s.list ≤ i → first_members i s ≡ s
-unfolding first_members
-first_members-all s i h = ap from_list (take_all i s.list h) ∙ from_list-list s
-
 -- there is an element at each index within the list
 pub Some-within : (xs : List Elem) (i : ℕ) → i < length xs → (x : Elem) × (slice_get xs i ≡ Some x)
 Some-within [] i h = absurd (omega arith)
@@ -59,15 +40,6 @@ pub Member-at : (s : Set) (i : ℕ) (x : Elem) → slice_get s.list i ≡ Some x
 Member-at s i x e =
     let within = slice_get_within s.list i x e in
     (Member-list x s).1 (i, within, get_or_from_slice_get s.list i x x e)
-
-pub image-first_members-more : (f : Elem → Elem) (s : Set) (i : ℕ) (x : Elem) → slice_get s.list i ≡ Some x
-    → image f (first_members (i + 1) s) ≡ insert (f x) (image f (first_members i s))
-image-first_members-more f s i x e = ap (image f) (first_members-more s i x e) ∙ image-insert f x (first_members i s)
-
-pub flat_image-first_members-more : (f : Elem → Set) (s : Set) (i : ℕ) (x : Elem) → slice_get s.list i ≡ Some x
-    → flat_image f (first_members (i + 1) s) ≡ union (f x) (flat_image f (first_members i s))
-flat_image-first_members-more f s i x e =
-    ap (flat_image f) (first_members-more s i x e) ∙ flat_image-insert f x (first_members i s)
 
 -- what a function makes of the elements that were gone over, and of the next one
 pub flat_image-push : (f : Elem → Set) (xs : List Elem) (x : Elem)

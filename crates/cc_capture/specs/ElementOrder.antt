@@ -5,7 +5,7 @@ use Rattle.std.specs.declared.cmp.Ordering.{Ordering}
 use Rattle.std.specs.declared.cmp.Ordering.TheVariants.{Less, Equal, Greater}
 use Rattle.std.specs.Cmp.{IsTotalOrder}
 use Rattle.std.specs.Ordering.{nat_cmp, is_eq, MatchOrdering, ordering_then, ordering_reverse}
-use Rattle.std.proofs.lemmas.Cmp.{nat_cmp_total, on_total, then_total, back_total, ranked, tied_itself, eq_by_cmp_equiv}
+use Rattle.std.proofs.lemmas.Cmp.{nat_cmp_total, on_total, then_total, back_total, ranked, tied_itself}
 use Rattle.cc_capture.specs.declared.var.Var.TheVariants.{Bound, Free}
 use Rattle.cc_capture.specs.declared.var.Elem.{Elem}
 use Rattle.cc_capture.specs.declared.var.Elem.TheVariants.{Var as Variable, Cap, Hole}
@@ -73,16 +73,8 @@ pub same_element-below : (a b : Elem) → element_order a b ≡ Less → same_el
 unfolding same_element
 same_element-below a b e = ap is_eq e
 
-pub same_element-above : (a b : Elem) → element_order a b ≡ Greater → same_element a b ≡ false
-unfolding same_element
-same_element-above a b e = ap is_eq e
-
 pub element_order-back : (a b : Elem) → element_order a b ≡ Greater → element_order b a ≡ Less
 element_order-back a b e = element_order-total.antisymm b a ∙ ap ordering_reverse e
-
-pub same_element_sym : (a b : Elem) → same_element a b ≡ same_element b a
-unfolding same_element
-same_element_sym a b = (eq_by_cmp_equiv element_order-total).symm a b
 
 pub element_order-is_Equal : (a b : Elem) → (element_order a b ≡ Equal) ↔ (a ≡ b)
 element_order-is_Equal a b = (element_order-Equal a b, λ e. ap (element_order a) (sym e) ∙ element_order-itself a)

@@ -1,5 +1,5 @@
 -- Capture sets, as values: finite sets of elements, with the operations on them.
-use Rattle.std.specs.Prelude.{◌≡◌, ℕ, take, Bool, true, not, List, [], ◌∷◌, ◌++◌, map}
+use Rattle.std.specs.Prelude.{◌≡◌, Bool, true, not, List, [], ◌∷◌, ◌++◌, map}
 use Rattle.std.specs.Coded.{Coded, coded_list}
 use Rattle.std.specs.List.{list_all, filter, flat_map}
 use Rattle.std.specs.Cmp.{IsEquivalence}
@@ -48,10 +48,6 @@ insert x s = record { list = placed x s.list; rising = IsRising-placed x s.list 
 unfoldable pub from_list : List Elem → Set
 from_list [] = empty
 from_list (x ∷ xs) = insert x (from_list xs)
-
--- the first members in the order of elements, so many
-unfoldable pub first_members : ℕ → Set → Set
-first_members n s = from_list (take n s.list)
 
 -- the members that pass a test
 unfoldable pub retain : (Elem → Bool) → Set → Set

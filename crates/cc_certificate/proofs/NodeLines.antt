@@ -1,126 +1,22 @@
 -- The line of a node tells its number, its rule, its premises and its claim.
-use Rattle.std.proofs.Common.{◌≡◌, ℕ, ◌<◌, ◌^◌, false, ◌==◌, List, [], ◌∷◌, ◌++◌, length, get_or, decimal, refl, sym, ap, subst, ◌∙◌, arith, append_assoc, codes, bytes_eq, if◌then◌else◌}
+use Rattle.std.proofs.Common.{◌≡◌, ℕ, ◌<◌, ◌^◌, List, [], ◌∷◌, ◌++◌, length, get_or, decimal, refl, sym, ap, subst, ◌∙◌, arith, append_assoc, codes}
 use Rattle.std.specs.List.{AllByRecursion}
 use Rattle.std.proofs.lemmas.Fmt.{decimal_injective}
 use Rattle.cc_core.specs.Derivations.{Rule, ByElement, ByVariable, BySet, ByReflexivity, ByTransitivity, ByTypeVariable, ByTop, ByFunction, ByTypeFunction, ByBox, ByCapturing, t-var, t-lit, t-abs, t-tabs, t-app, t-tapp, t-box, t-unbox, t-let, t-prim, t-if, t-repeat, t-op, t-boundary, t-exit, t-sub, Claim, SetBelow, ShapeBelow, TypeBelow, OfType}
-use Rattle.cc_print.proofs.Words.{EndsWord, first_same, rest_same, same_words, word_decimal, clash}
+use Rattle.cc_print.proofs.Words.{EndsWord, first_same, rest_same, same_words, word_decimal}
 use Rattle.cc_print.proofs.ElementTexts.{ends_differ}
-use Rattle.cc_certificate.specs.Certificates.{rule_text, claim_text, other_numbers, numbers_text}
+use Rattle.cc_certificate_text.specs.LineReading.{rule_at}
+use Rattle.cc_certificate_text.specs.NodeTexts.{rule_text, claim_text, other_numbers, numbers_text}
+use Rattle.cc_certificate_text.proofs.NodeReading.{rule_at-text}
+use Rattle.cc_certificate_text.proofs.Readers.{got_parts}
 use Rattle.cc_certificate.specs.Laws.{IsClaimOf, AreOfOneKind, LinesTellTheirNodes}
 use Rattle.cc_certificate.proofs.ClaimTextLaws.{different_claims}
 use Rattle.cc_certificate.proofs.TermWords.{begins_digit}
 
--- the rule of the name
-rule_of : List ℕ → Rule
-rule_of text =
-    if bytes_eq text (codes "elem") then ByElement
-    else (if bytes_eq text (codes "var") then ByVariable
-    else (if bytes_eq text (codes "set") then BySet
-    else (if bytes_eq text (codes "refl") then ByReflexivity
-    else (if bytes_eq text (codes "tran") then ByTransitivity
-    else (if bytes_eq text (codes "tvar") then ByTypeVariable
-    else (if bytes_eq text (codes "top") then ByTop
-    else (if bytes_eq text (codes "fun") then ByFunction
-    else (if bytes_eq text (codes "tfun") then ByTypeFunction
-    else (if bytes_eq text (codes "boxed") then ByBox
-    else (if bytes_eq text (codes "capt") then ByCapturing
-    else (if bytes_eq text (codes "t-var") then t-var
-    else (if bytes_eq text (codes "t-lit") then t-lit
-    else (if bytes_eq text (codes "t-abs") then t-abs
-    else (if bytes_eq text (codes "t-tabs") then t-tabs
-    else (if bytes_eq text (codes "t-app") then t-app
-    else (if bytes_eq text (codes "t-tapp") then t-tapp
-    else (if bytes_eq text (codes "t-box") then t-box
-    else (if bytes_eq text (codes "t-unbox") then t-unbox
-    else (if bytes_eq text (codes "t-let") then t-let
-    else (if bytes_eq text (codes "t-prim") then t-prim
-    else (if bytes_eq text (codes "t-if") then t-if
-    else (if bytes_eq text (codes "t-repeat") then t-repeat
-    else (if bytes_eq text (codes "t-op") then t-op
-    else (if bytes_eq text (codes "t-boundary") then t-boundary
-    else (if bytes_eq text (codes "t-exit") then t-exit else t-sub)))))))))))))))))))))))))
-
-rule_of-text : (rule : Rule) → rule_of (rule_text rule) ≡ rule
-unfolding rule_of
-rule_of-text ByElement = refl
-rule_of-text ByVariable = refl
-rule_of-text BySet = refl
-rule_of-text ByReflexivity = refl
-rule_of-text ByTransitivity = refl
-rule_of-text ByTypeVariable = refl
-rule_of-text ByTop = refl
-rule_of-text ByFunction = refl
-rule_of-text ByTypeFunction = refl
-rule_of-text ByBox = refl
-rule_of-text ByCapturing = refl
-rule_of-text t-var = refl
-rule_of-text t-lit = refl
-rule_of-text t-abs = refl
-rule_of-text t-tabs = refl
-rule_of-text t-app = refl
-rule_of-text t-tapp = refl
-rule_of-text t-box = refl
-rule_of-text t-unbox = refl
-rule_of-text t-let = refl
-rule_of-text t-prim = refl
-rule_of-text t-if = refl
-rule_of-text t-repeat = refl
-rule_of-text t-op = refl
-rule_of-text t-boundary = refl
-rule_of-text t-exit = refl
-rule_of-text t-sub = refl
-
--- no byte of the text is a space
-abbrev HasNoSpace : List ℕ → Type 0
-HasNoSpace bs = AllByRecursion (λ b. (b == 32) ≡ false) bs
-
-no_space : (rule : Rule) → HasNoSpace (rule_text rule)
-no_space ByElement = (refl, (refl, (refl, (refl, tt))))
-no_space ByVariable = (refl, (refl, (refl, tt)))
-no_space BySet = (refl, (refl, (refl, tt)))
-no_space ByReflexivity = (refl, (refl, (refl, (refl, tt))))
-no_space ByTransitivity = (refl, (refl, (refl, (refl, tt))))
-no_space ByTypeVariable = (refl, (refl, (refl, (refl, tt))))
-no_space ByTop = (refl, (refl, (refl, tt)))
-no_space ByFunction = (refl, (refl, (refl, tt)))
-no_space ByTypeFunction = (refl, (refl, (refl, (refl, tt))))
-no_space ByBox = (refl, (refl, (refl, (refl, (refl, tt)))))
-no_space ByCapturing = (refl, (refl, (refl, (refl, tt))))
-no_space t-var = (refl, (refl, (refl, (refl, (refl, tt)))))
-no_space t-lit = (refl, (refl, (refl, (refl, (refl, tt)))))
-no_space t-abs = (refl, (refl, (refl, (refl, (refl, tt)))))
-no_space t-tabs = (refl, (refl, (refl, (refl, (refl, (refl, tt))))))
-no_space t-app = (refl, (refl, (refl, (refl, (refl, tt)))))
-no_space t-tapp = (refl, (refl, (refl, (refl, (refl, (refl, tt))))))
-no_space t-box = (refl, (refl, (refl, (refl, (refl, tt)))))
-no_space t-unbox = (refl, (refl, (refl, (refl, (refl, (refl, (refl, tt)))))))
-no_space t-let = (refl, (refl, (refl, (refl, (refl, tt)))))
-no_space t-prim = (refl, (refl, (refl, (refl, (refl, (refl, tt))))))
-no_space t-if = (refl, (refl, (refl, (refl, tt))))
-no_space t-repeat = (refl, (refl, (refl, (refl, (refl, (refl, (refl, (refl, tt))))))))
-no_space t-op = (refl, (refl, (refl, (refl, tt))))
-no_space t-boundary = (refl, (refl, (refl, (refl, (refl, (refl, (refl, (refl, (refl, (refl, tt))))))))))
-no_space t-exit = (refl, (refl, (refl, (refl, (refl, (refl, tt))))))
-no_space t-sub = (refl, (refl, (refl, (refl, (refl, tt)))))
-
-space_test : (b : ℕ) → (b == 32) ≡ false → b ≡ 32 → ⊥
-space_test b other same = clash (b == 32) (ap (λ c. c == 32) same) other
-
--- texts without a space are the same where they are up to a space
-up_to_space : (xs ys r s : List ℕ) → HasNoSpace xs → HasNoSpace ys → xs ++ 32 ∷ r ≡ ys ++ 32 ∷ s → (xs ≡ ys) × (r ≡ s)
-up_to_space [] [] r s p q e = (refl, rest_same 32 32 r s e)
-up_to_space [] (y ∷ ys) r s p q e = absurd (space_test y q.0 (sym (first_same 32 y r (ys ++ 32 ∷ s) e)))
-up_to_space (x ∷ xs) [] r s p q e = absurd (space_test x p.0 (first_same x 32 (xs ++ 32 ∷ r) s e))
-up_to_space (x ∷ xs) (y ∷ ys) r s p q e =
-    let first = first_same x y (xs ++ 32 ∷ r) (ys ++ 32 ∷ s) e in
-    let rest = up_to_space xs ys r s p.1 q.1 (rest_same x y (xs ++ 32 ∷ r) (ys ++ 32 ∷ s) e) in
-    ((λ i. first i ∷ rest.0 i), rest.1)
-
 rules_same : (rule rule' : Rule) (r s : List ℕ) → rule_text rule ++ 32 ∷ r ≡ rule_text rule' ++ 32 ∷ s
     → (rule ≡ rule') × (r ≡ s)
 rules_same rule rule' r s e =
-    let parts = up_to_space (rule_text rule) (rule_text rule') r s (no_space rule) (no_space rule') e in
-    (sym (rule_of-text rule) ∙ ap rule_of parts.0 ∙ rule_of-text rule', parts.1)
+    got_parts rule rule' r s (sym (rule_at-text rule r) ∙ ap rule_at e ∙ rule_at-text rule' s)
 
 -- a number before what is no digit
 after_number : (m n : ℕ) (r s : List ℕ) → m < 2 ^ 64 → n < 2 ^ 64 → EndsWord r → EndsWord s

@@ -23,7 +23,8 @@ use Rattle.cc_core.specs.Terms.{Note, Absent, Written, Own, Term, VariableTerm, 
 use Rattle.cc_derivation.specs.Numbers.{own_number, premise_numbers}
 use Rattle.cc_print.specs.TypeTexts.{numbered, position_text, variable_text, element_text, others_text, elements_text, set_under, base_text, is_arrow, before_set, with_elements, shape_under, type_under}
 use Rattle.cc_print.proofs.Words.{both}
-use Rattle.cc_certificate.specs.Certificates.{rule_text, claim_text, other_numbers, numbers_text, node_line, binds_first, binds_others, with_binder, node_lines, premise_lines, bind_line, bind_lines, certificate_lines}
+use Rattle.cc_certificate.specs.Certificates.{binds_first, binds_others, with_binder, node_lines, premise_lines, bind_line, bind_lines, certificate_lines}
+use Rattle.cc_certificate_text.specs.NodeTexts.{rule_text, claim_text, other_numbers, numbers_text, node_line}
 use Rattle.cc_certificate.specs.Laws.{IsOneLine, HasLiteralsOfOneLine, LinesHaveNoLineFeed}
 use Rattle.cc_print.specs.TermTexts.{truth_text, quoted, literal_text, operator_text, operation_text, named, argument_under, opening_under, note_under, behind_name, term_under}
 
@@ -49,13 +50,13 @@ six a b c d e f h k l m n o = joined (a ++ b ++ c ++ d ++ e) f (five a b c d e h
 apart : (b : ℕ) → not (b == 10) ≡ true → b ≢ 10
 apart b h e = true≢false (sym (subst (λ x. not (x == 10) ≡ true) e h))
 
-by_test : (text : List ℕ) → list_all (λ b. not (b == 10)) text ≡ true → IsOneLine text
+pub by_test : (text : List ℕ) → list_all (λ b. not (b == 10)) text ≡ true → IsOneLine text
 by_test [] h = tt
 by_test (b ∷ text) h =
     let each = both (not (b == 10)) (list_all (λ c. not (c == 10)) text) h in
     (apart b each.0, by_test text each.1)
 
-one_if : (b : Bool) (x y : List ℕ) → IsOneLine x → IsOneLine y → IsOneLine (if b then x else y)
+pub one_if : (b : Bool) (x y : List ℕ) → IsOneLine x → IsOneLine y → IsOneLine (if b then x else y)
 one_if true x y h k = h
 one_if false x y h k = k
 
@@ -78,11 +79,11 @@ digits_one (suc k) base upper n rest h =
     (glyph_apart upper (n % base), h)
     (digits_one k base upper (n / base) (digit_glyph upper (n % base) ∷ rest) (glyph_apart upper (n % base), h))
 
-decimal_one : (n : ℕ) → IsOneLine (decimal n)
+pub decimal_one : (n : ℕ) → IsOneLine (decimal n)
 unfolding digits
 decimal_one n = digits_one 64 10 false n [] tt
 
-signed_one : (n : ℤ) → IsOneLine (signed_decimal n)
+pub signed_one : (n : ℤ) → IsOneLine (signed_decimal n)
 signed_one (pos n) = decimal_one n
 signed_one (negsuc n) = joined (45 ∷ []) (decimal (suc n)) (by_test (45 ∷ []) refl) (decimal_one (suc n))
 
@@ -100,11 +101,11 @@ numbers_text_one [] = tt
 numbers_text_one (n ∷ numbers) = joined (decimal n) (other_numbers numbers) (decimal_one n) (numbers_one numbers)
 
 -- ---- literals and operators
-truth_one : (b : Bool) → IsOneLine (truth_text b)
+pub truth_one : (b : Bool) → IsOneLine (truth_text b)
 truth_one true = by_test (codes "true") refl
 truth_one false = by_test (codes "false") refl
 
-quoted_one : (text : List ℕ) → IsOneLine (encode_utf8_all text) → IsOneLine (quoted text)
+pub quoted_one : (text : List ℕ) → IsOneLine (encode_utf8_all text) → IsOneLine (quoted text)
 quoted_one text h =
     joined (34 ∷ []) (encode_utf8_all text ++ 34 ∷ []) (by_test (34 ∷ []) refl)
     (joined (encode_utf8_all text) (34 ∷ []) h (by_test (34 ∷ []) refl))

@@ -2,7 +2,7 @@
 use Rattle.std.specs.Prelude.{ℕ, List}
 use Rattle.cc_core.specs.Contexts.{Context}
 use Rattle.cc_sets.specs.Verdicts.{Accepted}
-use Rattle.cc_meta_checking.specs.CanonicalLaws.{accepted_derived}
+use Rattle.cc_meta_checking.specs.AcceptedDefinitions.{accepted_derived}
 use Rattle.cc_certificate.specs.Certificates.{certificate_lines, certificate_text}
 
 -- its lines, where the positions of the context of the right side have these names

@@ -15,7 +15,8 @@ use Rattle.cc_core.specs.Substitution.{single}
 use Rattle.cc_core.specs.Terms.{Absent, Written, Term, VariableTerm, LiteralTerm, FunctionTerm, Let, Operation}
 use Rattle.cc_sets.specs.CanonicalDerivations.{canonical_shapes, shape_derived, form_derived, definition_derived}
 use Rattle.cc_sets.specs.Examples.{number, nothing, printing, first, parameter, with_console}
-use Rattle.cc_certificate.specs.Certificates.{claim_text, node_lines, bind_line, certificate_text, lines_text}
+use Rattle.cc_certificate.specs.Certificates.{node_lines, bind_line, certificate_text, lines_text}
+use Rattle.cc_certificate_text.specs.NodeTexts.{claim_text}
 use lib.Utf8.{encode}
 
 -- fun (x: Unit) => x, and its type

@@ -21,7 +21,8 @@ use Rattle.cc_core.specs.Terms.{Note, Absent, Written, Own, Term, VariableTerm, 
 use Rattle.cc_core.specs.Terms.{TypeFunctionTerm, BoxTerm, Application, TypeApplication, Unboxing, Let, Primitive}
 use Rattle.cc_core.specs.Terms.{Conditional, Repetition, Operation, Boundary, Leave}
 use Rattle.cc_meta_validity.specs.Rows.{Place, Nowhere, TypeOf, SetsBelow, ShapesBelow, TypesBelow, Row, row_at}
-use Rattle.cc_certificate.specs.Certificates.{binds_first, binds_others, with_binder, claim_text, node_line}
+use Rattle.cc_certificate.specs.Certificates.{binds_first, binds_others, with_binder}
+use Rattle.cc_certificate_text.specs.NodeTexts.{claim_text, node_line}
 use Rattle.cc_certificate.specs.Certificates.{certificate_lines}
 use Rattle.cc_print.specs.TermTexts.{term_text}
 use lib.Signed.{mag}

@@ -4,7 +4,8 @@ use Rattle.cc_core.specs.Derivations.{Rule, Claim, Derivation, Premises, Node, N
 use Rattle.cc_sets.specs.DerivationSizes.{nodes_of}
 use Rattle.cc_derivation.specs.Numbers.{own_number, premise_numbers}
 use Rattle.cc_derivation.specs.Views.{rule_of, claim_of, premises_of, der_of}
-use Rattle.cc_certificate.specs.Certificates.{node_lines, premise_lines, node_line, lines_behind}
+use Rattle.cc_certificate.specs.Certificates.{node_lines, premise_lines, lines_behind}
+use Rattle.cc_certificate_text.specs.NodeTexts.{node_line}
 use Rattle.cc_certificate.specs.declared.nodes.Waiting.{Waiting as DeclaredWaiting}
 use Rattle.cc_certificate.specs.declared.nodes.Waiting.TheVariants as waits
 

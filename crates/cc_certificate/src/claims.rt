@@ -4,7 +4,8 @@ ghost use Rattle.std.specs.Prelude.{◌≡◌, ◌++◌, codes, OnOk};
 ghost use Rattle.std.specs.Fmt.{decimal};
 ghost use Rattle.std.specs.String.{string_bytes};
 ghost use Rattle.cc_derivation.specs.Views.{rule_of, claim_of};
-ghost use Rattle.cc_certificate.specs.Certificates as plain;
+ghost use Rattle.cc_certificate.specs.Certificates.{line};
+ghost use Rattle.cc_certificate_text.specs.NodeTexts as plain;
 
 use crate::writing::{put, put_set, put_shape, put_type};
 use cc_derivation::{Claim, Rule};
@@ -140,7 +141,7 @@ pub(crate) fn put_node_line(
     premises: &[u64],
     claim: &Claim,
 ) -> Result<(), AllocError>
-    ensures { OnOk result (string_bytes out.new ≡ string_bytes out.old ++ plain.line (front.now ++ plain.node_line names.now.names.items names.now.locals number (rule_of rule) premises.now (claim_of claim.now))) }
+    ensures { OnOk result (string_bytes out.new ≡ string_bytes out.old ++ line (front.now ++ plain.node_line names.now.names.items names.now.locals number (rule_of rule) premises.now (claim_of claim.now))) }
 {
     put(out, front)?;
     put_rule(alloc, out, number, rule, premises)?;

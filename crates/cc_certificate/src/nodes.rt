@@ -5,6 +5,7 @@ ghost use Rattle.std.specs.String.{string_bytes};
 ghost use Rattle.cc_derivation.specs.Views.{rule_of, claim_of, premises_of, der_of};
 ghost use Rattle.cc_certificate.specs.Certificates as plain;
 ghost use Rattle.cc_certificate.specs.WaitingLines as turn;
+ghost use Rattle.cc_certificate_text.specs.NodeTexts.{node_line};
 
 use crate::claims::put_node_line;
 use crate::writing::deeper;
@@ -102,7 +103,7 @@ fn put_last(
     from: usize,
     der: &Der,
 ) -> Result<(), AllocError>
-    ensures text { OnOk result (string_bytes out.new ≡ string_bytes out.old ++ plain.line (front.now ++ plain.node_line names.old.names.items locals number (rule_of der.now.rule) (drop from numbers.old.items) (claim_of der.now.claim))) }
+    ensures text { OnOk result (string_bytes out.new ≡ string_bytes out.old ++ plain.line (front.now ++ node_line names.old.names.items locals number (rule_of der.now.rule) (drop from numbers.old.items) (claim_of der.now.claim))) }
     ensures numbers { OnOk result (numbers.new.items ≡ take from numbers.old.items ++ number ∷ []) }
     ensures names { names.new.names.items ≡ names.old.names.items }
 {

@@ -4,6 +4,7 @@ use Rattle.std.proofs.lemmas.List.{append-nil, append_assoc, length-append}
 use Rattle.std.proofs.Math.Seq.{take-append_seam}
 use Rattle.cc_certificate_text.specs.Certificates.{CertificateNode, Concludes, Proving, used_up, AllFit, IsWhole, behind_lines}
 use Rattle.cc_certificate_judging.specs.Judging.{NodeTree, Grown, NodeTrees, NoTree, Tree, size_of, sizes_of, root_numbers, listed, listed_all}
+use Rattle.cc_certificate_judging.proofs.PassesOnce.{first_is, rest_is}
 
 -- trees behind others
 abbrev pub join : NodeTrees → NodeTrees → NodeTrees
@@ -39,12 +40,6 @@ pub record Parts (before : ℕ) (trees : NodeTrees) (kept premises : List ℕ) :
   pub fronts : root_numbers before front ≡ kept
   pub aboves : root_numbers (before + sizes_of front) above ≡ premises
 
-head_is : {A : Type 0} {x y : A} {xs ys : List A} → x ∷ xs ≡ y ∷ ys → x ≡ y
-head_is e = cc
-
-tail_is : {A : Type 0} {x y : A} {xs ys : List A} → x ∷ xs ≡ y ∷ ys → xs ≡ ys
-tail_is e = cc
-
 no_cons : {A B : Type 0} {y : A} {ys : List A} → [] ≡ y ∷ ys → B
 no_cons e = cc
 
@@ -54,13 +49,13 @@ parts [] premises before trees e =
     record { front = NoTree; above = trees; joined = refl; fronts = refl; aboves = ap (λ b. root_numbers b trees) z ∙ e }
 parts (k ∷ ks) premises before NoTree e = no_cons e
 parts (k ∷ ks) premises before (Tree tree rest) e =
-    let p = parts ks premises (before + size_of tree) rest (tail_is e) in
+    let p = parts ks premises (before + size_of tree) rest (rest_is e) in
     let s : before + (size_of tree + sizes_of p.front) ≡ (before + size_of tree) + sizes_of p.front = omega arith in
     record {
       front = Tree tree p.front;
       above = p.above;
       joined = ap (Tree tree) p.joined;
-      fronts = ap (λ n. n ∷ root_numbers (before + size_of tree) p.front) (head_is e) ∙ ap (λ l. k ∷ l) p.fronts;
+      fronts = ap (λ n. n ∷ root_numbers (before + size_of tree) p.front) (first_is e) ∙ ap (λ l. k ∷ l) p.fronts;
       aboves = ap (λ b. root_numbers b p.above) s ∙ p.aboves;
     }
 

@@ -14,7 +14,7 @@ pub record Same {A : Type 0} (a b c d : List A) : Type 0 where
 pub first_is : {A : Type 0} {x y : A} {xs ys : List A} → x ∷ xs ≡ y ∷ ys → x ≡ y
 first_is e = cc
 
-rest_is : {A : Type 0} {x y : A} {xs ys : List A} → x ∷ xs ≡ y ∷ ys → xs ≡ ys
+pub rest_is : {A : Type 0} {x y : A} {xs ys : List A} → x ∷ xs ≡ y ∷ ys → xs ≡ ys
 rest_is e = cc
 
 pub same_parts : {A : Type 0} (a b c d : List A) → a ++ b ≡ c ++ d → length b ≡ length d → Same a b c d

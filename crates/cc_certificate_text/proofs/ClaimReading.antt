@@ -236,10 +236,6 @@ module _ (names : List (List ℕ)) (all : AllByRecursion IsName names) (apart : 
 
 -- TWO SIDES
 
-either_some : (a b : Bool) → a ≡ true → (a || b) ≡ true
-either_some true b h = refl
-either_some false b h = cc
-
 same_truth-is : (a b : Bool) → same_truth a b ≡ true → a ≡ b
 same_truth-is true true h = refl
 same_truth-is true false h = cc

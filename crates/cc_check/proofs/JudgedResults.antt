@@ -7,7 +7,8 @@ use Rattle.cc_core.specs.Typing.{HasType}
 use Rattle.cc_core.specs.Views.{type_of, term_of}
 use Rattle.cc_core.specs.WellFormed.{IsWellFormedType}
 use Rattle.cc_sets.specs.Verdicts.{Definition}
-use Rattle.cc_meta_checking.specs.CheckingLaws.{Fits, definition_context, oldest}
+use Rattle.cc_meta_checking.specs.CheckingLaws.{Fits, oldest}
+use Rattle.cc_meta_checking.specs.AcceptedDefinitions.{definition_context}
 use Rattle.cc_core.specs.Holes.{HolesAreOfParameters}
 use Rattle.cc_meta_checking.proofs.AlikeSignatures.{refused_has_no_type}
 use Rattle.cc_meta_checking.proofs.CheckedDefinitions.{accepted_sound}

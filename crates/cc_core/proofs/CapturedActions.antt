@@ -10,6 +10,7 @@ use Rattle.cc_capture.specs.declared.var.Elem.TheVariants.{Var as Variable, Cap,
 use Rattle.cc_capture.specs.Sets.{Set, Member, contains, union, flat_image}
 use Rattle.cc_capture.proofs.Membership.{Member-flat_image}
 use Rattle.cc_capture.proofs.Images.{flat_image-flat_image, flat_image-congruent, flat_image-union, flat_image-empty}
+use Rattle.cc_capture.proofs.WordSets.{alike}
 use Rattle.cc_core.specs.Shapes.{Shape}
 use Rattle.cc_core.specs.Terms.{Term, VariableTerm, LiteralTerm, FunctionTerm, TypeFunctionTerm, BoxTerm, Application, TypeApplication, Unboxing, Let, Primitive, Conditional, Repetition, Operation, Boundary, Leave}
 use Rattle.cc_core.specs.Traversal.{Action, act_set, act_term}
@@ -44,11 +45,6 @@ is_value-act f d (Operation p v o) = refl
 is_value-act f d (Boundary s t) = refl
 is_value-act f d (Leave s c v w) = refl
 
-same_truth : (a b : Bool) → (a ≡ true → b ≡ true) → (b ≡ true → a ≡ true) → a ≡ b
-same_truth true b there back = sym (there refl)
-same_truth false true there back = back refl
-same_truth false false there back = refl
-
 module _ (f : Action) (passes : PassesBinders f) where
   act_variable_set : (d : ℕ) (v : Var) → variable_set (f.variable d v) ≡ act_set f d (variable_set v)
   act_variable_set d v = sym (flat_image-of_single (f.element d) (Variable v) ∙ passes.variables d v)
@@ -62,7 +58,7 @@ module _ (f : Action) (passes : PassesBinders f) where
   captures_newest : (d : ℕ) (c : Set)
       → contains (Variable (Bound zero)) (act_set f (suc d) c) ≡ contains (Variable (Bound zero)) c
   captures_newest d c =
-      same_truth (contains (Variable (Bound zero)) (act_set f (suc d) c)) (contains (Variable (Bound zero)) c)
+      alike (contains (Variable (Bound zero)) (act_set f (suc d) c)) (contains (Variable (Bound zero)) c)
       (λ h.
       let from = (Member-flat_image (f.element (suc d)) (Variable (Bound zero)) c).0 h in
       subst (λ x. Member x c) (passes.newest d from.0 from.2) from.1)

@@ -1,12 +1,12 @@
 -- Derivations of comparisons are the judgements.
 use Rattle.std.proofs.Common.{◌≡◌, ◌↔◌, ◌⊎◌, true, false, List, [], ◌∷◌, length, refl, sym, subst, inl, inr}
-use Rattle.std.proofs.lemmas.Bool.{or_cases, or_left, or_right, both_ways}
+use Rattle.std.proofs.lemmas.Bool.{or_left, or_right, both_ways}
 use Rattle.cc_capture.specs.declared.var.Var.TheVariants.{Free}
 use Rattle.cc_capture.specs.declared.var.Elem.{Elem}
-use Rattle.cc_capture.specs.ElementOrder.{same_element-true, same_element-itself}
+use Rattle.cc_capture.specs.ElementOrder.{same_element-itself}
 use Rattle.cc_capture.specs.Rising.{is_listed}
 use Rattle.cc_capture.specs.Sets.{Set, Member, contains, empty}
-use Rattle.cc_capture.proofs.Membership.{Member-empty, Member-insert}
+use Rattle.cc_capture.proofs.Membership.{Member-empty, Member-insert, is_listed-cases}
 use Rattle.cc_core.specs.Shapes.{Shape, AnyShape, TypeVariable, FunctionShape, TypeFunctionShape, BoxShape, CapturingType, capturing}
 use Rattle.cc_core.specs.Contexts.{TermEntry, TypeEntry, Context}
 use Rattle.cc_core.specs.Substitution.{single, opened, opened_set}
@@ -17,10 +17,6 @@ use Rattle.cc_core.specs.Derivations.{ByElement, ByVariable, BySet, ByReflexivit
 use Rattle.cc_core.specs.DerivationLaws.{HasComparison}
 
 -- the members of a list's set, and of the set of one element
-listed_cases : (e x : Elem) (xs : List Elem) → is_listed e (x ∷ xs) ≡ true → (e ≡ x) ⊎ (is_listed e xs ≡ true)
-listed_cases e x xs here =
-    elim (or_cases _ _ here) [ inl same ↦ inl (same_element-true e x same) | inr there ↦ inr there ]
-
 listed_first : (x : Elem) (xs : List Elem) → is_listed x (x ∷ xs) ≡ true
 listed_first x xs = or_left _ _ (same_element-itself x)
 
@@ -92,7 +88,7 @@ mutual
   elements_hold NoPremise context [] right h e here = absurd (both_ways false refl here)
   elements_hold (Premise p rest) context (x ∷ xs) right h e here =
       let first : SubcapturesSet context (single x) right = held context h.1 (comparison_holds p context h.0) in
-      elim (listed_cases e x xs here) [
+      elim (is_listed-cases e x xs here) [
         | inl same ↦ subst (λ y. Subcaptures context y right) (sym same) (first x (member_of_single x))
         | inr there ↦ elements_hold rest context xs right h.2 e there
       ]

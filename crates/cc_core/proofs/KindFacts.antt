@@ -1,14 +1,11 @@
 -- Well-formedness as facts about kinds, one for each variable, and the tests as these facts.
 use Rattle.std.proofs.Common.{◌≡◌, Bool, true, ◌&&◌, List, [], ◌∷◌, Option, Some, None, inl, inr, refl, ap, ◌∙◌}
-use Rattle.std.specs.List.{list_all}
-use Rattle.std.proofs.lemmas.Bool.{and_parts, and_from, or_cases, or_left, or_right}
+use Rattle.std.proofs.lemmas.Bool.{and_parts, and_from}
 use Rattle.cc_capture.specs.declared.var.Var.{Var}
 use Rattle.cc_capture.specs.declared.var.Elem.{Elem}
 use Rattle.cc_capture.specs.declared.var.Elem.TheVariants.{Var as Variable, Cap, Hole}
-use Rattle.cc_capture.specs.Elements.{same_element}
-use Rattle.cc_capture.specs.ElementOrder.{same_element-true, same_element-itself}
-use Rattle.cc_capture.specs.Rising.{is_listed}
 use Rattle.cc_capture.specs.Sets.{Set, Member, contains}
+use Rattle.cc_capture.proofs.Membership.{list_all-is_listed, list_all-from_is_listed}
 use Rattle.cc_core.specs.Shapes.{Shape, BaseShape, AnyShape, TypeVariable, FunctionShape, TypeFunctionShape, BoxShape, ExitShape, CapturingType}
 use Rattle.cc_core.specs.Terms.{Note, Absent, Written, Own, Term, VariableTerm, LiteralTerm, FunctionTerm, TypeFunctionTerm, BoxTerm, Application, TypeApplication, Unboxing, Let, Primitive, Conditional, Repetition, Operation, Boundary, Leave}
 use Rattle.cc_core.specs.WellFormed.{Kind, TermKind, TypeKind, is_term_kind, is_type_kind, kind_at, is_term_variable, is_well_formed_element, is_well_formed_set, is_well_formed_shape, is_well_formed_type, is_well_formed_note, is_well_formed_optional_set, is_optional_term_variable, is_well_formed_term}
@@ -117,35 +114,17 @@ IsKindedElement-test kinds passed (Variable v) h = term_kind-test (kind_at kinds
 IsKindedElement-test kinds passed Cap h = refl
 IsKindedElement-test kinds passed (Hole n) h = refl
 
-listed_passes : (test : Elem → Bool) (xs : List Elem) → list_all test xs ≡ true → (e : Elem) → is_listed e xs ≡ true
-    → test e ≡ true
-listed_passes test [] h e m = cc
-listed_passes test (x ∷ xs) h e m =
-    let both = and_parts (test x) (list_all test xs) h in
-    elim (or_cases (same_element e x) (is_listed e xs) m) as (λ _. test e ≡ true) [
-      | inl same ↦ ap test (same_element-true e x same) ∙ both.0
-      | inr later ↦ listed_passes test xs both.1 e later
-    ]
-
-all_pass : (test : Elem → Bool) (xs : List Elem) → ((e : Elem) → is_listed e xs ≡ true → test e ≡ true)
-    → list_all test xs ≡ true
-all_pass test [] h = refl
-all_pass test (x ∷ xs) h =
-    and_from (test x) (list_all test xs)
-    (h x (or_left (same_element x x) (is_listed x xs) (same_element-itself x)))
-    (all_pass test xs (λ e m. h e (or_right (same_element e x) (is_listed e xs) m)))
-
 pub IsKindedSet-from : (kinds passed : List Kind) (c : Set) → is_well_formed_set kinds passed c ≡ true
     → IsKindedSet kinds passed c
 unfolding contains
 IsKindedSet-from kinds passed c h x m =
-    IsKindedElement-from kinds passed x (listed_passes (is_well_formed_element kinds passed) c.list h x m)
+    IsKindedElement-from kinds passed x (list_all-is_listed (is_well_formed_element kinds passed) c.list h x m)
 
 pub IsKindedSet-test : (kinds passed : List Kind) (c : Set) → IsKindedSet kinds passed c
     → is_well_formed_set kinds passed c ≡ true
 unfolding contains
 IsKindedSet-test kinds passed c h =
-    all_pass (is_well_formed_element kinds passed) c.list (λ x m. IsKindedElement-test kinds passed x (h x m))
+    list_all-from_is_listed (is_well_formed_element kinds passed) c.list (λ x m. IsKindedElement-test kinds passed x (h x m))
 
 IsKindedOptionalSet-from : (kinds passed : List Kind) (o : Option Set)
     → is_well_formed_optional_set kinds passed o ≡ true → IsKindedOptionalSet kinds passed o

@@ -1,5 +1,5 @@
 -- The tests that look for a position or for a hole say no exactly where none occurs.
-use Rattle.std.proofs.Common.{◌≡◌, ◌↔◌, ℕ, suc, Bool, true, false, ◌||◌, List, [], ◌∷◌, Option, Some, None, refl, sym, ap, subst, ◌∙◌, inl, inr}
+use Rattle.std.proofs.Common.{◌≡◌, ◌↔◌, ℕ, suc, Bool, true, false, ◌||◌, List, [], ◌∷◌, refl, sym, ap, subst, ◌∙◌, inl, inr}
 use Rattle.std.specs.List.{list_any}
 use Rattle.std.proofs.lemmas.Bool.{false_from_ne_true, or_parts, or_cases}
 use Rattle.std.proofs.Math.Bool.{or-true}
@@ -15,9 +15,9 @@ use Rattle.cc_capture.specs.Sets.{Set, Member, contains}
 use Rattle.cc_capture.proofs.Equality.{same_variable-decides}
 use Rattle.cc_core.specs.declared.occurrences.Question.TheVariants as questions
 use Rattle.cc_core.specs.Shapes.{Shape, BaseShape, AnyShape, TypeVariable, FunctionShape, TypeFunctionShape, BoxShape, ExitShape, CapturingType}
-use Rattle.cc_core.specs.Terms.{Note, Absent, Written, Own, Term, VariableTerm, LiteralTerm, FunctionTerm, TypeFunctionTerm, BoxTerm, Application, TypeApplication, Unboxing, Let, Primitive, Conditional, Repetition, Operation, Boundary, Leave}
-use Rattle.cc_core.specs.Occurrences.{Condition, Meets, MeetsInSet, MeetsInType, MeetsInNote, MeetsInOptionalSet, MeetsAtOptional, MeetsInTerm, IsAskedOf, IsNoHole, without, without_holes}
-use Rattle.cc_core.specs.Questions.{Question, question_of, is_hole, occurs, occurs_in_type, occurs_in_note, occurs_in_optional_set, occurs_at_optional, occurs_in_term}
+use Rattle.cc_core.specs.Occurrences.{Condition, Meets, MeetsInSet, MeetsInType, IsAskedOf, IsNoHole, without, without_holes}
+use Rattle.cc_core.specs.Questions.{Question, is_hole, occurs, occurs_in_type}
+use Rattle.cc_core.specs.Views.{question_of}
 
 -- a test says no exactly where a fact holds
 abbrev pub SaysNo : Bool → Type 0 → Type 0
@@ -29,11 +29,6 @@ nothing = (λ e. tt, λ h. refl)
 two_say : (a b : Bool) {A B : Type 0} → SaysNo a A → SaysNo b B → SaysNo (a || b) (A × B)
 two_say true b p q = (λ e. cc, λ h. p.1 h.0)
 two_say false b p q = (λ e. (p.0 refl, q.0 e), λ h. q.1 h.1)
-
-three_say : (a b c : Bool) {A B C : Type 0} → SaysNo a A → SaysNo b B → SaysNo c C → SaysNo ((a || b) || c) (A × B × C)
-three_say true b c p q r = (λ e. cc, λ h. p.1 h.0)
-three_say false true c p q r = (λ e. cc, λ h. q.1 h.1)
-three_say false false c p q r = (λ e. (p.0 refl, q.0 refl, r.0 e), λ h. r.1 h.2)
 
 three_say_so : (a b c : Bool) {A B C : Type 0} → SaysNo a A → SaysNo b B → SaysNo c C → SaysNo (a || (b || c)) (A × B × C)
 three_say_so true b c p q r = (λ e. cc, λ h. p.1 h.0)
@@ -65,40 +60,6 @@ decided q c d depth (ExitShape gives) = decided q c d depth gives
 
 pub decided_type : (q : Question) (c : Condition) → Decides q c → (depth : ℕ) (t : CapturingType) → SaysNo (occurs_in_type q t) (MeetsInType c depth t)
 decided_type q c d depth t = two_say _ _ (decided q c d depth t.shape) (d.in_set depth t.set)
-
-decided_note : (q : Question) (c : Condition) → Decides q c → (depth : ℕ) (n : Note) → SaysNo (occurs_in_note q n) (MeetsInNote c depth n)
-decided_note q c d depth Absent = nothing
-decided_note q c d depth (Written shape set) = two_say _ _ (decided q c d depth shape) (d.in_set depth set)
-decided_note q c d depth (Own shape) = decided q c d depth shape
-
-decided_optional_set : (q : Question) (c : Condition) → Decides q c → (depth : ℕ) (s : Option Set) → SaysNo (occurs_in_optional_set q s) (MeetsInOptionalSet c depth s)
-decided_optional_set q c d depth None = nothing
-decided_optional_set q c d depth (Some set) = d.in_set depth set
-
-decided_optional : (q : Question) (c : Condition) → Decides q c → (depth : ℕ) (v : Option Var) → SaysNo (occurs_at_optional q v) (MeetsAtOptional c depth v)
-decided_optional q c d depth None = nothing
-decided_optional q c d depth (Some v) = d.at_variable depth v
-
-pub decided_term : (q : Question) (c : Condition) → Decides q c → (depth : ℕ) (t : Term) → SaysNo (occurs_in_term q t) (MeetsInTerm c depth t)
-decided_term q c d depth (VariableTerm v) = d.at_variable depth v
-decided_term q c d depth (LiteralTerm literal) = nothing
-decided_term q c d depth (FunctionTerm takes set body) =
-    three_say _ _ _ (decided q c d depth takes) (d.in_set depth set) (decided_term q c d (suc depth) body)
-decided_term q c d depth (TypeFunctionTerm bound body) = two_say _ _ (decided q c d depth bound) (decided_term q c d (suc depth) body)
-decided_term q c d depth (BoxTerm content) = d.at_variable depth content
-decided_term q c d depth (Application function argument) = two_say _ _ (d.at_variable depth function) (d.at_variable depth argument)
-decided_term q c d depth (TypeApplication function argument) = two_say _ _ (d.at_variable depth function) (decided q c d depth argument)
-decided_term q c d depth (Unboxing set content) = two_say _ _ (decided_optional_set q c d depth set) (d.at_variable depth content)
-decided_term q c d depth (Let note right body) =
-    three_say_so _ _ _ (decided_note q c d depth note) (decided_term q c d depth right) (decided_term q c d (suc depth) body)
-decided_term q c d depth (Primitive operator left right) = two_say _ _ (d.at_variable depth left) (d.at_variable depth right)
-decided_term q c d depth (Conditional note test positive negative) =
-    four_say _ _ _ _ (decided_note q c d depth note) (d.at_variable depth test) (decided_term q c d depth positive) (decided_term q c d depth negative)
-decided_term q c d depth (Repetition count function) = two_say _ _ (d.at_variable depth count) (d.at_variable depth function)
-decided_term q c d depth (Operation operation receiver argument) = two_say _ _ (d.at_variable depth receiver) (decided_optional q c d depth argument)
-decided_term q c d depth (Boundary gives body) = two_say _ _ (decided q c d depth gives) (decided_term q c d (suc depth) body)
-decided_term q c d depth (Leave gives set exit value) =
-    four_say _ _ _ _ (decided q c d depth gives) (d.in_set depth set) (d.at_variable depth exit) (d.at_variable depth value)
 
 true_false : {A : Type 0} {b : Bool} → b ≡ true → b ≡ false → A
 true_false e f = cc

@@ -55,14 +55,6 @@ HasBinder-put p d (Bound i) h =
       | inr other ↦ subst (HasBinder (d + 0)) (sym (put_variable-other (Free p) d i other)) (let l : i < d + 0 = omega arith in l)
     ]
 
-pub HasBinder-closed : (n d : ℕ) (v : Var) → HasBinder (d + 0) v → HasBinder (d + 1) (closed_variable n d v)
-HasBinder-closed n d (Bound i) h = let l : i < d + 1 = omega arith in l
-HasBinder-closed n d (Free p) h =
-    elim (cases_eq p n) as (λ _. HasBinder (d + 1) (closed_variable n d (Free p))) [
-      | inl e ↦ subst (HasBinder (d + 1)) (sym (ap (λ k. closed_variable n d (Free k)) e ∙ closed_variable-same n d)) (let l : d < d + 1 = omega arith in l)
-      | inr other ↦ subst (HasBinder (d + 1)) (sym (closed_variable-other n d p other)) tt
-    ]
-
 -- a variable put where no index is open changes nothing
 pub put_still : (by : Var) (d : ℕ) (v : Var) → HasBinder (d + 0) v → put_variable by d v ≡ v
 put_still by d (Free p) h = refl
@@ -99,9 +91,3 @@ pub closed-without : (sort : Sort) (n d : ℕ) (x : Syntax sort)
 closed-without sort n d x =
     MeetsIn-act sort (closing n) _ (without n) (moving_brings (closed_variable n) (λ k v. v ≡ Free n → ⊥)) d x
     (MeetsIn-always sort _ (always_on_variables _ (λ k v. closed_is_other n k v)) d x)
-
-pub closed-bound_within : (sort : Sort) (n d : ℕ) (x : Syntax sort) → MeetsIn sort (bound_within 0) d x
-    → MeetsIn sort (bound_within 1) d (acted sort (closing n) d x)
-closed-bound_within sort n d x m =
-    MeetsIn-act sort (closing n) _ (bound_within 1) (moving_brings (closed_variable n) (λ k v. HasBinder (k + 1) v)) d x
-    (MeetsIn-here sort (bound_within 0) _ (gives_here _ _ (λ k v h. HasBinder-closed n k v h)) d x m)

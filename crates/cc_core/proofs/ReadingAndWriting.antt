@@ -8,17 +8,17 @@ use Rattle.cc_capture.specs.declared.var.Var.{Var}
 use Rattle.cc_capture.specs.declared.var.Var.TheVariants.{Bound, Free}
 use Rattle.cc_capture.specs.Sets.{Set}
 use Rattle.cc_core.specs.Shapes.{Shape, CapturingType}
-use Rattle.cc_core.specs.Terms.{Note, Term}
-use Rattle.cc_core.specs.Traversal.{act, act_set, act_type, act_note, act_term}
+use Rattle.cc_core.specs.Terms.{Term}
+use Rattle.cc_core.specs.Traversal.{act, act_set, act_type, act_term}
 use Rattle.cc_core.specs.Substitution.{put_variable, opening}
 use Rattle.cc_core.specs.Reading.{read_variable, written_variable, reading, writing}
 use Rattle.cc_core.specs.ReadingLaws.{of_the_term}
-use Rattle.cc_core.specs.Occurrences.{Meets, MeetsInSet, MeetsInType, MeetsInNote, MeetsInTerm, HasBinder, IsPositionBelow, bound_within}
-use Rattle.cc_core.proofs.Conditions.{gives_here, MeetsInSet-here, Meets-here, MeetsInType-here, MeetsInNote-here, MeetsInTerm-here}
+use Rattle.cc_core.specs.Occurrences.{Meets, MeetsInSet, MeetsInType, MeetsInTerm, HasBinder, IsPositionBelow, bound_within}
+use Rattle.cc_core.proofs.Conditions.{gives_here, MeetsInSet-here, Meets-here, MeetsInType-here, MeetsInTerm-here}
 use Rattle.cc_core.proofs.Moving.{same_moves, moving-moving, moving-still}
-use Rattle.cc_core.proofs.Sorts.{SetSort, ShapeSort, TypeSort, NoteSort, TermSort}
+use Rattle.cc_core.proofs.Sorts.{SetSort, ShapeSort, TypeSort, TermSort}
 use Rattle.cc_core.proofs.Opening.{put_variable-same, put_variable-other}
-use Rattle.cc_core.proofs.Shifting.{shift, shift_type, shift_note, shift_term}
+use Rattle.cc_core.proofs.Shifting.{shift, shift_type, shift_term}
 
 -- both tests pass
 both_pass : (a b c e : ℕ) → a ≤ b → c < e → (nat_le a b && nat_lt c e) ≡ true
@@ -120,12 +120,6 @@ written_read r n d (Bound i) h =
           ∙ ap Bound back
     ]
 
--- sets
-pub opened_set-read : (n : ℕ) (x : Set) → act_set (opening n) 0 (act_set (reading n) 1 x) ≡ act_set (reading (suc n)) 0 x
-opened_set-read n x =
-    moving-moving (put_variable (Free n)) (λ d v. read_variable n (suc d) v) SetSort 0 x
-    ∙ ap (λ f. act_set f 0 x) (same_moves (λ d v. put_variable (Free n) d (read_variable n (suc d) v)) (read_variable (suc n)) (put_read n))
-
 pub read_set-still : (n d : ℕ) (x : Set) → MeetsInSet (bound_within 0) d x → act_set (reading n) d x ≡ x
 read_set-still n d x m =
     moving-still (read_variable n) SetSort d x (MeetsInSet-here (bound_within 0) _ (gives_here _ _ (λ k v h. read_still n k v h)) d x m)
@@ -152,12 +146,6 @@ opened-read n x =
 pub read-still : (n d : ℕ) (x : Shape) → Meets (bound_within 0) d x → act (reading n) d x ≡ x
 read-still n d x m =
     moving-still (read_variable n) ShapeSort d x (Meets-here (bound_within 0) _ (gives_here _ _ (λ k v h. read_still n k v h)) d x m)
-
-pub read-written : (r n d : ℕ) (x : Shape) → Meets (bound_within 0) d x
-    → act (reading n) d (act (writing r n) d x) ≡ x
-read-written r n d x m =
-    moving-moving (read_variable n) (written_variable r n) ShapeSort d x
-    ∙ moving-still (λ k v. read_variable n k (written_variable r n k v)) ShapeSort d x (Meets-here (bound_within 0) _ (gives_here _ _ (λ k v h. read_written r n k v h)) d x m)
 
 pub written-read : (r n d : ℕ) (x : Shape) → Meets (of_the_term r n) d x
     → act (writing r n) d (act (reading n) d x) ≡ x
@@ -187,29 +175,6 @@ pub written_type-read : (r n d : ℕ) (x : CapturingType) → MeetsInType (of_th
 written_type-read r n d x m =
     moving-moving (written_variable r n) (read_variable n) TypeSort d x
     ∙ moving-still (λ k v. written_variable r n k (read_variable n k v)) TypeSort d x (MeetsInType-here (of_the_term r n) _ (gives_here _ _ (λ k v h. written_read r n k v h)) d x m)
-
--- notes
-pub opened_note-read : (n : ℕ) (x : Note) → act_note (opening n) 0 (act_note (reading n) 1 x) ≡ act_note (reading (suc n)) 0 x
-opened_note-read n x =
-    ap (act_note (opening n) 0) (shift_note (reading n) 0 x)
-    ∙ moving-moving (put_variable (Free n)) (λ d v. read_variable n (suc d) v) NoteSort 0 x
-    ∙ ap (λ f. act_note f 0 x) (same_moves (λ d v. put_variable (Free n) d (read_variable n (suc d) v)) (read_variable (suc n)) (put_read n))
-
-pub read_note-still : (n d : ℕ) (x : Note) → MeetsInNote (bound_within 0) d x → act_note (reading n) d x ≡ x
-read_note-still n d x m =
-    moving-still (read_variable n) NoteSort d x (MeetsInNote-here (bound_within 0) _ (gives_here _ _ (λ k v h. read_still n k v h)) d x m)
-
-pub read_note-written : (r n d : ℕ) (x : Note) → MeetsInNote (bound_within 0) d x
-    → act_note (reading n) d (act_note (writing r n) d x) ≡ x
-read_note-written r n d x m =
-    moving-moving (read_variable n) (written_variable r n) NoteSort d x
-    ∙ moving-still (λ k v. read_variable n k (written_variable r n k v)) NoteSort d x (MeetsInNote-here (bound_within 0) _ (gives_here _ _ (λ k v h. read_written r n k v h)) d x m)
-
-pub written_note-read : (r n d : ℕ) (x : Note) → MeetsInNote (of_the_term r n) d x
-    → act_note (writing r n) d (act_note (reading n) d x) ≡ x
-written_note-read r n d x m =
-    moving-moving (written_variable r n) (read_variable n) NoteSort d x
-    ∙ moving-still (λ k v. written_variable r n k (read_variable n k v)) NoteSort d x (MeetsInNote-here (of_the_term r n) _ (gives_here _ _ (λ k v h. written_read r n k v h)) d x m)
 
 -- terms
 pub opened_term-read : (n : ℕ) (x : Term) → act_term (opening n) 0 (act_term (reading n) 1 x) ≡ act_term (reading (suc n)) 0 x

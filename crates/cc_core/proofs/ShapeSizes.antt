@@ -15,7 +15,7 @@ use Rattle.cc_core.specs.Traversal.{act, act_set, act_type}
 use Rattle.cc_core.specs.Substitution.{moved_element, moving, put_variable, closed_variable, opening, closing, put_shape, putting_shape}
 use Rattle.cc_core.specs.Occurrences.{Meets, MeetsInSet, MeetsInType, on_variables, without, bound_within}
 use Rattle.cc_core.specs.Sizes.{set_size, shape_size, type_size, size_with, counted_variable, counted_shape, counted_type}
-use Rattle.cc_core.proofs.Conditions.{gives_here, Meets-here, MeetsInType-here}
+use Rattle.cc_core.proofs.Conditions.{gives_here, MeetsInType-here}
 use Rattle.cc_core.proofs.Opening.{closed_put, put_closed}
 use Rattle.cc_core.proofs.FreeActions.{putting_shape_set}
 use Rattle.cc_core.proofs.Moving.{moving-moving, moving-still}
@@ -112,25 +112,11 @@ module _ (f back : ℕ → Var → Var) where
       → type_size (act_type (moving f) d t) ≡ type_size t
   type_size-undone d t m i = shape_size-undone d t.shape m.0 i + set_size-undone d t.set m.1 i
 
--- Opening keeps sizes where the position does not occur. Where it occurs, two elements of a set may become one.
-pub shape_size-opened : (n d : ℕ) (s : Shape) → Meets (without n) d s
-    → shape_size (act (opening n) d s) ≡ shape_size s
-shape_size-opened n d s m =
-    shape_size-undone (put_variable (Free n)) (closed_variable n) d s
-    (Meets-here (without n) _ (gives_here _ _ (λ k v h. closed_put n k v h)) d s m)
-
 pub type_size-opened : (n d : ℕ) (t : CapturingType) → MeetsInType (without n) d t
     → type_size (act_type (opening n) d t) ≡ type_size t
 type_size-opened n d t m =
     type_size-undone (put_variable (Free n)) (closed_variable n) d t
     (MeetsInType-here (without n) _ (gives_here _ _ (λ k v h. closed_put n k v h)) d t m)
-
--- Closing keeps sizes where no index is open.
-pub shape_size-closed : (n d : ℕ) (s : Shape) → Meets (bound_within 0) d s
-    → shape_size (act (closing n) d s) ≡ shape_size s
-shape_size-closed n d s m =
-    shape_size-undone (closed_variable n) (put_variable (Free n)) d s
-    (Meets-here (bound_within 0) _ (gives_here _ _ (λ k v h. put_closed n k v h)) d s m)
 
 pub type_size-closed : (n d : ℕ) (t : CapturingType) → MeetsInType (bound_within 0) d t
     → type_size (act_type (closing n) d t) ≡ type_size t

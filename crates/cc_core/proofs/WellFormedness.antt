@@ -13,7 +13,7 @@ use Rattle.cc_core.specs.Occurrences.{Condition, without, bound_within, position
 use Rattle.cc_core.proofs.Opening.{closed-opened}
 use Rattle.cc_core.proofs.Lookups.{length_map}
 use Rattle.cc_core.proofs.KindFacts.{IsKindedSet-from, IsKindedTerm-from, IsKindedSet-test, IsKinded-from}
-use Rattle.cc_core.proofs.KindRespecting.{KeepsKinds-moving, MovesKinds-opening, MovesKinds-closing, MovesKinds-putting, MovesKinds-renaming, MovesKinds-more, moved_kinds, KeepsKinds-putting_shape, KeepsKinds-freely, KeepsKinds-filling_in, kinds-positions_below, kinds-bound_within, kinds-under_type_binder, kinds-under_term_binder, kinds-no_outermost_type, closed_kinded}
+use Rattle.cc_core.proofs.KindRespecting.{KeepsKinds-moving, MovesKinds-opening, MovesKinds-closing, MovesKinds-putting, MovesKinds-renaming, MovesKinds-more, moved_kinds, KeepsKinds-putting_shape, KeepsKinds-freely, KeepsKinds-filling_in, kinds-positions_below, kinds-bound_within, kinds-under_type_binder, kinds-under_term_binder, kinds-no_outermost_type}
 use Rattle.cc_core.proofs.Sorts.{HasKinds, HasKinds-act, HasKinds-from, HasKinds-meets, HasKinds-test, IsFormed, MeetsIn, Sort, Syntax, acted}
 use Rattle.cc_core.proofs.KindedActions.{KindsGive}
 use Rattle.cc_core.proofs.CapturedKinds.{captured_variables_kinded}
@@ -103,11 +103,6 @@ more-well_formed sort more g x formed =
     HasKinds-test sort (kinds_of (more ++ g)) [] x
     (subst (λ ks. HasKinds sort ks [] x) (kinds_append more g)
     (moved_kinds sort (kinds_of g) [] (kinds_of more ++ kinds_of g) [] (MovesKinds-more (kinds_of more) (kinds_of g) []) [] x (HasKinds-from sort (kinds_of g) [] x formed)))
-
-pub closed-well_formed_under : (sort : Sort) (g : Context) (kind : Kind) (x : Syntax sort)
-    → IsFormed sort (kinds_of g) [] x → IsFormed sort (kinds_of g) (kind ∷ []) x
-closed-well_formed_under sort g kind x formed =
-    HasKinds-test sort (kinds_of g) (kind ∷ []) x (closed_kinded sort (kinds_of g) (kind ∷ []) x (HasKinds-from sort (kinds_of g) [] x formed))
 
 -- what is well formed meets what each variable of its kind meets
 meets : (sort : Sort) (g : Context) (passed : List Kind) (condition : Condition) → KindsGive (kinds_of g) passed condition

@@ -3,11 +3,10 @@
 -- list the newest first, so the functions here take the lists turned round: what stands behind an item is what came
 -- before it.
 use Rattle.std.specs.Prelude.{◌≡◌, ℕ, Bool, true, ◌&&◌, List, [], ◌∷◌, ◌++◌, map, reverse, length, Option, Some, None}
-use Rattle.std.specs.Prelude.{is_some, IsTrue, encode_utf8_all, if◌then◌else◌}
-use Rattle.std.specs.Cmp.Lexicographic.{slice_cmp}
+use Rattle.std.specs.Prelude.{is_some, IsTrue, if◌then◌else◌}
 use Rattle.std.specs.List.{AllByRecursion, IsDistinct, list_all, list_any}
-use Rattle.std.specs.Ordering.{is_lt, nat_cmp, on}
 use Rattle.std.specs.Str.{bytes_eq}
+use Rattle.cc_base.specs.Names.{is_name_before}
 use Rattle.cc_base.specs.declared.literal.Base.{Base}
 use Rattle.cc_base.specs.declared.literal.Base.TheVariants as bases
 use Rattle.cc_capture.specs.declared.var.Elem.TheVariants.{Cap}
@@ -146,10 +145,6 @@ is_listed listed name = list_any (λ current. bytes_eq current.name name) listed
 -- whether all that the module imports is from modules that are listed
 abbrev pub is_ready : List Module → Module → Bool
 is_ready listed current = list_all (λ names. is_listed listed names.module_name) current.imports
-
--- whether a name comes before another in the order of texts
-abbrev pub is_name_before : List ℕ → List ℕ → Bool
-is_name_before left right = is_lt (on encode_utf8_all (slice_cmp nat_cmp) left right)
 
 -- The modules, turned round, stand in the order in which they are linked, before others that wait: the next one is
 -- always the first by name of those that are not yet listed and import from listed modules alone.

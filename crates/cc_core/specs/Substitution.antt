@@ -132,11 +132,7 @@ closed_type position = act_type (closing position) zero
 abbrev pub closed_term : ℕ → Term → Term
 closed_term position = act_term (closing position) zero
 
--- what stood under one binder, with the variable in the place of that binder
-abbrev pub replaced_set : Var → Set → Set
-replaced_set by = act_set (putting by) zero
-
--- the same of shapes
+-- a shape that stood under one binder, with the variable in the place of that binder
 abbrev pub replaced : Var → Shape → Shape
 replaced by = act (putting by) zero
 

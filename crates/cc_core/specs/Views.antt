@@ -1,5 +1,6 @@
 -- The plain trees that the program's values stand for. Places and sharing are left out.
-use Rattle.std.specs.Prelude.{List, map}
+use Rattle.std.specs.Prelude.{List, map, false}
+use Rattle.std.specs.List.{list_any}
 use Rattle.cc_core.specs.declared.types.Shape.{Shape as DeclaredShape}
 use Rattle.cc_core.specs.declared.types.Shape.TheVariants as shapes
 use Rattle.cc_core.specs.declared.types.Ty.{Ty}
@@ -18,6 +19,13 @@ use Rattle.cc_core.specs.Terms.{TypeFunctionTerm, BoxTerm, Application, TypeAppl
 use Rattle.cc_core.specs.Terms.{Conditional, Repetition, Operation, Boundary, Leave}
 use Rattle.cc_core.specs.Contexts.{Bind, TermEntry, TypeEntry, Context}
 use Rattle.cc_core.specs.Reading.{read_shape}
+use Rattle.cc_core.specs.declared.occurrences.Question.{Question as DeclaredQuestion}
+use Rattle.cc_capture.specs.declared.var.Var.TheVariants.{Free}
+use Rattle.cc_capture.specs.declared.var.Elem.TheVariants.{Var as Variable}
+use Rattle.cc_capture.specs.Variables.{same_variable}
+use Rattle.cc_capture.specs.Sets.{contains}
+use Rattle.cc_core.specs.declared.occurrences.Question.TheVariants as questions
+use Rattle.cc_core.specs.Questions.{Question, is_hole}
 
 -- the shape, with the types in it taken apart
 abbrev pub shape_of : DeclaredShape → Shape
@@ -73,3 +81,9 @@ bind_of (binds.Unread shape set entries) = TermEntry (read_shape entries (shape_
 -- the context of a list of entries, the newest first
 abbrev pub context_of : List DeclaredBind → Context
 context_of entries = map bind_of entries
+
+-- the question that a value stands for
+abbrev pub question_of : DeclaredQuestion → Question
+question_of (questions.Position position) =
+    record { in_set = contains (Variable (Free position)); at = same_variable (Free position) }
+question_of questions.Hole = record { in_set = λ set. list_any is_hole set.list; at = λ variable. false }

@@ -168,21 +168,9 @@ IsWellFormedNote context note = IsTrue (is_well_formed_note (kinds_of context) [
 abbrev pub IsWellFormedContext : Context → Type 0
 IsWellFormedContext context = IsTrue (is_well_formed_context context)
 
--- the same of a set under one binder, of a variable of the kind
-abbrev pub IsWellFormedSetUnder : Context → Kind → Set → Type 0
-IsWellFormedSetUnder context kind set = IsTrue (is_well_formed_set (kinds_of context) (kind ∷ []) set)
-
--- the same of a shape
-abbrev pub IsWellFormedShapeUnder : Context → Kind → Shape → Type 0
-IsWellFormedShapeUnder context kind shape = IsTrue (is_well_formed_shape (kinds_of context) (kind ∷ []) shape)
-
--- the same of a type
+-- the same of a type under one binder, of a variable of the kind
 abbrev pub IsWellFormedTypeUnder : Context → Kind → CapturingType → Type 0
 IsWellFormedTypeUnder context kind type = IsTrue (is_well_formed_type (kinds_of context) (kind ∷ []) type)
-
--- the same of what is written for a type
-abbrev pub IsWellFormedNoteUnder : Context → Kind → Note → Type 0
-IsWellFormedNoteUnder context kind note = IsTrue (is_well_formed_note (kinds_of context) (kind ∷ []) note)
 
 -- the same of a term
 abbrev pub IsWellFormedTermUnder : Context → Kind → Term → Type 0

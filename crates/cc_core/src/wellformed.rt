@@ -34,13 +34,6 @@ pub fn wf_set(ctx: &Ctx, set: &CapSet) -> bool
     is_well_formed_set(ctx, &Passed::Nothing, set)
 }
 
-/// Whether what is written for a type is well formed, as `wf` says of types.
-pub fn wf_note(ctx: &Ctx, note: &Note) -> bool
-    ensures { result ≡ plain.is_well_formed_note (kinds_of (context_of ctx.now)) [] (note_of note.now) }
-{
-    is_well_formed_note(ctx, &Passed::Nothing, note)
-}
-
 /// Whether each variable of the term has its entry, of the right kind, also in the types that are written in the term.
 pub fn wf_term(ctx: &Ctx, node: &Node) -> bool
     ensures { result ≡ plain.is_well_formed_term (kinds_of (context_of ctx.now)) [] (term_of node.now) }

@@ -55,9 +55,3 @@ head_made build derive t g v s c e f p =
     let is : capturing s c ≡ capturing (exposed g (shape_at g v)) (variable_set v) = λ i. capturing (e i) (f i) in
     let made = subst (λ (x : CapturingType). IsTyping build t (raised_if derive g (variable_derived g v) x)) is p in
     made.made
-
--- a variable that is widened to this
-pub raised_made : (build : Making) (derive : Deriving) (t : Typing) (g : Context) (v : Var) (x y : CapturingType) → x ≡ y
-    → IsTyping build t (raised derive g (variable_derived g v) x) → IsMade build t.tree (raised derive g (variable_derived g v) y)
-raised_made build derive t g v x y e p =
-    let made = subst (λ (z : CapturingType). IsTyping build t (raised derive g (variable_derived g v) z)) e p in made.made

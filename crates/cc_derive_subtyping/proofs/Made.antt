@@ -3,7 +3,7 @@ use Rattle.std.proofs.Common.{◌≡◌, ℕ, ◌+◌, ◌≤◌, ◌<◌, Bool,
 use Rattle.std.specs.Prelude.{nat_lt}
 use Rattle.std.specs.Option.{MatchOption}
 use Rattle.std.proofs.lemmas.Bool.{cases_lt, lt-ltb}
-use Rattle.cc_core.specs.Derivations.{Rule, Claim, Derivation, Node}
+use Rattle.cc_core.specs.Derivations.{Derivation}
 use Rattle.cc_sets.specs.DerivationSizes.{nodes, nodes_of}
 use Rattle.cc_derivation.specs.Views.{der_of}
 use Rattle.cc_derive_subtyping.specs.declared.trees.Tree.{Tree}
@@ -22,12 +22,6 @@ sum_counted limit a b c n m is p q = record {
       omega (arith, is, h, first, second);
 }
 
-more_counted : (limit a c n : ℕ) → c ≡ capped (a + 1) → IsCounted limit a n → IsCounted limit c (1 + n)
-more_counted limit a c n is p = record {
-  within = omega (arith, is, p.within);
-  exact = λ h. let first = p.exact (omega (arith, is, h)) in omega (arith, is, h, first);
-}
-
 -- one premise more
 pub with_part : (build : Making) (parts : Parts) (tree : Tree) (whole : Parts) (ds : List Derivation) (d : Derivation)
     → whole.nodes ≡ capped (parts.nodes + tree.nodes)
@@ -37,16 +31,6 @@ with_part build parts tree whole ds d counted built p t = record {
   counted =
       subst (IsCounted build.limit whole.nodes) (sym (counted-append ds d))
       (sum_counted build.limit parts.nodes tree.nodes whole.nodes (nodes_of (listed ds)) (nodes d) counted p.counted t.counted);
-  built = built;
-}
-
--- a node over the premises, where they are built and where they are not
-pub node_built : (build : Making) (parts : Parts) (tree : Tree) (ds : List Derivation) (rule : Rule) (claim : Claim)
-    → tree.nodes ≡ capped (parts.nodes + 1)
-    → MatchOption tree.der (build.whole ≡ false) (λ x. der_of x.value ≡ Node rule (listed ds) claim)
-    → IsParts build parts ds → IsMade build tree (Node rule (listed ds) claim)
-node_built build parts tree ds rule claim counted built p = record {
-  counted = more_counted build.limit parts.nodes tree.nodes (nodes_of (listed ds)) counted p.counted;
   built = built;
 }
 

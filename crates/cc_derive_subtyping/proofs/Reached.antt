@@ -2,8 +2,7 @@
 use Rattle.std.proofs.Common.{◌≡◌, ℕ, zero, suc, ◌+◌, ◌<◌, Bool, true, false, cond, List, [], ◌∷◌, ◌++◌, length, get_or, map, Option, Some, None, refl, sym, ap, ◌∙◌, subst, inl, inr, arith}
 use Rattle.std.specs.Prelude.{nat_lt}
 use Rattle.std.specs.Option.{option_and_then, option_map}
-use Rattle.std.proofs.lemmas.Bool.{cond-true, cases_lt, lt-ltb}
-use Rattle.std.proofs.lemmas.List.{length-append}
+use Rattle.std.proofs.lemmas.Bool.{cond-true, lt-ltb}
 use Rattle.cc_capture.specs.declared.var.Var.TheVariants.{Free}
 use Rattle.cc_capture.specs.declared.var.Elem.{Elem}
 use Rattle.cc_capture.specs.declared.var.Elem.TheVariants.{Var as Variable}
@@ -32,20 +31,6 @@ get_or_last (y ∷ xs) x d = get_or_last xs x d
 -- no position, and one more
 pub table_none : (build : Making) (g : Context) (right : Set) → IsTable build g right []
 table_none build g right = record { at = λ p d h. absurd (omega arith) }
-
-pub table_more : (build : Making) (g : Context) (right : Set) (table : List Tree) (tree : Tree) → IsTable build g right table
-    → IsMade build tree (element_derived g right (Variable (Free (length table)))) → IsTable build g right (table ++ tree ∷ [])
-table_more build g right table tree old new = record {
-  at = λ p d h.
-      elim (cases_lt p (length table)) as (λ _. IsMade build (get_or (table ++ tree ∷ []) p d) (element_derived g right (Variable (Free p)))) [
-        | inl below ↦ subst (λ (t : Tree). IsMade build t (element_derived g right (Variable (Free p)))) (sym (get_or_front table tree d p below)) (old.at p d below)
-        | inr beyond ↦
-            let n = length-append table (tree ∷ []) in
-            let is : length table ≡ p = omega arith in
-            subst (λ (q : ℕ). IsMade build (get_or (table ++ tree ∷ []) q d) (element_derived g right (Variable (Free q)))) is
-            (subst (λ (t : Tree). IsMade build t (element_derived g right (Variable (Free (length table))))) (sym (get_or_last table tree d)) new)
-      ];
-}
 
 -- an element that is known
 pub reached_at : (build : Making) (g : Context) (right : Set) (table : List Tree) (p : ℕ) (tree : Tree) → IsTable build g right table

@@ -41,11 +41,6 @@ alike-front : (front rest us : List PlacedLexeme) → Alike rest us → Alike (f
 alike-front [] rest us a = a
 alike-front (t ∷ front) rest us a = refl
 
-leaving-same : {A : Type 0} (found : Found A) → leaving found (left_of found) ≡ found
-leaving-same (Got value spare rest) = refl
-leaving-same (Wrong rest) = refl
-leaving-same (High rest) = refl
-
 -- CLOSURE
 
 pub then-uniform : {A B : Type 0} (r : Reader A) (k : A → ℕ → Reader B) (ts : List PlacedLexeme) → UniformAt r ts (r ts) → ((v : A) (s : ℕ) → Uniform (k v s)) → UniformAt (λ us. r us >>= k) ts (r ts >>= k)

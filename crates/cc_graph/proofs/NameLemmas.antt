@@ -21,7 +21,8 @@ use Rattle.std.specs.Str.{bytes_eq}
 use Rattle.std.specs.declared.cmp.Ordering.{Ordering}
 use Rattle.std.specs.declared.cmp.Ordering.TheVariants.{Less, Equal, Greater}
 use Rattle.cc_base.specs.NameTexts.{bytes_eq-order}
-use Rattle.cc_graph.specs.Graph.{ImportMap, IsImportMap, compare_names, is_present, does_import}
+use Rattle.cc_graph.specs.Graph.{ImportMap, IsImportMap, is_present, does_import}
+use Rattle.cc_base.specs.Names.{compare_names}
 use Rattle.cc_graph.specs.Places.{name_at, imports_at}
 use Rattle.cc_graph.proofs.Paths.{IsAmong}
 

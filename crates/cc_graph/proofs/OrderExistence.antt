@@ -10,8 +10,9 @@ use Rattle.std.specs.List.{list_all}
 use Rattle.std.specs.Map.{keys_of}
 use Rattle.std.specs.Ordering.{is_lt}
 use Rattle.std.specs.Prelude.{zero, suc, ltb}
-use Rattle.cc_graph.specs.Graph.{ImportMap, IsImportMap, compare_names, imported, does_import, reaches}
-use Rattle.cc_graph.specs.Graph.{is_listed, holds_up, is_ready, may_come, is_next, is_name_before, are_in_order}
+use Rattle.cc_graph.specs.Graph.{ImportMap, IsImportMap, imported, does_import, reaches}
+use Rattle.cc_base.specs.Names.{compare_names, is_name_before}
+use Rattle.cc_graph.specs.Graph.{is_listed, holds_up, is_ready, may_come, is_next, are_in_order}
 use Rattle.cc_graph.specs.Graph.{IsOrder}
 use Rattle.cc_graph.specs.Places.{name_at}
 use Rattle.cc_graph.proofs.GraphLemmas.{Mirrors, leads-reaches}

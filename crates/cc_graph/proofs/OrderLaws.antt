@@ -13,26 +13,13 @@ use Rattle.std.specs.Str.{bytes_eq}
 use Rattle.std.specs.declared.cmp.Ordering.{Ordering}
 use Rattle.std.specs.declared.cmp.Ordering.TheVariants.{Less, Equal, Greater}
 use Rattle.cc_base.specs.NameTexts.{bytes_eq-order}
-use Rattle.cc_graph.specs.Graph.{ImportMap, compare_names, imported, is_present, does_import, Reaches, reaches}
-use Rattle.cc_graph.specs.Graph.{is_listed, holds_up, is_ready, may_come, is_next, is_name_before, are_in_order}
+use Rattle.cc_graph.specs.Graph.{ImportMap, imported, is_present, does_import, Reaches, reaches}
+use Rattle.cc_base.specs.Names.{compare_names, is_name_before}
+use Rattle.cc_graph.specs.Graph.{is_listed, holds_up, is_ready, may_come, is_next, are_in_order}
 use Rattle.cc_graph.specs.Graph.{IsOrder}
 use Rattle.cc_graph.proofs.NameLemmas.{names_total, same_name, is_same_name, present_among}
 use Rattle.cc_graph.proofs.OrderLemmas.{clash, list_all_at, among_listed, listed-reverse}
 use Rattle.cc_graph.proofs.Paths.{IsAmong, reaches-path}
-
--- a module of the map is present
-among_present : (imports : ImportMap) (name : List ℕ) → IsAmong name (keys_of imports) → is_present imports name ≡ true
-among_present [] name among = absurd among
-among_present (entry ∷ rest) name among =
-    elim (cases_Bool (bytes_eq name entry.0)) [
-      | inl same ↦ rw same refl
-      | inr other ↦
-          rw other
-          (elim among [
-            | inl here ↦ clash (bytes_eq name entry.0) (is_same_name name entry.0 (sym here)) other
-            | inr later ↦ among_present rest name later
-          ])
-    ]
 
 -- the module that stands before others was the next one
 next_before : (imports : ImportMap) (newer : List (List ℕ)) (name : List ℕ) (older : List (List ℕ))

@@ -10,8 +10,9 @@ use Rattle.std.specs.Map.{keys_of}
 use Rattle.std.specs.Ordering.{is_lt}
 use Rattle.std.specs.Prelude.{ltb}
 use Rattle.std.specs.Str.{bytes_eq}
-use Rattle.cc_graph.specs.Graph.{ImportMap, compare_names, imported, does_import, reaches, is_listed, holds_up}
-use Rattle.cc_graph.specs.Graph.{is_ready, may_come, is_next, is_name_before}
+use Rattle.cc_graph.specs.Graph.{ImportMap, imported, does_import, reaches, is_listed, holds_up}
+use Rattle.cc_base.specs.Names.{compare_names, is_name_before}
+use Rattle.cc_graph.specs.Graph.{is_ready, may_come, is_next}
 use Rattle.cc_graph.specs.Places.{has_bit, has_at, name_at, HoldsUp, MayCome, IsHeld}
 use Rattle.cc_graph.proofs.GraphLemmas.{Mirrors, leads-reaches}
 use Rattle.cc_graph.proofs.NameLemmas.{names_total, same_name, is_same_name, less_at, turned, present_at, place_among}

@@ -1,23 +1,13 @@
 -- The import graph of modules: which modules are present, what each imports, where imports lead, and an order in which
 -- what a module imports comes before it. Names are lists of code points.
 use Rattle.std.specs.Prelude.{◌≡◌, ℕ, Bool, true, not, ◌&&◌, ◌||◌, List, [], ◌∷◌, reverse}
-use Rattle.std.specs.Prelude.{is_some, IsTrue, encode_utf8_all}
-use Rattle.std.specs.Cmp.Lexicographic.{slice_cmp}
+use Rattle.std.specs.Prelude.{is_some, IsTrue}
 use Rattle.std.specs.List.{list_all, list_any}
 use Rattle.std.specs.List.Sorted.{IsStrictlySortedBy}
 use Rattle.std.specs.Map.{keys_of, lookup}
 use Rattle.std.specs.Option.{unwrap_or}
-use Rattle.std.specs.Ordering.{is_lt, nat_cmp, on}
 use Rattle.std.specs.Str.{bytes_eq}
-use Rattle.std.specs.declared.cmp.Ordering.{Ordering}
-
--- the order of names as texts
-abbrev pub compare_names : List ℕ → List ℕ → Ordering
-compare_names = on encode_utf8_all (slice_cmp nat_cmp)
-
--- whether a name comes before another in the order of texts
-abbrev pub is_name_before : List ℕ → List ℕ → Bool
-is_name_before left right = is_lt (compare_names left right)
+use Rattle.cc_base.specs.Names.{compare_names, is_name_before}
 
 -- The present modules by name, each with the names of the modules that it imports.
 abbrev pub ImportMap : Type 0

@@ -4,7 +4,8 @@ ghost use Rattle.std.specs.Prelude.{◌≡◌, ◌⊎◌, ◌↔◌, ℕ, ◌+�
 ghost use Rattle.std.specs.BTreeMap.{insert_entry};
 ghost use Rattle.std.specs.List.{list_any};
 ghost use Rattle.std.specs.Str.{bytes_eq};
-ghost use Rattle.cc_graph.specs.Graph.{IsImportMap, compare_names, Reaches, reaches, IsOrder};
+ghost use Rattle.cc_graph.specs.Graph.{IsImportMap, Reaches, reaches, IsOrder};
+ghost use Rattle.cc_base.specs.Names.{compare_names};
 ghost use Rattle.cc_graph.specs.Places.{has_bit, has_at, width_for, AreWide, name_at, imports_at, HoldsUp, IsClosed, AreImports, IsImportedFrom};
 
 use crate::bits::Row;

@@ -108,10 +108,6 @@ run_gives words command h =
       unruled = refl;
     })
 
--- a schedule
-schedule_numbers : (tasks : ℕ) → ℕ → Type 0
-schedule_numbers tasks number = number < tasks
-
 schedule_gives : (tasks : ℕ) (word : List ℕ) (schedule : List ℕ) → 0 < tasks → tasks ≤ 8 → schedule_of tasks word ≡ Some schedule → IsSchedule tasks schedule × (word ≡ joined 44 (map decimal schedule))
 unfolding schedule_of is_schedule
 schedule_gives tasks word schedule some few h =

@@ -3,12 +3,7 @@ use Rattle.std.specs.Prelude.{ℕ, pos, negsuc, Bool, true, false, List, [], ◌
 use Rattle.cc_base.specs.declared.device.Kind.TheVariants.{Console, File, Counter}
 use Rattle.cc_job.specs.declared.job.Command.TheVariants.{Put, Drop, Check, Sig, Derive, Run, Tasks, Verify, Policy, Audit, Guard, Explain, Replay}
 use Rattle.cc_policy.specs.declared.policy.Rule.{Rule}
-use Rattle.cc_job.specs.Jobs.{IsJob, IsBadAt}
-
--- lines, each with its line feed
-abbrev pub text : List (List ℕ) → List ℕ
-text [] = []
-text (line ∷ lines) = line ++ 10 ∷ text lines
+use Rattle.cc_job.specs.Jobs.{IsJob, IsBadAt, text}
 
 -- the shortest job, whose line stands without its line feed
 abbrev pub ShortestJob : Type 0

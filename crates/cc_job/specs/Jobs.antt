@@ -231,3 +231,8 @@ BytesHaveOneJob = (bytes : List ℕ) (a b : Job) → IsJob bytes a → IsJob byt
 -- and one bad line at most
 abbrev pub BytesHaveOneBadLine : Type 0
 BytesHaveOneBadLine = (bytes : List ℕ) (m n : ℕ) → IsBadAt bytes m → IsBadAt bytes n → m ≡ n
+
+-- lines, each with its line feed
+abbrev pub text : List (List ℕ) → List ℕ
+text [] = []
+text (line ∷ lines) = line ++ 10 ∷ text lines

@@ -12,7 +12,7 @@ use Rattle.std.specs.Option.{is_some}
 use Rattle.std.specs.Prelude.{zero, suc}
 use Rattle.std.specs.declared.cmp.Ordering.TheVariants.{Less, Equal, Greater}
 use Rattle.cc_base.specs.declared.device.DeviceDecl.{DeviceDecl}
-use Rattle.cc_graph.specs.Graph.{compare_names}
+use Rattle.cc_base.specs.Names.{compare_names}
 use Rattle.cc_graph.proofs.NameLemmas.{names_total, turned}
 use Rattle.cc_graph.proofs.Paths.{IsAmong}
 use Rattle.cc_meta_modules.specs.ModuleVerdicts.{ModuleVerdict}

@@ -19,7 +19,7 @@ use Rattle.std.specs.Result.{MatchResult, result_ok}
 use Rattle.std.specs.Str.{bytes_eq}
 use Rattle.std.specs.declared.cmp.Ordering.TheVariants.{Less, Equal, Greater}
 use Rattle.cc_base.specs.NameTexts.{bytes_eq-order}
-use Rattle.cc_graph.specs.Graph.{compare_names}
+use Rattle.cc_base.specs.Names.{compare_names}
 use Rattle.cc_graph.proofs.NameLemmas.{names_total, turned}
 use Rattle.cc_graph.proofs.OrderLemmas.{among_listed}
 use Rattle.cc_graph.proofs.Paths.{IsAmong}

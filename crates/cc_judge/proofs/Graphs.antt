@@ -10,7 +10,8 @@ use Rattle.std.specs.Prelude.{zero, suc}
 use Rattle.std.specs.declared.cmp.Ordering.TheVariants.{Less}
 use Rattle.cc_base.specs.declared.literal.Import.{Import}
 use Rattle.cc_grammar.specs.Syntax.{ImportSyntax}
-use Rattle.cc_graph.specs.Graph.{ImportMap, compare_names}
+use Rattle.cc_graph.specs.Graph.{ImportMap}
+use Rattle.cc_base.specs.Names.{compare_names}
 use Rattle.cc_meta_modules.specs.PresentTexts.{Texts, ArePresent, with_module, graph_of}
 use Rattle.cc_meta_modules.specs.Readings.{imports_of}
 use Rattle.cc_meta_modules.proofs.Schedules.{each_in_graph}

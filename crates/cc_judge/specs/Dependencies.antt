@@ -5,7 +5,8 @@ use Rattle.std.specs.BTreeMap.{insert_entry}
 use Rattle.std.specs.List.{AllByRecursion, list_any}
 use Rattle.std.specs.Map.{keys_of}
 use Rattle.std.specs.Str.{bytes_eq}
-use Rattle.cc_graph.specs.Graph.{ImportMap, compare_names, IsOrder}
+use Rattle.cc_graph.specs.Graph.{ImportMap, IsOrder}
+use Rattle.cc_base.specs.Names.{compare_names}
 use Rattle.cc_grammar.specs.Syntax.{ImportSyntax}
 use Rattle.cc_meta_modules.specs.PresentTexts.{Texts, graph_of}
 use Rattle.cc_meta_modules.specs.Readings.{imports_of}

@@ -7,4 +7,5 @@ pub mod Dependencies
 pub mod Plans
 pub mod Found
 pub mod Carrying
+pub mod StoredTrees
 pub mod SyntaxCodes

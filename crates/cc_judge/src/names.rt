@@ -3,7 +3,7 @@
 ghost use Rattle.std.specs.Prelude.{◌≡◌, MatchOption, MatchResult, slice_get, Some};
 ghost use Rattle.std.specs.List.Sorted.{IsStrictlySortedBy};
 ghost use Rattle.std.specs.Map.{keys_of};
-ghost use Rattle.cc_graph.specs.Graph.{compare_names};
+ghost use Rattle.cc_base.specs.Names.{compare_names};
 ghost use Rattle.cc_judge.specs.Places.{IsGap, IsAbsentKey};
 
 use crate::grounds::SharedText;

@@ -67,7 +67,7 @@ word-spells : (cs : List ℕ) (o : Option Word) → IsWord cs → word_of cs ≡
 word-spells cs None h e = (name_of-none cs h e, refl)
 word-spells cs (Some word) h e = word_of-some cs word e
 
-word_of-text : (word : Word) → word_of (word_text word) ≡ Some word
+pub word_of-text : (word : Word) → word_of (word_text word) ≡ Some word
 unfolding word_of
 word_of-text words.Import = refl
 word_of-text words.Def = refl

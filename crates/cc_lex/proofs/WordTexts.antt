@@ -10,6 +10,7 @@ use Rattle.cc_lex.specs.declared.token.Word.TheVariants as words
 use Rattle.cc_lex.specs.Forms.{word_text}
 use Rattle.cc_lex.specs.Lexemes.{WordLexeme}
 use Rattle.cc_lex.specs.Cutting.{all_words, word_of, word_or_name}
+use Rattle.cc_lex.proofs.Spelling.{word_of-text}
 use lib.Utf8.{encodes}
 
 abbrev is_ascii_text : List ℕ → Bool
@@ -100,36 +101,6 @@ ascii-word words.FileType = refl
 ascii-word words.CounterType = refl
 ascii-word words.ExitType = refl
 ascii-word words.BoxType = refl
-
-word_of-text : (w : Word) → word_of (word_text w) ≡ Some w
-unfolding word_of
-word_of-text words.Import = refl
-word_of-text words.Def = refl
-word_of-text words.Rec = refl
-word_of-text words.Fun = refl
-word_of-text words.Val = refl
-word_of-text words.If = refl
-word_of-text words.Then = refl
-word_of-text words.Else = refl
-word_of-text words.Box = refl
-word_of-text words.Unbox = refl
-word_of-text words.Boundary = refl
-word_of-text words.Exit = refl
-word_of-text words.Repeat = refl
-word_of-text words.True = refl
-word_of-text words.False = refl
-word_of-text words.Unit = refl
-word_of-text words.Cap = refl
-word_of-text words.UnitType = refl
-word_of-text words.BoolType = refl
-word_of-text words.IntType = refl
-word_of-text words.StrType = refl
-word_of-text words.AnyType = refl
-word_of-text words.ConsoleType = refl
-word_of-text words.FileType = refl
-word_of-text words.CounterType = refl
-word_of-text words.ExitType = refl
-word_of-text words.BoxType = refl
 
 pub word-spelled : (w : Word) (bs : List ℕ) → bytes_eq (word_text w) bs ≡ true → WordLexeme w ≡ word_or_name (chars bs) (word_of (chars bs))
 word-spelled w bs h =

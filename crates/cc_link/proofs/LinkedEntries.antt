@@ -32,7 +32,7 @@ use Rattle.cc_link.proofs.LinkedValues.{module_cells, IsFormed, IsFormed-prop, m
 use Rattle.cc_meta_runs.specs.Links.{count_definitions, position_among, linked_position, linked_cell, device_cells, linked_store, entry_store, entry_context, entry_position, program_start as linked_start}
 use Rattle.cc_meta_runs.specs.Machine.{configured}
 use Rattle.cc_meta_runs.proofs.LinkedPrograms.{linked_store_length, program_stored, program_typed}
-use Rattle.cc_meta_modules.specs.ModuleLaws.{in_program}
+use Rattle.cc_meta_modules.specs.ModuleVerdicts.{in_program}
 use Rattle.cc_module.specs.declared.judgement.CheckedDef.{CheckedDef}
 use Rattle.cc_module.specs.Judgements.{checked_definition_of}
 use Rattle.cc_program.specs.declared.values.TypedValue.{TypedValue}

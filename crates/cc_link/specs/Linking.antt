@@ -10,7 +10,7 @@ use Rattle.cc_entry.specs.Modules.{module_of}
 use Rattle.cc_meta_entries.specs.PresentEntries.{program_module, program_entry}
 use Rattle.cc_link.specs.declared.table.ModuleTable.{ModuleTable}
 use Rattle.cc_link.specs.Tables.{Finds}
-use Rattle.cc_meta_modules.specs.ModuleLaws.{in_program}
+use Rattle.cc_meta_modules.specs.ModuleVerdicts.{in_program}
 use Rattle.cc_meta_runs.specs.Links.{linked_position, linked_store, linked_context}
 use Rattle.cc_module.specs.declared.judgement.CheckedDef.{CheckedDef}
 use Rattle.cc_module.specs.Judgements.{checked_definition_of}

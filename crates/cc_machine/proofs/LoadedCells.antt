@@ -3,7 +3,7 @@ use denote.Bor.{Bor}
 use Rattle.std.proofs.Common.{◌≡◌, ℕ, suc, ◌+◌, ◌<◌, ◌≤◌, ◌^◌, List, [], ◌∷◌, ◌++◌, map, reverse, length, None, refl, sym, ap, ◌∙◌, subst, take, get_or, arith}
 use Rattle.std.specs.List.{slice_get}
 use Rattle.std.proofs.lemmas.Grind.{reverse_onto}
-use Rattle.std.proofs.lemmas.List.{map-append, reverse-append, reverse-reverse, append-nil, append_assoc, length-reverse, length-take-le, take_more}
+use Rattle.std.proofs.lemmas.List.{map-append, reverse-append, reverse-reverse, append_assoc, length-reverse, length-take-le, take_more}
 use Rattle.cc_base.specs.declared.literal.Base.{Base}
 use Rattle.cc_base.specs.Literals.{UnitLiteral}
 use Rattle.cc_core.specs.declared.terms.Node.{Node}
@@ -121,10 +121,6 @@ loaded_room {parts} few = record {
   positions = omega (arith, few);
 }
 
--- the cells of devices, one after the other
-pub adds_no_device : (held : List Cell) → AddsDevices [] held held
-adds_no_device held = record { cells = sym (append-nil (map (cell_in []) held)); outermost = λ h. h }
-
 pub adds_device : (devices : List Base) (before held later : List Cell) (n : ℕ) (b : Base) → n < length devices
     → AddsDevices (take n devices) before held → later ≡ held ++ cell_forms.Device n b ∷ [] → b ≡ get_or devices n b
     → AddsDevices (take (n + 1) devices) before later
@@ -142,10 +138,6 @@ adds_device devices before held later n b less adds is at =
           subst AreOutermost (sym is)
           (every-push (λ at o. cell_environment o ≤ 0) held (cell_forms.Device n b) (λ at. omega arith) (adds.outermost h) (omega arith));
     }
-
--- and those of values
-pub adds_no_value : (held : List Cell) → AddsValues [] held held
-adds_no_value held = record { cells = sym (append-nil (map (cell_in []) held)); outermost = λ h. h }
 
 pub adds_value : (values : List TypedValue) (before held later : List Cell) (n : ℕ) (typed : TypedValue) (node : Bor Node) → n < length values
     → AddsValues (take n values) before held → later ≡ held ++ cell_forms.Code node 0 ∷ [] → node.now ≡ typed.value.value → typed ≡ get_or values n typed

@@ -13,7 +13,8 @@ use Rattle.cc_machine.specs.Standing.{StandsFor, StandsSoundly, with_devices, St
 use Rattle.cc_meta_runs.specs.Answers.{shown}
 use Rattle.cc_meta_runs.specs.Machine.{Configuration, Final, step}
 use Rattle.cc_meta_runs.specs.Runs.{State, Move, IsStuck, IsFinal, Moves, move, closed, with_event, Ends, Run, ended, after_move, end_with, ending_of, run_on, run}
-use Rattle.cc_meta_runs.specs.SoundRuns.{HasShapesOfCells, IsAmong}
+use Rattle.cc_meta_runs.specs.SoundRuns.{HasShapesOfCells}
+use Rattle.cc_meta_runs.specs.SafeRuns.{IsAmong}
 use Rattle.cc_meta_runs.proofs.Erasure.{erased_move, shown-erased}
 use Rattle.cc_meta_runs.proofs.Finality.{final_exactly_where_answered, final_states_are_answered}
 use Rattle.cc_meta_runs.proofs.RunSteps.{out_of_fuel_exactly}
@@ -35,18 +36,6 @@ pub record GoesOnward (fuel : ℕ) (held : Configuration) (devices : Devices) (e
 abbrev pub AllGoOnward : ℕ → Configuration → Devices → List Event → ℕ → Configuration → Devices → Type 0
 AllGoOnward fuel held devices events steps held' devices' =
     (configuration : Configuration) → StandsFor held configuration → GoesOnward fuel held devices events steps held' devices' configuration
-
-pub begins_onward : (fuel : ℕ) (held : Configuration) (devices : Devices) → AllGoOnward fuel held devices [] 0 held devices
-begins_onward fuel held devices c stands =
-    let same : fuel - 0 ≡ fuel = omega arith in
-    record {
-      now = c;
-      stands = stands;
-      onward = sym (ap (λ n. onward [] 0 (run n (with_devices c devices))) same ∙ ap (λ n. record (run fuel (with_devices c devices)) { steps = n }) (zero_more (run fuel (with_devices c devices)).steps));
-    }
-  where
-    zero_more : (n : ℕ) → 0 + n ≡ n
-    zero_more n = omega arith
 
 abbrev pub listed : Option Event → List Event
 listed None = []

@@ -15,8 +15,8 @@ use Rattle.cc_meta_runs.specs.Machine.{Configuration, Final, step}
 use Rattle.cc_meta_runs.specs.Reach.{SetReaches, captured_set}
 use Rattle.cc_meta_runs.specs.RunLaws.{StillGoesOn}
 use Rattle.cc_meta_runs.specs.Runs.{Ends, run}
-use Rattle.cc_meta_runs.specs.Soundness.{scopes_of, IsSound}
-use Rattle.cc_meta_runs.specs.SoundRuns.{IsAmong}
+use Rattle.cc_meta_runs.specs.Soundness.{IsSound}
+use Rattle.cc_meta_runs.specs.SafeRuns.{scopes_of, IsAmong}
 
 -- the end of what takes no further step: with what is shown at a final configuration, and out of fuel at any other
 abbrev pub HasEnd : Configuration → End → Type 0

@@ -7,8 +7,8 @@ use Rattle.cc_core.specs.Derivations.{Claim, SetBelow, ShapeBelow, TypeBelow, Of
 use Rattle.cc_core.specs.Occurrences.{MeetsInNote, HasNoHoleInType, without_holes}
 use Rattle.cc_core.proofs.Sorts.{NoteSort}
 use Rattle.cc_sets.specs.Verdicts.{Definition, Accepted, IsAccepted, HasVerdict}
-use Rattle.cc_meta_checking.specs.CheckingLaws.{Fits, definition_context}
-use Rattle.cc_meta_checking.specs.CanonicalLaws.{accepted_derived}
+use Rattle.cc_meta_checking.specs.CheckingLaws.{Fits}
+use Rattle.cc_meta_checking.specs.AcceptedDefinitions.{definition_context, accepted_derived}
 use Rattle.cc_meta_checking.specs.FillingLaws.{AreGlobals}
 use Rattle.cc_meta_checking.proofs.CheckedDefinitions.{accepted_parts, accepted_sound, no_hole}
 use Rattle.cc_meta_checking.proofs.DerivedDefinitions.{definitions_valid}

@@ -11,14 +11,13 @@ use Rattle.cc_core.specs.Shapes.{Shape, BaseShape, AnyShape, TypeVariable, Funct
 use Rattle.cc_core.specs.Contexts.{Bind, TermEntry, TypeEntry, Context, lookup}
 use Rattle.cc_core.specs.Comparison.{same_shape}
 use Rattle.cc_core.specs.Occurrences.{IsNoHole, HasNoHoleInSet}
-use Rattle.cc_core.specs.Substitution.{single, moving, put_variable, opened_type}
+use Rattle.cc_core.specs.Substitution.{moving, put_variable, opened_type}
 use Rattle.cc_core.specs.Derivations.{Claim, SetBelow, ShapeBelow, TypeBelow, OfType, Derivation, Premises, Node, NoPremise, Premise}
 use Rattle.cc_core.proofs.Lookups.{lookup-cases}
-use Rattle.cc_core.proofs.Moving.{Member-single}
 use Rattle.cc_sets.specs.Comparison.{bound_in, bound_of, is_any}
 use Rattle.cc_sets.specs.Weights.{enough_steps}
 use Rattle.cc_sets.specs.CanonicalDerivations.{Deriving, premises_for, elements_derived, derived_at, element_derived, set_derived, type_derived, bound_derived, functions_derived, type_functions_derived, boxes_derived, form_derived, shape_derived, canonical_shapes}
-use Rattle.cc_meta_checking.proofs.Tameness.{Closed, LeavesHoles-moving, act_closed, act_set_closed}
+use Rattle.cc_meta_checking.proofs.Tameness.{Closed, LeavesHoles-moving, act_closed, act_set_closed, no_hole_single}
 use Rattle.cc_certificate_text.proofs.SetOrders.{listed_all}
 use Rattle.cc_meta_certificates.specs.CertificateLaws.{GoesByBound}
 
@@ -61,9 +60,6 @@ pub either : (b : Bool) (x y : Derivation) → IsHoleless x → IsHoleless y →
 either true x y h k = h
 either false x y h k = k
 
-pub closed_single : (e : Elem) → IsNoHole e → HasNoHoleInSet (single e)
-closed_single e k x m = subst IsNoHole (sym (Member-single x e m)) k
-
 closed_elements : (set : Set) → HasNoHoleInSet set → AllByRecursion IsNoHole set.list
 unfolding contains
 closed_elements set closed = listed_all IsNoHole set.list closed
@@ -84,7 +80,7 @@ derived_at_holeless : (deeper : Elem → Derivation) (entry : Bind) (n : ℕ) (r
     → ClosedEntry entry → HasNoHoleInSet right → IsNoHole e → IsHoleless (derived_at deeper entry n right e)
 derived_at_holeless deeper (TermEntry shape declared) n right (Variable (Free other)) each entry r none =
     either (nat_eq other n) _ _
-    ((closed_single (Variable (Free other)) tt, r), tt, (elements_holeless deeper each declared right entry.1 r, tt))
+    ((no_hole_single (Variable (Free other)) tt, r), tt, (elements_holeless deeper each declared right entry.1 r, tt))
     (each (Variable (Free other)) tt)
 derived_at_holeless deeper (TermEntry shape declared) n right (Variable (Bound i)) each entry r none = each (Variable (Bound i)) none
 derived_at_holeless deeper (TermEntry shape declared) n right Cap each entry r none = each Cap none
@@ -93,9 +89,9 @@ derived_at_holeless deeper (TypeEntry bound) n right e each entry r none = each 
 
 element_holeless : (g : Context) (right : Set) (e : Elem) → ClosedContext g → HasNoHoleInSet right → IsNoHole e
     → IsHoleless (element_derived g right e)
-element_holeless [] right e closed r none = ((closed_single e none, r), tt, tt)
+element_holeless [] right e closed r none = ((no_hole_single e none, r), tt, tt)
 element_holeless (entry ∷ older) right e closed r none =
-    either (contains e right) _ _ ((closed_single e none, r), tt, tt)
+    either (contains e right) _ _ ((no_hole_single e none, r), tt, tt)
     (derived_at_holeless (element_derived older right) entry (length older) right e
     (λ x k. element_holeless older right x closed.1 r k) closed.0 r none)
 

@@ -5,87 +5,65 @@ use Rattle.cc_base.specs.declared.literal.Base.TheVariants as bases
 use Rattle.cc_base.specs.declared.literal.Op.{Op}
 use Rattle.cc_capture.specs.declared.var.Var.{Var}
 use Rattle.cc_capture.specs.declared.var.Var.TheVariants.{Bound, Free}
-use Rattle.cc_capture.specs.declared.var.Elem.{Elem}
-use Rattle.cc_capture.specs.declared.var.Elem.TheVariants.{Var as Variable, Cap, Hole}
-use Rattle.cc_capture.specs.Sets.{Set, Member, empty, union}
-use Rattle.cc_capture.proofs.Membership.{Member-empty, Member-union, Member-flat_image}
+use Rattle.cc_capture.specs.declared.var.Elem.TheVariants.{Cap}
+use Rattle.cc_capture.specs.Sets.{Set, empty, union}
+use Rattle.cc_capture.proofs.Membership.{Member-empty}
 use Rattle.cc_core.specs.Shapes.{Shape, BaseShape, AnyShape, TypeVariable, FunctionShape, TypeFunctionShape, BoxShape, ExitShape, CapturingType, capturing}
 use Rattle.cc_core.specs.Terms.{Note, Absent, Written, Own, Term, VariableTerm, LiteralTerm, FunctionTerm, TypeFunctionTerm, BoxTerm, Application, TypeApplication, Unboxing, Let, Primitive, Conditional, Repetition, Operation, Boundary, Leave}
 use Rattle.cc_core.specs.Contexts.{Bind, TermEntry, TypeEntry, Context, lookup, entry_of}
 use Rattle.cc_core.specs.Comparison.{same_type}
-use Rattle.cc_core.specs.Captured.{captured_variables, variable_set, optional_set, without_binder, outside, is_unused_value}
-use Rattle.cc_core.specs.Occurrences.{IsNoHole, HasNoHoleInSet, Meets, MeetsInTerm, MeetsInNote, MeetsInOptionalSet, without_holes}
+use Rattle.cc_core.specs.Captured.{captured_variables, variable_set, optional_set, without_binder, is_unused_value}
+use Rattle.cc_core.specs.Occurrences.{HasNoHoleInSet, Meets, MeetsInTerm, MeetsInNote, MeetsInOptionalSet, without_holes}
 use Rattle.cc_core.specs.Reading.{read_variable}
 use Rattle.cc_core.specs.Substitution.{moving, put_variable, closed_variable, putting_shape, closed_type, replaced_type, replaced_type_by_shape}
 use Rattle.cc_core.specs.Typing.{base_taken}
 use Rattle.cc_core.specs.Derivations.{SetBelow, ShapeBelow, TypeBelow, OfType, Derivation, Node}
-use Rattle.cc_core.proofs.Moving.{Member-single}
 use Rattle.cc_sets.specs.Avoidance.{Positive, avoided_type}
 use Rattle.cc_sets.specs.CanonicalDerivations.{canonical_shapes, typed, raised, raised_if, shape_of_entry, shape_at, variable_derived, head_derived, operand_derived, given_derived, application_derived, type_application_derived, unboxing_derived, operation_derived, exit_derived, argument_in, noted_derived, avoided_or, left_derived, choice_derived, term_derived, definition_derived}
 use Rattle.cc_sets.specs.Exposing.{followed, exposed}
 use Rattle.cc_sets.specs.Inference.{in_context, set_in, shape_in, type_in, exit_entry}
 use Rattle.cc_meta_typing.proofs.Avoiding.{avoided_type_parts}
 use Rattle.cc_meta_checking.proofs.Signatures.{avoided_set_closed, avoided_closed}
-use Rattle.cc_meta_checking.proofs.Tameness.{Closed, closed_from, LeavesHoles-moving, LeavesHoles-putting_shape, act_closed, act_set_closed}
-use Rattle.cc_meta_checking.proofs.TameFindings.{closed_to}
+use Rattle.cc_meta_checking.proofs.Tameness.{Closed, closed_from, no_hole_single, LeavesHoles-moving, LeavesHoles-putting_shape, act_closed, act_set_closed}
+use Rattle.cc_meta_checking.proofs.TameFindings.{closed_to, no_hole_outside, no_hole_union, no_hole_variable, read_set_closed}
 use Rattle.std.specs.Prelude.{nat_eq}
-use Rattle.cc_meta_certificates.proofs.HolelessComparisons.{ClosedType, IsHoleless, ClosedEntry, ClosedContext, closed_entry, either, closed_single, canonical_holeless, type_holeless}
+use Rattle.cc_meta_certificates.proofs.HolelessComparisons.{ClosedType, IsHoleless, ClosedEntry, ClosedContext, closed_entry, either, canonical_holeless, type_holeless}
 
 closed_empty : HasNoHoleInSet empty
 closed_empty x m = absurd (Member-empty x m)
 
-closed_union : (a b : Set) → HasNoHoleInSet a → HasNoHoleInSet b → HasNoHoleInSet (union a b)
-closed_union a b p q x m = elim ((Member-union x a b).0 m) as (λ _. IsNoHole x) [ inl l ↦ p x l | inr r ↦ q x r ]
-
-closed_outside : (c : Set) → HasNoHoleInSet c → HasNoHoleInSet (without_binder c)
-closed_outside c k x m = let from = (Member-flat_image outside x c).0 m in by_element from.0 (k from.0 from.1) from.2
-  where
-    by_element : (e : Elem) → IsNoHole e → Member x (outside e) → IsNoHole x
-    by_element (Variable (Bound zero)) n l = absurd (Member-empty x l)
-    by_element (Variable (Bound (suc i))) n l = subst IsNoHole (sym (Member-single x (Variable (Bound i)) l)) tt
-    by_element (Variable (Free p)) n l = subst IsNoHole (sym (Member-single x (Variable (Free p)) l)) tt
-    by_element Cap n l = subst IsNoHole (sym (Member-single x Cap l)) tt
-    by_element (Hole h) n l = absurd n
-
-closed_variable_set : (v : Var) → HasNoHoleInSet (variable_set v)
-closed_variable_set v = closed_single (Variable v) tt
-
 -- no hole is captured
 captured_closed : (t : Term) (d : ℕ) → MeetsInTerm without_holes d t → HasNoHoleInSet (captured_variables t)
-captured_closed (VariableTerm v) d k = closed_variable_set v
+captured_closed (VariableTerm v) d k = no_hole_variable v
 captured_closed (LiteralTerm l) d k = closed_empty
-captured_closed (FunctionTerm s c t) d k = closed_outside (captured_variables t) (captured_closed t (suc d) k.2)
-captured_closed (TypeFunctionTerm s t) d k = closed_outside (captured_variables t) (captured_closed t (suc d) k.1)
+captured_closed (FunctionTerm s c t) d k = no_hole_outside (captured_variables t) (captured_closed t (suc d) k.2)
+captured_closed (TypeFunctionTerm s t) d k = no_hole_outside (captured_variables t) (captured_closed t (suc d) k.1)
 captured_closed (BoxTerm v) d k = closed_empty
-captured_closed (Application v w) d k = closed_union (variable_set v) (variable_set w) (closed_variable_set v) (closed_variable_set w)
-captured_closed (TypeApplication v s) d k = closed_variable_set v
-captured_closed (Unboxing (Some c) v) d k = closed_union c (variable_set v) k.0 (closed_variable_set v)
-captured_closed (Unboxing None v) d k = closed_union empty (variable_set v) closed_empty (closed_variable_set v)
+captured_closed (Application v w) d k = no_hole_union (variable_set v) (variable_set w) (no_hole_variable v) (no_hole_variable w)
+captured_closed (TypeApplication v s) d k = no_hole_variable v
+captured_closed (Unboxing (Some c) v) d k = no_hole_union c (variable_set v) k.0 (no_hole_variable v)
+captured_closed (Unboxing None v) d k = no_hole_union empty (variable_set v) closed_empty (no_hole_variable v)
 captured_closed (Let n s t) d k =
-    by_test (is_unused_value s (captured_variables t)) (closed_outside (captured_variables t) (captured_closed t (suc d) k.2)) (captured_closed s d k.1)
+    by_test (is_unused_value s (captured_variables t)) (no_hole_outside (captured_variables t) (captured_closed t (suc d) k.2)) (captured_closed s d k.1)
   where
     by_test : (b : Bool) → HasNoHoleInSet (without_binder (captured_variables t)) → HasNoHoleInSet (captured_variables s)
         → HasNoHoleInSet (cond b (without_binder (captured_variables t)) (union (captured_variables s) (without_binder (captured_variables t))))
     by_test true p q = p
-    by_test false p q = closed_union (captured_variables s) (without_binder (captured_variables t)) q p
-captured_closed (Primitive o v w) d k = closed_union (variable_set v) (variable_set w) (closed_variable_set v) (closed_variable_set w)
+    by_test false p q = no_hole_union (captured_variables s) (without_binder (captured_variables t)) q p
+captured_closed (Primitive o v w) d k = no_hole_union (variable_set v) (variable_set w) (no_hole_variable v) (no_hole_variable w)
 captured_closed (Conditional n v s t) d k =
-    closed_union (variable_set v) (union (captured_variables s) (captured_variables t)) (closed_variable_set v)
-    (closed_union (captured_variables s) (captured_variables t) (captured_closed s d k.2) (captured_closed t d k.3))
-captured_closed (Repetition v w) d k = closed_union (variable_set v) (variable_set w) (closed_variable_set v) (closed_variable_set w)
-captured_closed (Operation o v (Some w)) d k = closed_union (variable_set v) (variable_set w) (closed_variable_set v) (closed_variable_set w)
-captured_closed (Operation o v None) d k = closed_union (variable_set v) empty (closed_variable_set v) closed_empty
-captured_closed (Boundary s t) d k = closed_outside (captured_variables t) (captured_closed t (suc d) k.1)
-captured_closed (Leave s c v w) d k = closed_union (variable_set v) (variable_set w) (closed_variable_set v) (closed_variable_set w)
+    no_hole_union (variable_set v) (union (captured_variables s) (captured_variables t)) (no_hole_variable v)
+    (no_hole_union (captured_variables s) (captured_variables t) (captured_closed s d k.2) (captured_closed t d k.3))
+captured_closed (Repetition v w) d k = no_hole_union (variable_set v) (variable_set w) (no_hole_variable v) (no_hole_variable w)
+captured_closed (Operation o v (Some w)) d k = no_hole_union (variable_set v) (variable_set w) (no_hole_variable v) (no_hole_variable w)
+captured_closed (Operation o v None) d k = no_hole_union (variable_set v) empty (no_hole_variable v) closed_empty
+captured_closed (Boundary s t) d k = no_hole_outside (captured_variables t) (captured_closed t (suc d) k.1)
+captured_closed (Leave s c v w) d k = no_hole_union (variable_set v) (variable_set w) (no_hole_variable v) (no_hole_variable w)
 
 -- what is read, closed and put
 read_shape_closed : (g : Context) (d : ℕ) (s : Shape) → Meets without_holes d s → Closed (shape_in g s)
 read_shape_closed g d s k =
     act_closed (moving (read_variable (length g))) (LeavesHoles-moving (read_variable (length g))) 0 s (closed_from d s k)
-
-read_set_closed : (g : Context) (c : Set) → HasNoHoleInSet c → HasNoHoleInSet (set_in g c)
-read_set_closed g c k =
-    act_set_closed (moving (read_variable (length g))) (LeavesHoles-moving (read_variable (length g))) 0 c k
 
 read_type_closed : (g : Context) (d : ℕ) (s : Shape) (c : Set) → Meets without_holes d s → HasNoHoleInSet c
     → ClosedType (type_in g (capturing s c))
@@ -137,7 +115,7 @@ exposed_closed [] s t k = k
 exposed_closed (b ∷ g) s t k = exposed_closed g (followed b (length g) s) t.1 (followed_closed b (length g) s t.0 k)
 
 variable_holeless : (g : Context) (v : Var) → ClosedContext g → IsHoleless (variable_derived g v)
-variable_holeless g v closed = ((shape_at_closed g v closed, closed_variable_set v), tt, tt)
+variable_holeless g v closed = ((shape_at_closed g v closed, no_hole_variable v), tt, tt)
 
 exposed_at : (g : Context) (v : Var) → ClosedContext g → Closed (exposed g (shape_at g v))
 exposed_at g v closed = exposed_closed g (shape_at g v) closed (shape_at_closed g v closed)
@@ -145,13 +123,13 @@ exposed_at g v closed = exposed_closed g (shape_at g v) closed (shape_at_closed 
 head_holeless : (g : Context) (v : Var) → ClosedContext g → IsHoleless (head_derived canonical_shapes g v)
 head_holeless g v closed =
     raised_if_holeless g (variable_derived g v) (capturing (exposed g (shape_at g v)) (variable_set v)) closed
-    (variable_holeless g v closed) (exposed_at g v closed, closed_variable_set v)
+    (variable_holeless g v closed) (exposed_at g v closed, no_hole_variable v)
 
 operand_holeless : (g : Context) (v : Var) (s : Shape) → ClosedContext g → Closed s
     → IsHoleless (operand_derived canonical_shapes g v s)
 operand_holeless g v s closed k =
     raised_holeless g (variable_derived g v) (capturing s (variable_set v)) closed (variable_holeless g v closed)
-    (k, closed_variable_set v)
+    (k, no_hole_variable v)
 
 given_holeless : (g : Context) (v : Var) (t : CapturingType) → ClosedContext g → ClosedType t
     → IsHoleless (given_derived canonical_shapes g v t)
@@ -200,7 +178,7 @@ type_application_holeless g f a (ExitShape t) closed h k = ((tt, closed_empty), 
 unboxing_holeless : (g : Context) (set : Set) (box : Var) (s : Shape) → ClosedContext g → HasNoHoleInSet set → Closed s
     → IsHoleless (unboxing_derived canonical_shapes g set box s)
 unboxing_holeless g set box (BoxShape t c) closed h k =
-    ((k.0, h), tt, (given_holeless g box (capturing (BoxShape t set) (variable_set box)) closed ((k.0, h), closed_variable_set box), tt))
+    ((k.0, h), tt, (given_holeless g box (capturing (BoxShape t set) (variable_set box)) closed ((k.0, h), no_hole_variable box), tt))
 unboxing_holeless g set box (FunctionShape t c u e) closed h k = ((tt, closed_empty), tt, tt)
 unboxing_holeless g set box (TypeFunctionShape b u e) closed h k = ((tt, closed_empty), tt, tt)
 unboxing_holeless g set box (BaseShape b) closed h k = ((tt, closed_empty), tt, tt)
@@ -318,7 +296,7 @@ term_holeless (TypeFunctionTerm s t) g d closed k =
       (part, tt),
     )
 term_holeless (BoxTerm v) g d closed k = (
-  ((shape_at_closed g (in_context g v) closed, closed_variable_set (in_context g v)), closed_empty),
+  ((shape_at_closed g (in_context g v) closed, no_hole_variable (in_context g v)), closed_empty),
   tt,
   (variable_holeless g (in_context g v) closed, tt),
 )
@@ -365,7 +343,7 @@ term_holeless (Operation o v a) g d closed k =
     operation_holeless g o (in_context g v) (argument_in g a) (base_taken o) closed
 term_holeless (Boundary s t) g d closed k =
     let gives = read_shape_closed g d s k.0 in
-    let inner : ClosedContext (exit_entry (shape_in g s) ∷ g) = ((gives, closed_single Cap tt), closed) in
+    let inner : ClosedContext (exit_entry (shape_in g s) ∷ g) = ((gives, no_hole_single Cap tt), closed) in
     let part = term_holeless t (exit_entry (shape_in g s) ∷ g) (suc d) inner k.1 in (
       (gives, closed_empty),
       tt,

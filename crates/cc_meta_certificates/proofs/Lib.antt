@@ -11,7 +11,6 @@ pub mod NumberedTexts
 pub mod Places
 pub mod PresentableComparisons
 pub mod PresentableTypings
-pub mod SameTexts
 pub mod ValidCertificates
 pub mod WholeCertificates
 pub mod WholeTerms

@@ -9,7 +9,8 @@ use Rattle.cc_core.specs.Shapes.{CapturingType}
 use Rattle.cc_derivation.specs.Numbers.{own_number, premise_numbers}
 use Rattle.cc_sets.specs.DerivationSizes.{nodes, nodes_of}
 use Rattle.cc_print.specs.TypeTexts.{type_text}
-use Rattle.cc_certificate.specs.Certificates.{binds_first, binds_others, with_binder, rule_text, numbers_text, claim_text, node_line, node_lines, premise_lines}
+use Rattle.cc_certificate.specs.Certificates.{binds_first, binds_others, with_binder, node_lines, premise_lines}
+use Rattle.cc_certificate_text.specs.NodeTexts.{rule_text, numbers_text, claim_text, node_line}
 use Rattle.cc_certificate_text.specs.Certificates.{Concludes, Proving, binder_number, line_text, rule_kind, claim_kind, claim_height}
 use Rattle.cc_certificate_text.specs.LocalNames.{placed_claim, placed_type, has_binder, claim_has_binder}
 use Rattle.cc_meta_certificates.specs.CertificateLines.{numbered_claim, numbered_type, outermost_number, certificate_node, concluded_lines, premises_concluded}

@@ -31,7 +31,7 @@ deeper_place {names} {locals} {g} entry place formed = record {
   formed = (formed, place.formed);
 }
 
-none_of_types : (g : Context) → AllByRecursion IsTermEntry g → (p : ℕ) → lookup (kinds_of g) p ≡ Some TypeKind → ⊥
+pub none_of_types : (g : Context) → AllByRecursion IsTermEntry g → (p : ℕ) → lookup (kinds_of g) p ≡ Some TypeKind → ⊥
 none_of_types [] all p found = cc
 none_of_types (TypeEntry bound ∷ older) all p found = all.0
 none_of_types (TermEntry shape set ∷ older) all p found =

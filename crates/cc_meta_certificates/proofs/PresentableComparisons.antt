@@ -16,7 +16,7 @@ use Rattle.cc_certificate_text.proofs.SetOrders.{listed_all}
 use Rattle.cc_meta_certificates.specs.CertificateLaws.{IsPresentable, ArePresentable, IsOfBound, IsFinished, AreFinished}
 use Rattle.cc_meta_certificates.proofs.Places.{IsPlace, deeper_place, KindedClaim, claim_closed}
 
-element_kinds : (g : Context) (set : Set) → IsKindedSet (kinds_of g) [] set → AllByRecursion (IsKindedElement (kinds_of g) []) set.list
+pub element_kinds : (g : Context) (set : Set) → IsKindedSet (kinds_of g) [] set → AllByRecursion (IsKindedElement (kinds_of g) []) set.list
 unfolding contains
 element_kinds g set is = listed_all (IsKindedElement (kinds_of g) []) set.list is
 

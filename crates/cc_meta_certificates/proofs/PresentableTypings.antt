@@ -21,7 +21,7 @@ use Rattle.cc_meta_certificates.proofs.Places.{IsPlace, deeper_place, root_place
 use Rattle.cc_meta_certificates.proofs.PresentableComparisons.{comparison_presentable}
 
 -- the type that a valid derivation concludes is well formed
-concluded_kinded : (g : Context) (t : Term) (d : Derivation) (s : Shape) (c : Set) → IsKindedContext g
+pub concluded_kinded : (g : Context) (t : Term) (d : Derivation) (s : Shape) (c : Set) → IsKindedContext g
     → IsKindedTerm (kinds_of g) [] t → IsValidTyping g t d → conclusion d ≡ OfType (capturing s c)
     → IsKindedType (kinds_of g) [] (capturing s c)
 concluded_kinded g t d s c formed is valid concludes =

@@ -6,7 +6,7 @@ use Rattle.cc_meta_certificates.specs.CertificateLaws.{IsPresentable, IsPresenta
 use Rattle.cc_meta_certificates.proofs.PresentableTypings.{valid_presentable}
 use Rattle.cc_meta_certificates.proofs.WholeCertificates.{written_are_certificates}
 
-term_entries : (g : Context) → AllByRecursion IsPresentableEntry g → AllByRecursion IsTermEntry g
+pub term_entries : (g : Context) → AllByRecursion IsPresentableEntry g → AllByRecursion IsTermEntry g
 term_entries [] all = tt
 term_entries (TermEntry shape set ∷ older) all = (tt, term_entries older all.1)
 term_entries (TypeEntry bound ∷ older) all = absurd all.0

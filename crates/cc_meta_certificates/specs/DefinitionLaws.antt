@@ -11,8 +11,8 @@ use Rattle.cc_core.specs.Occurrences.{HasNoHoleInTerm}
 use Rattle.cc_core.specs.Derivations.{Derivation, Premises, Node, NoPremise, Premise, IsValidTyping}
 use Rattle.cc_sets.specs.DerivationSizes.{nodes}
 use Rattle.cc_sets.specs.Verdicts.{Definition, Accepted, IsAccepted, HasVerdict}
-use Rattle.cc_meta_checking.specs.CheckingLaws.{Fits, definition_context}
-use Rattle.cc_meta_checking.specs.CanonicalLaws.{accepted_derived}
+use Rattle.cc_meta_checking.specs.CheckingLaws.{Fits}
+use Rattle.cc_meta_checking.specs.AcceptedDefinitions.{definition_context, accepted_derived}
 use Rattle.cc_certificate.specs.Certificates.{certificate_text}
 use Rattle.cc_certificate_text.specs.Certificates.{Line, IsWritten, IsWrittenLiteral, claim_height, IsCertificate}
 use Rattle.cc_certificate_text.specs.Heights.{shape_height, term_height}

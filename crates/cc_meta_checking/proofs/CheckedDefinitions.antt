@@ -27,7 +27,8 @@ use Rattle.cc_sets.specs.Inference.{limited}
 use Rattle.cc_sets.specs.Verdicts.{Definition, Checking, plain_checked, recursive_checked, checked, Accepted, IsAccepted, accepted_with, signature_under, signature_verdict, signature_of, HasVerdict}
 use Rattle.cc_meta_typing.proofs.FormedContexts.{kinds_bound, IsKindedContext-test}
 use Rattle.cc_meta_checking.specs.FillingLaws.{AreGlobals}
-use Rattle.cc_meta_checking.specs.CheckingLaws.{Fits, definition_context, oldest}
+use Rattle.cc_meta_checking.specs.CheckingLaws.{Fits, oldest}
+use Rattle.cc_meta_checking.specs.AcceptedDefinitions.{definition_context}
 use Rattle.cc_meta_checking.proofs.FoundFindings.{asked_of, Came, then_came, finds_came, found_finds, below_came, noted_came, avoided_came}
 use Rattle.cc_meta_checking.proofs.ReadingKinds.{outermost}
 use Rattle.cc_meta_checking.proofs.FoundTypes.{regular, notes_kinded}

@@ -1,6 +1,6 @@
 -- Decisions: whether a member of a set has a property, whether each has it, and the set of the globals that have it.
 use Rattle.std.proofs.Common.{◌≡◌, ◌⊎◌, ◌↔◌, ℕ, zero, suc, ◌<◌, Bool, true, false, List, [], ◌∷◌, refl, sym, ap, ◌∙◌, subst, inl, inr, arith}
-use Rattle.std.proofs.lemmas.Bool.{cases_eq, or_cases, or_left, or_right, both_ways}
+use Rattle.std.proofs.lemmas.Bool.{cases_eq, both_ways}
 use Rattle.cc_capture.specs.declared.var.Var.TheVariants.{Bound, Free}
 use Rattle.cc_capture.specs.declared.var.Elem.{Elem}
 use Rattle.cc_capture.specs.declared.var.Elem.TheVariants.{Var as Variable, Cap, Hole}
@@ -12,6 +12,7 @@ use Rattle.cc_capture.proofs.Membership.{Member-empty, Member-insert}
 use Rattle.cc_core.specs.Substitution.{single}
 use Rattle.cc_core.proofs.Moving.{Member-single, Member-single_itself}
 use Rattle.cc_sets.specs.Fillings.{IsGlobal}
+use Rattle.cc_meta_checking.proofs.DecidedDemands.{listed_cases, listed_first, listed_later}
 
 -- it holds, or it does not
 abbrev pub Decided : Type 0 → Type 0
@@ -30,20 +31,6 @@ element_decided a b = from_test (same_element a b) refl
     from_test : (t : Bool) → same_element a b ≡ t → Decided (a ≡ b)
     from_test true is = inl (same_element-true a b is)
     from_test false is = inr (λ same. both_ways _ is (ap (same_element a) (sym same) ∙ same_element-itself a))
-
--- the elements of a list
-listed_first : (x : Elem) (xs : List Elem) → is_listed x (x ∷ xs) ≡ true
-listed_first x xs = or_left _ _ (same_element-itself x)
-
-listed_later : (e x : Elem) (xs : List Elem) → is_listed e xs ≡ true → is_listed e (x ∷ xs) ≡ true
-listed_later e x xs m = or_right _ _ m
-
-listed_cases : (e x : Elem) (xs : List Elem) → is_listed e (x ∷ xs) ≡ true → (e ≡ x) ⊎ (is_listed e xs ≡ true)
-listed_cases e x xs m =
-    elim (or_cases (same_element e x) (is_listed e xs) m) as (λ _. (e ≡ x) ⊎ (is_listed e xs ≡ true)) [
-      | inl same ↦ inl (same_element-true e x same)
-      | inr there ↦ inr there
-    ]
 
 -- some element of the list has the property
 abbrev AnyOf : (Elem → Type 0) → List Elem → Type 0

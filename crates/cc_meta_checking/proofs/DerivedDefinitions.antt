@@ -24,8 +24,8 @@ use Rattle.cc_sets.specs.CanonicalDerivations.{canonical_shapes, raised, noted_d
 use Rattle.cc_sets.specs.Verdicts.{Definition, Checking, plain_checked, recursive_checked, Accepted, IsAccepted, signature_under, signature_of, HasVerdict}
 use Rattle.cc_meta_typing.proofs.FormedContexts.{kinds_bound, IsKindedContext-test, some_is}
 use Rattle.cc_meta_checking.specs.FillingLaws.{AreGlobals}
-use Rattle.cc_meta_checking.specs.CheckingLaws.{Fits, definition_context}
-use Rattle.cc_meta_checking.specs.CanonicalLaws.{right_side_derived, accepted_derived}
+use Rattle.cc_meta_checking.specs.CheckingLaws.{Fits}
+use Rattle.cc_meta_checking.specs.AcceptedDefinitions.{definition_context, right_side_derived, accepted_derived}
 use Rattle.cc_meta_checking.proofs.CanonicalShapes.{canonical_shapes_valid}
 use Rattle.cc_meta_checking.proofs.Findings.{Notes, notes-absent, notes-written, notes-own, Finds}
 use Rattle.cc_meta_checking.proofs.FoundFindings.{asked_of, Came, then_came, finds_came, found_finds, below_came, noted_came, avoided_came}

@@ -32,19 +32,19 @@ use Rattle.cc_meta_checking.proofs.FoundTypes.{notes_kinded, left_kinded, regula
 use Rattle.cc_meta_checking.proofs.DerivedRows.{each_holds-parts, types_hold, Derives, gives, DerivesAll, of_term, raised_valid, raised_if_valid, variable_valid, row_box, row_application, row_type_application, row_unboxing, row_operation, row_operation_alone, row_exit, row_primitive, row_repetition, row_function, row_type_function, row_boundary, row_choice}
 
 -- parts of equal terms
-function_part : {x y : Shape} {c d : Set} {t u : Term} → FunctionTerm x c t ≡ FunctionTerm y d u → t ≡ u
+pub function_part : {x y : Shape} {c d : Set} {t u : Term} → FunctionTerm x c t ≡ FunctionTerm y d u → t ≡ u
 function_part e = cc
 
-type_function_part : {x y : Shape} {t u : Term} → TypeFunctionTerm x t ≡ TypeFunctionTerm y u → t ≡ u
+pub type_function_part : {x y : Shape} {t u : Term} → TypeFunctionTerm x t ≡ TypeFunctionTerm y u → t ≡ u
 type_function_part e = cc
 
-boundary_part : {x y : Shape} {t u : Term} → Boundary x t ≡ Boundary y u → t ≡ u
+pub boundary_part : {x y : Shape} {t u : Term} → Boundary x t ≡ Boundary y u → t ≡ u
 boundary_part e = cc
 
-let_parts : {m n : Note} {t t' u u' : Term} → Let m t t' ≡ Let n u u' → (m ≡ n) × (t ≡ u) × (t' ≡ u')
+pub let_parts : {m n : Note} {t t' u u' : Term} → Let m t t' ≡ Let n u u' → (m ≡ n) × (t ≡ u) × (t' ≡ u')
 let_parts e = (cc, cc, cc)
 
-choice_parts : {m n : Note} {v w : _} {t t' u u' : Term} → Conditional m v t t' ≡ Conditional n w u u'
+pub choice_parts : {m n : Note} {v w : _} {t t' u u' : Term} → Conditional m v t t' ≡ Conditional n w u u'
     → (m ≡ n) × (t ≡ u) × (t' ≡ u')
 choice_parts e = (cc, cc, cc)
 

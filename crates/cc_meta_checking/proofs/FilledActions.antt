@@ -1,5 +1,5 @@
 -- Filling with sets of globals commutes with exposing, with avoiding a position that is not global, and with capturing.
-use Rattle.std.proofs.Common.{◌≡◌, ℕ, suc, ◌<◌, ◌≤◌, Bool, true, false, ◌||◌, cond, [], ◌∷◌, length, Some, refl, sym, ap, ◌∙◌, subst, arith}
+use Rattle.std.proofs.Common.{◌≡◌, ℕ, suc, ◌<◌, ◌≤◌, true, false, ◌||◌, cond, [], ◌∷◌, length, Some, refl, sym, ap, ◌∙◌, subst, arith}
 use Rattle.std.specs.Prelude.{nat_eq}
 use Rattle.std.specs.Option.{option_map}
 use Rattle.cc_capture.specs.declared.var.Var.TheVariants.{Bound, Free}
@@ -8,6 +8,7 @@ use Rattle.cc_capture.specs.declared.var.Elem.TheVariants.{Var as Variable, Cap,
 use Rattle.cc_capture.specs.Sets.{Set, Member, remove, union}
 use Rattle.cc_capture.proofs.Membership.{same_members, Member-remove, Member-flat_image}
 use Rattle.cc_capture.proofs.Images.{flat_image-union}
+use Rattle.cc_capture.proofs.WordSets.{alike}
 use Rattle.cc_core.specs.Shapes.{Shape, BaseShape, AnyShape, TypeVariable, FunctionShape, TypeFunctionShape, BoxShape, ExitShape, CapturingType, capturing}
 use Rattle.cc_core.specs.Terms.{Term}
 use Rattle.cc_core.specs.Contexts.{Bind, TermEntry, TypeEntry, Context}
@@ -42,11 +43,6 @@ exposed-filled f (b ∷ g) s =
     (λ i. exposed (filled_context f g) (followed (filled_entry f b) (length-filled f g i) (filled f s)))
     ∙ ap (exposed (filled_context f g)) (followed-filled f b (length g) s) ∙ exposed-filled f g (followed b (length g) s)
 
-same_test : (a b : Bool) → (a ≡ true → b ≡ true) → (b ≡ true → a ≡ true) → a ≡ b
-same_test true b f g = sym (f refl)
-same_test false true f g = g refl
-same_test false false f g = refl
-
 no_variable : (p : ℕ) → Variable (Free p) ≡ Cap → ⊥
 no_variable p e = cc
 
@@ -67,7 +63,7 @@ module _ (root : ℕ) (f : Filling) (over : IsOverGlobals root f) where
 
     has_position-filled : (d : ℕ) (set : Set) → has_position position (act_set (filling_in f) d set) ≡ has_position position set
     has_position-filled d set =
-        same_test _ _
+        alike _ _
         (λ here.
         let from = (Member-flat_image (filled_element f) place set).0 here in
         subst (λ e. Member e set) (fills_place from.0 from.2) from.1)

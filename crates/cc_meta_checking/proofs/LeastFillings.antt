@@ -98,7 +98,7 @@ served f list asked (before, placed, after, is, same) all =
     inside [] placed after all = all.0
     inside (p ∷ before) placed after all = inside before placed after all.1
 
-serves_all : (f : Filling) (list : List Placed) → ((asked : Asked) → IsAskedIn list asked → IsServed f asked) → AllServed f list
+pub serves_all : (f : Filling) (list : List Placed) → ((asked : Asked) → IsAskedIn list asked → IsServed f asked) → AllServed f list
 serves_all f [] each = tt
 serves_all f (p ∷ list) each =
     (each p.asked ([], p, list, refl, refl), serves_all f list (λ asked (before, placed, after, is, same). each asked (p ∷ before, placed, after, ap (λ l. p ∷ l) is, same)))

@@ -5,6 +5,7 @@ use Rattle.cc_core.specs.Contexts.{Context}
 use Rattle.cc_sets.specs.Outcomes.{Asked, IsBelow, Placed}
 use Rattle.cc_sets.specs.Fillings.{Filling, IsServed, AllServed, IsAskedIn, Comes, global, capability, local, forced}
 use Rattle.cc_meta_checking.specs.FillingLaws.{OrderDoesNotMatter}
+use Rattle.cc_meta_checking.proofs.LeastFillings.{serves_all}
 
 -- what comes where less is asked comes where more is
 comes_more : (root : ℕ) (first second : List Placed) → ((asked : Asked) → IsAskedIn first asked → IsAskedIn second asked)
@@ -22,13 +23,6 @@ served_each f list all asked (before, p, after, is, same) = subst (IsServed f) s
     inside [] all = all.0
     inside (x ∷ before) all = inside before all.1
 
-each_served : (f : Filling) (list : List Placed) → ((asked : Asked) → IsAskedIn list asked → IsServed f asked) → AllServed f list
-each_served f [] each = tt
-each_served f (p ∷ list) each = (
-  each p.asked ([], p, list, refl, refl),
-  each_served f list (λ asked (before, q, after, is, same). each asked (p ∷ before, q, after, ap (λ l. p ∷ l) is, same)),
-)
-
 pub order_does_not_matter : OrderDoesNotMatter
 order_does_not_matter root first second f same = (
   (
@@ -36,7 +30,7 @@ order_does_not_matter root first second f same = (
     λ least hole e. (λ m. comes_more root second first (λ a. (same a).1) ((least hole e).0 m), λ c. (least hole e).1 (comes_more root first second (λ a. (same a).0) c)),
   ),
   (
-    λ all. each_served f second (λ a asked. served_each f first all a ((same a).1 asked)),
-    λ all. each_served f first (λ a asked. served_each f second all a ((same a).0 asked)),
+    λ all. serves_all f second (λ a asked. served_each f first all a ((same a).1 asked)),
+    λ all. serves_all f first (λ a asked. served_each f second all a ((same a).0 asked)),
   ),
 )

@@ -23,7 +23,8 @@ use Rattle.cc_meta_checking.proofs.LeastFillings.{filled-still}
 use Rattle.cc_meta_checking.proofs.CheckedDefinitions.{accepted_parts, accepted_sound}
 use Rattle.cc_meta_checking.proofs.SignatureSets.{ComesFrom, of_devices, signature_comes}
 use Rattle.cc_meta_checking.specs.FillingLaws.{AreGlobals}
-use Rattle.cc_meta_checking.specs.CheckingLaws.{definition_context, oldest, SetsAreOverDevices, IsOfSetOrItsDefinitions, SignatureSetsAreOfDevices}
+use Rattle.cc_meta_checking.specs.CheckingLaws.{oldest, SetsAreOverDevices, IsOfSetOrItsDefinitions, SignatureSetsAreOfDevices}
+use Rattle.cc_meta_checking.specs.AcceptedDefinitions.{definition_context}
 
 -- the elements of a well-formed set without holes
 within_kinds : (g : Context) (c : Set) → IsKindedSet (kinds_of g) [] c → HasNoHoleInSet c → (e : Elem) → Member e c → IsGlobal (length g) e

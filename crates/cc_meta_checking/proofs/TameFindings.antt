@@ -39,16 +39,16 @@ use Rattle.cc_meta_checking.proofs.Signatures.{avoided_set_closed, avoided_close
 use Rattle.cc_meta_checking.proofs.Tameness.{Closed, Tame, closed_tame, closed_from, LeavesHoles, LeavesHoles-moving, LeavesHoles-putting_shape, act_set_closed, act_set_alone, act_closed, act_tame, TameEntry, TameContext, tame_entry, FitsIn, AllFitIn, fit_below, comparison_fits, types_fit}
 
 -- sets without holes
-no_hole_variable : (v : Var) → HasNoHoleInSet (variable_set v)
+pub no_hole_variable : (v : Var) → HasNoHoleInSet (variable_set v)
 no_hole_variable v x m = subst IsNoHole (sym (Member-single x (Variable v) m)) tt
 
 no_hole_empty : HasNoHoleInSet empty
 no_hole_empty x m = absurd (Member-empty x m)
 
-no_hole_union : (a b : Set) → HasNoHoleInSet a → HasNoHoleInSet b → HasNoHoleInSet (union a b)
+pub no_hole_union : (a b : Set) → HasNoHoleInSet a → HasNoHoleInSet b → HasNoHoleInSet (union a b)
 no_hole_union a b p q x m = elim ((Member-union x a b).0 m) as (λ _. IsNoHole x) [ inl l ↦ p x l | inr r ↦ q x r ]
 
-no_hole_outside : (c : Set) → HasNoHoleInSet c → HasNoHoleInSet (without_binder c)
+pub no_hole_outside : (c : Set) → HasNoHoleInSet c → HasNoHoleInSet (without_binder c)
 no_hole_outside c k x m = let from = (Member-flat_image outside x c).0 m in by_element from.0 (k from.0 from.1) from.2
   where
     by_element : (e : Elem) → IsNoHole e → Member x (outside e) → IsNoHole x
@@ -189,7 +189,7 @@ holes_read n = LeavesHoles-moving (read_variable n)
 read_closed : (g : Context) (s : Shape) → HasNoHole s → Closed (shape_in g s)
 read_closed g s k = act_closed (moving (read_variable (length g))) (holes_read (length g)) 0 s (closed_from 0 s k)
 
-read_set_closed : (g : Context) (c : Set) → HasNoHoleInSet c → HasNoHoleInSet (set_in g c)
+pub read_set_closed : (g : Context) (c : Set) → HasNoHoleInSet c → HasNoHoleInSet (set_in g c)
 read_set_closed g c k = act_set_closed (moving (read_variable (length g))) (holes_read (length g)) 0 c k
 
 read_set_alone : (g : Context) (c : Set) → HasHoleAloneOrNone c → HasHoleAloneOrNone (set_in g c)

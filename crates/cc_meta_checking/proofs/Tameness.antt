@@ -68,7 +68,7 @@ pub record LeavesHoles (a : Action) : Type 0 where
   pub leaves : (d h : ℕ) → a.element d (Hole h) ≡ single (Hole h)
   pub shapes : (d : ℕ) (v : Var) → Closed (a.shape d v)
 
-no_hole_single : (e : Elem) → IsNoHole e → HasNoHoleInSet (single e)
+pub no_hole_single : (e : Elem) → IsNoHole e → HasNoHoleInSet (single e)
 no_hole_single e k x m = subst IsNoHole (sym (Member-single x e m)) k
 
 pub LeavesHoles-moving : (move : ℕ → Var → Var) → LeavesHoles (moving move)

@@ -7,13 +7,14 @@ use Rattle.cc_core.specs.Subtyping.{Subtypes}
 use Rattle.cc_core.specs.Contexts.{Context}
 use Rattle.cc_core.specs.WellFormed.{IsWellFormedContext, IsWellFormedSet, IsWellFormedShape}
 use Rattle.cc_core.specs.Subcapturing.{SubcapturesSet}
-use Rattle.cc_core.specs.Derivations.{Derivation, OfType, IsValidComparison, IsValidTyping, Concludes, ConcludesSets}
+use Rattle.cc_core.specs.Derivations.{OfType, IsValidComparison, IsValidTyping, Concludes, ConcludesSets}
 use Rattle.cc_core.specs.Derivations.{ConcludesShapes}
-use Rattle.cc_sets.specs.CanonicalDerivations.{set_derived, canonical_shapes, noted_derived, term_derived}
+use Rattle.cc_sets.specs.CanonicalDerivations.{set_derived, canonical_shapes}
 use Rattle.cc_sets.specs.CanonicalDerivations.{definition_derived}
 use Rattle.cc_sets.specs.DerivationSizes.{nodes, canonical_shape_nodes, definition_counted}
 use Rattle.cc_sets.specs.Verdicts.{Definition, Accepted, IsAccepted, HasVerdict}
-use Rattle.cc_meta_checking.specs.CheckingLaws.{Fits, definition_context}
+use Rattle.cc_meta_checking.specs.CheckingLaws.{Fits}
+use Rattle.cc_meta_checking.specs.AcceptedDefinitions.{definition_context, right_side_derived, accepted_derived}
 
 -- where a set is below another, the canonical derivation of that is valid and concludes it
 abbrev pub CanonicalDerivationsOfSetsAreValid : Type 0
@@ -30,16 +31,6 @@ CanonicalDerivationsOfShapesAreValid =
     → IsWellFormedShape context right → Subtypes context left right
     → IsValidComparison context (canonical_shapes context left right)
     × ConcludesShapes (canonical_shapes context left right) left right
-
--- the canonical derivation of an accepted definition's right side, up to the type that was found or written
-abbrev pub right_side_derived : Context → Accepted → Derivation
-right_side_derived context accepted =
-    noted_derived canonical_shapes context accepted.note (term_derived canonical_shapes context accepted.filled)
-
--- and up to the type that others see
-abbrev pub accepted_derived : Context → Accepted → Derivation
-accepted_derived context accepted =
-    definition_derived canonical_shapes context accepted.note accepted.filled accepted.signature
 
 -- The canonical derivation of an accepted definition is valid for its filled right side in the definition's context,
 -- and concludes its type; and with its last node the type that others see.

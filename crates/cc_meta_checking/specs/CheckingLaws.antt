@@ -5,8 +5,8 @@ use Rattle.cc_capture.specs.declared.var.Var.TheVariants.{Free}
 use Rattle.cc_capture.specs.declared.var.Elem.{Elem}
 use Rattle.cc_capture.specs.declared.var.Elem.TheVariants.{Var as Variable}
 use Rattle.cc_capture.specs.Sets.{Set, Member}
-use Rattle.cc_core.specs.Shapes.{Shape, CapturingType}
-use Rattle.cc_core.specs.Contexts.{TermEntry, Context, lookup, entry_of}
+use Rattle.cc_core.specs.Shapes.{Shape}
+use Rattle.cc_core.specs.Contexts.{TermEntry, Context, lookup}
 use Rattle.cc_core.specs.Occurrences.{MeetsInNote, without_holes, HasNoHoleInType, HasNoHoleInTerm}
 use Rattle.cc_core.specs.WellFormed.{Kind, TermKind, kinds_of, is_well_formed_term, IsWellFormedContext}
 use Rattle.cc_core.specs.WellFormed.{IsWellFormedNote}
@@ -21,6 +21,7 @@ use Rattle.cc_sets.specs.Verdicts.{HasVerdict}
 use Rattle.cc_sets.specs.Verdicts.{HasAlgorithmicType}
 use Rattle.cc_core.specs.Holes.{HolesAreOfParameters}
 use Rattle.cc_meta_checking.specs.FillingLaws.{AreGlobals, AreFit}
+use Rattle.cc_meta_checking.specs.AcceptedDefinitions.{definition_context}
 
 -- the kinds of what a definition's right side may name: the globals, and its own name where it is recursive
 abbrev pub visible_kinds : Bool → Context → List Kind
@@ -34,11 +35,6 @@ pub record Fits (globals : Context) (definition : Definition) : Type 0 where
   pub note_formed : IsWellFormedNote globals definition.note
   pub note_closed : MeetsInNote without_holes 0 definition.note
   pub right_formed : IsTrue (is_well_formed_term (visible_kinds definition.recursive globals) [] definition.right)
-
--- the context of a definition's right side: the globals, and its own name with its signature where it is recursive
-abbrev pub definition_context : Context → Definition → CapturingType → Context
-definition_context globals definition signature =
-    if definition.recursive then entry_of signature ∷ globals else globals
 
 -- the entries of the devices alone
 abbrev pub oldest : ℕ → Context → Context

@@ -1,3 +1,4 @@
+pub mod AcceptedDefinitions
 pub mod CanonicalLaws
 pub mod CheckingLaws
 pub mod ExampleDefinitions

@@ -7,7 +7,7 @@ use Rattle.cc_capture.specs.declared.var.Var.{Var}
 use Rattle.cc_capture.specs.declared.var.Elem.TheVariants.{Cap}
 use Rattle.cc_capture.specs.Sets.{Set, empty}
 use Rattle.cc_core.specs.Shapes.{Shape, BaseShape, FunctionShape, TypeFunctionShape, BoxShape, ExitShape, CapturingType, capturing}
-use Rattle.cc_core.specs.Terms.{Note, Absent, Written, Own, Term, FunctionTerm, TypeFunctionTerm, Let, Conditional, Boundary}
+use Rattle.cc_core.specs.Terms.{Note, Absent, Written, Own, Term}
 use Rattle.cc_core.specs.Contexts.{Bind, TypeEntry, Context, entry_of, lookup}
 use Rattle.cc_core.specs.Captured.{variable_set}
 use Rattle.cc_core.specs.Comparison.{same_type}
@@ -35,7 +35,7 @@ use Rattle.cc_meta_typing.proofs.ExposingShapes.{exposed_above}
 use Rattle.cc_meta_typing.proofs.InternalConversions.{closed_in_set}
 use Rattle.cc_meta_checking.proofs.DerivedDefinitions.{canonical_derives}
 use Rattle.cc_meta_checking.proofs.DerivedRows.{each_holds-parts, gives, shape_there}
-use Rattle.cc_meta_checking.proofs.DerivedTerms.{finds_derived}
+use Rattle.cc_meta_checking.proofs.DerivedTerms.{finds_derived, function_part, type_function_part, boundary_part, let_parts, choice_parts}
 use Rattle.cc_meta_checking.proofs.FilledComparisons.{EachHolds}
 use Rattle.cc_meta_checking.proofs.Findings.{Has, Operand, below_all, Notes, notes-absent, notes-written, notes-own, Finds, finds-variable, finds-literal, finds-function, finds-type_function, finds-box, finds-application, finds-type_application, finds-unboxing, finds-unboxing_own, finds-let, finds-primitive, finds-choice, finds-choice_own, finds-repetition, finds-operation, finds-operation_alone, finds-boundary, finds-exit}
 use Rattle.cc_meta_checking.proofs.FoundTypes.{has_kinded, has_exposed, notes_kinded, left_kinded, regular}
@@ -180,23 +180,6 @@ let_becomes g formed f d k e t u v kt ku av p gp q gq =
           ∙ ap (λ (w : Derivation). let_node d w) left
           ∙ ap (λ (w : CapturingType). let_node d (left_derived canonical_shapes g w (e (entry_of w)))) (sym gp);
     }
-
--- parts of equal terms
-function_part : {x y : Shape} {c d : Set} {t u : Term} → FunctionTerm x c t ≡ FunctionTerm y d u → t ≡ u
-function_part e = cc
-
-type_function_part : {x y : Shape} {t u : Term} → TypeFunctionTerm x t ≡ TypeFunctionTerm y u → t ≡ u
-type_function_part e = cc
-
-boundary_part : {x y : Shape} {t u : Term} → Boundary x t ≡ Boundary y u → t ≡ u
-boundary_part e = cc
-
-let_parts : {m n : Note} {t t' u u' : Term} → Let m t t' ≡ Let n u u' → (m ≡ n) × (t ≡ u) × (t' ≡ u')
-let_parts e = (cc, cc, cc)
-
-choice_parts : {m n : Note} {v w : _} {t t' u u' : Term} → Conditional m v t t' ≡ Conditional n w u u'
-    → (m ≡ n) × (t ≡ u) × (t' ≡ u')
-choice_parts e = (cc, cc, cc)
 
 -- what is written for a type
 noted_becomes : {root : ℕ} {g : Context} {note : Note} {t : CapturingType} {m : Named} {ps : List Asked}

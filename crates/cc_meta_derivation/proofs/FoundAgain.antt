@@ -17,7 +17,8 @@ use Rattle.cc_sets.specs.Inference.{Result, result, limited}
 use Rattle.cc_sets.specs.Verdicts.{Definition, Checking, plain_checked, recursive_checked, Accepted, IsAccepted, signature_under, HasVerdict}
 use Rattle.cc_meta_typing.proofs.FormedContexts.{some_is}
 use Rattle.cc_meta_checking.specs.FillingLaws.{AreGlobals}
-use Rattle.cc_meta_checking.specs.CheckingLaws.{Fits, definition_context}
+use Rattle.cc_meta_checking.specs.CheckingLaws.{Fits}
+use Rattle.cc_meta_checking.specs.AcceptedDefinitions.{definition_context}
 use Rattle.cc_meta_checking.proofs.Findings.{Finds}
 use Rattle.cc_meta_checking.proofs.FoundFindings.{asked_of, Came, then_came, finds_came, found_finds, avoided_came}
 use Rattle.cc_meta_checking.proofs.ReadingKinds.{outermost}

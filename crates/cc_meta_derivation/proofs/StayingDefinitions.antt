@@ -15,8 +15,8 @@ use Rattle.cc_core.proofs.SubcapturingContexts.{IsKindedContext}
 use Rattle.cc_sets.specs.Inference.{type_in}
 use Rattle.cc_sets.specs.CanonicalDerivations.{type_derived, shape_derived, canonical_shapes, typed, raised, raised_if, noted_derived, term_derived, definition_derived}
 use Rattle.cc_sets.specs.Verdicts.{Definition, Accepted, IsAccepted, HasVerdict}
-use Rattle.cc_meta_checking.specs.CheckingLaws.{Fits, definition_context}
-use Rattle.cc_meta_checking.specs.CanonicalLaws.{accepted_derived}
+use Rattle.cc_meta_checking.specs.CheckingLaws.{Fits}
+use Rattle.cc_meta_checking.specs.AcceptedDefinitions.{definition_context, accepted_derived}
 use Rattle.cc_meta_checking.proofs.CheckedDefinitions.{accepted_sound}
 use Rattle.cc_meta_checking.proofs.DerivedDefinitions.{canonical_derives, accepted_derives}
 use Rattle.cc_meta_checking.proofs.DerivedRows.{Derives, gives}

@@ -3,8 +3,8 @@ use Rattle.std.specs.Prelude.{◌≡◌, ℕ, ◌≤◌}
 use Rattle.cc_core.specs.Contexts.{Context}
 use Rattle.cc_sets.specs.CanonicalDerivations.{shape_derived, definition_derived}
 use Rattle.cc_sets.specs.Verdicts.{Definition, Accepted, IsAccepted, HasVerdict}
-use Rattle.cc_meta_checking.specs.CheckingLaws.{Fits, definition_context}
-use Rattle.cc_meta_checking.specs.CanonicalLaws.{accepted_derived}
+use Rattle.cc_meta_checking.specs.CheckingLaws.{Fits}
+use Rattle.cc_meta_checking.specs.AcceptedDefinitions.{definition_context, accepted_derived}
 
 -- The canonical derivation of an accepted definition is the one that is made with any number of steps for each comparison
 -- of shapes, where the number is great enough. So it need not be known how many steps the weights allow.

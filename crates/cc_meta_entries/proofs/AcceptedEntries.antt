@@ -20,8 +20,8 @@ use Rattle.cc_meta_entries.specs.PresentEntries.{program_entry, started_in, IsRe
 use Rattle.cc_graph.specs.Graph.{ImportMap}
 use Rattle.cc_graph.proofs.NameLemmas.{is_same_name}
 use Rattle.cc_graph.proofs.Paths.{path-reaches}
-use Rattle.cc_meta_modules.specs.ModuleLaws.{NamesOfDevicesDiffer, in_program}
-use Rattle.cc_meta_modules.specs.ModuleVerdicts.{CheckedDefinition, ModuleVerdict, IsAccepted}
+use Rattle.cc_meta_modules.specs.ModuleLaws.{NamesOfDevicesDiffer}
+use Rattle.cc_meta_modules.specs.ModuleVerdicts.{CheckedDefinition, ModuleVerdict, IsAccepted, in_program}
 use Rattle.cc_meta_modules.specs.PresentTexts.{Texts, ArePresent, graph_of, AreVerdicts}
 use Rattle.cc_meta_entries.specs.EntryLaws.{EntriesOfTextsAreEntries}
 use Rattle.cc_meta_entries.specs.LinkOrders.{is_reached, is_accepted_module}

@@ -9,8 +9,9 @@ use Rattle.std.specs.Str.{bytes_eq}
 use Rattle.std.specs.declared.cmp.Ordering.{Ordering}
 use Rattle.std.specs.declared.cmp.Ordering.TheVariants.{Less, Equal, Greater}
 use Rattle.cc_base.specs.NameTexts.{bytes_eq-order}
-use Rattle.cc_graph.specs.Graph.{ImportMap, compare_names, imported, is_present, does_import, reaches, is_listed}
-use Rattle.cc_graph.specs.Graph.{holds_up, is_ready, may_come, is_next, is_name_before, are_in_order, IsOrder, more_steps}
+use Rattle.cc_graph.specs.Graph.{ImportMap, imported, is_present, does_import, reaches, is_listed}
+use Rattle.cc_base.specs.Names.{compare_names, is_name_before}
+use Rattle.cc_graph.specs.Graph.{holds_up, is_ready, may_come, is_next, are_in_order, IsOrder, more_steps}
 use Rattle.cc_graph.proofs.NameLemmas.{names_total, same_name, is_same_name, present_among}
 use Rattle.cc_graph.proofs.OrderLemmas.{clash, list_all_at, list_all_each, listed_among, among_listed}
 use Rattle.cc_graph.proofs.Paths.{IsAmong, reaches-path}

@@ -20,9 +20,9 @@ use Rattle.cc_meta_entries.specs.PresentEntries.{import_of}
 use Rattle.cc_grammar.specs.Syntax.{ImportSyntax}
 use Rattle.cc_graph.proofs.OrderLemmas.{list_all_at}
 use Rattle.cc_graph.proofs.Paths.{IsAmong}
-use Rattle.cc_meta_modules.specs.ModuleLaws.{NamesOfDevicesDiffer, in_program}
+use Rattle.cc_meta_modules.specs.ModuleLaws.{NamesOfDevicesDiffer}
 use Rattle.cc_meta_modules.specs.ModuleVerdicts.{Finding, FoundDefinition, CheckedDefinition, ModuleVerdict, IsAccepted}
-use Rattle.cc_meta_modules.specs.ModuleVerdicts.{declared_context, with_finding, with_findings}
+use Rattle.cc_meta_modules.specs.ModuleVerdicts.{declared_context, with_finding, with_findings, in_program}
 use Rattle.cc_meta_modules.specs.PresentTexts.{Texts, ArePresent, finding_for, AreVerdicts}
 use Rattle.cc_meta_modules.proofs.Asking.{all_mapped}
 use Rattle.cc_meta_modules.proofs.Schedules.{among_map}

@@ -16,9 +16,9 @@ use Rattle.cc_grammar.specs.Syntax.{ImportSyntax}
 use Rattle.cc_graph.specs.Graph.{reaches}
 use Rattle.cc_graph.proofs.NameLemmas.{same_name}
 use Rattle.cc_graph.proofs.Paths.{IsAmong}
-use Rattle.cc_meta_modules.specs.ModuleLaws.{NamesOfDevicesDiffer, in_program, AreSound}
+use Rattle.cc_meta_modules.specs.ModuleLaws.{NamesOfDevicesDiffer, AreSound}
 use Rattle.cc_meta_modules.specs.ModuleVerdicts.{Finding, FoundDefinition, CheckedDefinition, ModuleVerdict, IsAccepted}
-use Rattle.cc_meta_modules.specs.ModuleVerdicts.{IsRefused, HasModuleVerdict}
+use Rattle.cc_meta_modules.specs.ModuleVerdicts.{IsRefused, HasModuleVerdict, in_program}
 use Rattle.cc_meta_modules.specs.PresentTexts.{Texts, ArePresent, text_of, graph_of, found_or_none, finding_in, finding_for}
 use Rattle.cc_meta_modules.specs.PresentTexts.{findings_for, AreVerdicts}
 use Rattle.cc_meta_modules.specs.PresentTexts as present

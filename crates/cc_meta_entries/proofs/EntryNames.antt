@@ -10,7 +10,8 @@ use Rattle.std.specs.Cmp.{tied_itself}
 use Rattle.std.specs.List.{AllByRecursion, IsDistinct}
 use Rattle.std.specs.Ordering.{is_lt}
 use Rattle.std.specs.Str.{bytes_eq}
-use Rattle.cc_core.specs.Programs.{Module, is_ready, are_in_order, is_name_before}
+use Rattle.cc_base.specs.Names.{is_name_before}
+use Rattle.cc_core.specs.Programs.{Module, is_ready, are_in_order}
 use Rattle.cc_graph.proofs.NameLemmas.{names_total, same_name}
 use Rattle.cc_graph.proofs.OrderLemmas.{clash, list_all_at}
 use Rattle.cc_graph.proofs.Paths.{IsAmong}

@@ -4,7 +4,8 @@ use Rattle.std.proofs.Common.{ap, ◌∙◌, sym, refl, inl, inr}
 use Rattle.std.proofs.lemmas.Bool.{cases_Bool, false_from_ne_true}
 use Rattle.std.specs.List.{list_all}
 use Rattle.std.specs.Str.{bytes_eq}
-use Rattle.cc_core.specs.Programs.{Import, Module, is_name_before, are_in_order}
+use Rattle.cc_base.specs.Names.{is_name_before}
+use Rattle.cc_core.specs.Programs.{Import, Module, are_in_order}
 use Rattle.cc_core.specs.Programs as programs
 use Rattle.cc_graph.specs.Graph.{ImportMap, imported, is_listed}
 use Rattle.cc_graph.proofs.NameLemmas.{same_name, is_same_name}

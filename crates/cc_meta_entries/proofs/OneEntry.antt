@@ -10,10 +10,10 @@ use mathlib.Core.List.{reverse_aux}
 use Rattle.std.specs.Str.{bytes_eq}
 use Rattle.std.specs.declared.cmp.Ordering.{Ordering}
 use Rattle.std.specs.declared.cmp.Ordering.TheVariants.{Less, Equal, Greater}
-use Rattle.cc_core.specs.Programs.{Module, is_listed, is_ready, are_in_order, is_name_before}
+use Rattle.cc_core.specs.Programs.{Module, is_listed, is_ready, are_in_order}
 use Rattle.cc_meta_entries.specs.PresentEntries as checked
 use Rattle.cc_meta_entries.specs.PresentEntries.{CheckedModule, program_module}
-use Rattle.cc_graph.specs.Graph.{compare_names}
+use Rattle.cc_base.specs.Names.{compare_names, is_name_before}
 use Rattle.cc_graph.proofs.NameLemmas.{same_name, is_same_name, turned}
 use Rattle.cc_graph.proofs.OrderLemmas.{clash, list_all_at}
 use Rattle.cc_graph.proofs.Paths.{IsAmong}

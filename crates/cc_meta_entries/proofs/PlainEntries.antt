@@ -8,8 +8,7 @@ use Rattle.cc_core.specs.Stores.{authority}
 use Rattle.cc_device.specs.Declarations.{declared_bases}
 use Rattle.cc_meta_entries.specs.PresentEntries as checked
 use Rattle.cc_meta_entries.specs.PresentEntries.{CheckedModule, CheckedEntry, program_module, program_entry, IsReached, IsEntryOf}
-use Rattle.cc_meta_modules.specs.ModuleLaws.{in_program}
-use Rattle.cc_meta_modules.specs.ModuleVerdicts.{CheckedDefinition, ModuleVerdict}
+use Rattle.cc_meta_modules.specs.ModuleVerdicts.{CheckedDefinition, ModuleVerdict, in_program}
 use Rattle.cc_meta_modules.specs.PresentTexts.{Texts, graph_of}
 
 -- the definitions of a module with this verdict, as those of a program

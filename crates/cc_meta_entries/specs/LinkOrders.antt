@@ -5,7 +5,8 @@ use Rattle.std.specs.Option.{is_some}
 use Rattle.std.specs.Str.{bytes_eq}
 use Rattle.cc_base.specs.declared.device.DeviceDecl.{DeviceDecl}
 use Rattle.cc_graph.specs.Graph.{ImportMap, imported, is_present, does_import, Reaches, reaches}
-use Rattle.cc_graph.specs.Graph.{is_listed, is_name_before, IsOrder}
+use Rattle.cc_graph.specs.Graph.{is_listed, IsOrder}
+use Rattle.cc_base.specs.Names.{is_name_before}
 use Rattle.cc_meta_modules.specs.ModuleVerdicts.{ModuleVerdict, IsAccepted, IsRefused}
 use Rattle.cc_meta_modules.specs.PresentTexts.{Texts, text_of, graph_of, AreVerdicts}
 

@@ -16,8 +16,7 @@ use Rattle.cc_core.specs.Stores.{authority}
 use Rattle.cc_device.specs.Declarations.{declared_bases}
 use Rattle.cc_grammar.specs.Syntax.{ImportSyntax}
 use Rattle.cc_graph.specs.Graph.{ImportMap, Reaches}
-use Rattle.cc_meta_modules.specs.ModuleLaws.{in_program}
-use Rattle.cc_meta_modules.specs.ModuleVerdicts.{CheckedDefinition, ModuleVerdict, IsAccepted, IsRefused}
+use Rattle.cc_meta_modules.specs.ModuleVerdicts.{CheckedDefinition, ModuleVerdict, IsAccepted, IsRefused, in_program}
 use Rattle.cc_meta_modules.specs.PresentTexts.{Texts, text_of, graph_of, definition_named}
 use Rattle.cc_meta_modules.specs.Readings.{imports_of}
 

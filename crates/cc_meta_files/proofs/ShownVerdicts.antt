@@ -6,8 +6,7 @@ use Rattle.cc_base.specs.declared.device.DeviceDecl.{DeviceDecl}
 use Rattle.cc_base.specs.declared.place.Place.{Place}
 use Rattle.cc_core.specs.Contexts.{Context, entry_of}
 use Rattle.cc_grammar.specs.Syntax.{ModuleSyntax}
-use Rattle.cc_mnf.specs.CoreModules.{device_names}
-use Rattle.cc_mnf.specs.ElaboratedModules.{CoreDefinition, CoreModule, IsElaborated, elaboration}
+use Rattle.cc_mnf.specs.ElaboratedModules.{CoreDefinition, CoreModule, IsElaborated, elaboration, device_names}
 use Rattle.cc_mnf.proofs.RefusalCodes.{refusals_have_codes}
 use Rattle.cc_sets.specs.Verdicts.{Accepted, HasVerdict}
 use Rattle.cc_sets.specs.Verdicts as definitions

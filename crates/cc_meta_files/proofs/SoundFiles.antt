@@ -15,7 +15,7 @@ use Rattle.cc_meta_checking.proofs.AlikeSignatures.{refused_has_no_type}
 use Rattle.cc_meta_checking.proofs.CheckedDefinitions.{accepted_sound}
 use Rattle.cc_meta_checking.proofs.OneVerdict.{one_verdict}
 use Rattle.cc_meta_checking.proofs.VerdictsExist.{has_verdict}
-use Rattle.cc_meta_runs.specs.LinkLaws.{HaveShapes}
+use Rattle.cc_meta_runs.specs.SafeRuns.{HaveShapes}
 use Rattle.cc_meta_runs.specs.TaskLaws.{AreEntries}
 use Rattle.cc_meta_runs.proofs.EntryRuns.{entries_run_safely}
 use Rattle.cc_meta_runs.proofs.EntryTasks.{entries_run_interleaved}

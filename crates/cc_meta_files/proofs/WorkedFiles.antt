@@ -29,8 +29,7 @@ use Rattle.cc_meta_checking.proofs.ComputedVerdicts.{verdict_in_steps}
 use Rattle.cc_mnf.specs.Steps.{followed, gives, refuses, new_hole, with_own_holes}
 use Rattle.cc_mnf.specs.ElaboratedTypes.{elaborated_shape, elaborated_type, with_elements}
 use Rattle.cc_mnf.specs.Elaboration.{elaborated}
-use Rattle.cc_mnf.specs.ElaboratedModules.{CoreDefinition, IsElaborated, elaboration}
-use Rattle.cc_mnf.specs.CoreModules.{device_names}
+use Rattle.cc_mnf.specs.ElaboratedModules.{CoreDefinition, IsElaborated, elaboration, device_names}
 use Rattle.cc_sets.specs.Comparison.{comparison, by_form}
 use Rattle.cc_sets.specs.ExampleChecks.{place}
 use Rattle.cc_sets.specs.Outcomes.{◌>>=◌}

@@ -11,15 +11,14 @@ use Rattle.cc_core.specs.Typing.{HasType}
 use Rattle.cc_device.specs.Declarations.{declared_devices, declared_bases}
 use Rattle.cc_device.specs.Devices.{Devices}
 use Rattle.cc_grammar.specs.Syntax.{ModuleSyntax}
-use Rattle.cc_mnf.specs.CoreModules.{device_names}
-use Rattle.cc_mnf.specs.ElaboratedModules.{CoreDefinition, CoreModule, IsElaborated, elaboration}
+use Rattle.cc_mnf.specs.ElaboratedModules.{CoreDefinition, CoreModule, IsElaborated, elaboration, device_names}
 use Rattle.cc_sets.specs.Fillings.{Filling, IsOverGlobals}
 use Rattle.cc_sets.specs.Verdicts.{Definition, Accepted, Verdict, IsAccepted, IsRefused, HasVerdict, HasAlgorithmicType}
-use Rattle.cc_meta_checking.specs.CheckingLaws.{definition_context}
+use Rattle.cc_meta_checking.specs.AcceptedDefinitions.{definition_context}
 use Rattle.cc_meta_runs.specs.Interleavings.{state_of}
-use Rattle.cc_meta_runs.specs.LinkLaws.{HaveShapes, RunsSafely}
+use Rattle.cc_meta_runs.specs.SafeRuns.{HaveShapes, RunsSafely}
 use Rattle.cc_meta_runs.specs.Links.{program_start}
-use Rattle.cc_meta_runs.specs.TaskLaws.{RunsInterleaved}
+use Rattle.cc_meta_runs.specs.SafeTasks.{RunsInterleaved}
 use Rattle.cc_meta_modules.specs.ModuleLaws.{NamesOfDevicesDiffer}
 use Rattle.cc_meta_modules.specs.ModuleVerdicts.{CheckedDefinition, ModuleVerdict, first_missing, declared_context}
 use Rattle.cc_meta_modules.specs.ModuleVerdicts.{with_findings, to_be_checked, checked_as}

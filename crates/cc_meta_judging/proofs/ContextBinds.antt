@@ -18,7 +18,7 @@ binds_in names (TermEntry shape set ∷ older) =
     binds_in names older ++ (slice_index_or names (length older) [], capturing shape set) ∷ []
 binds_in names (TypeEntry bound ∷ older) = binds_in names older
 
-map_append : {A B : Type 0} (f : A → B) (xs ys : List A) → map f (xs ++ ys) ≡ map f xs ++ map f ys
+pub map_append : {A B : Type 0} (f : A → B) (xs ys : List A) → map f (xs ++ ys) ≡ map f xs ++ map f ys
 map_append f [] ys = refl
 map_append f (x ∷ xs) ys = ap (λ t. f x ∷ t) (map_append f xs ys)
 

@@ -1,9 +1,8 @@
 -- What is read back from the text of a valid derivation is judged to be valid.
 use Rattle.std.proofs.Common.{◌≡◌, ◌<◌, ℕ, List, [], ◌∷◌, ◌++◌, map, length, sym, ap, subst, ◌∙◌, arith}
 use Rattle.std.specs.Prelude.{Contains}
-use Rattle.std.specs.List.{AllByRecursion}
 use Rattle.cc_core.specs.Terms.{Term}
-use Rattle.cc_core.specs.Contexts.{TermEntry, TypeEntry, Context}
+use Rattle.cc_core.specs.Contexts.{Context}
 use Rattle.cc_core.specs.WellFormed.{kinds_of}
 use Rattle.cc_core.specs.Derivations.{OfType, Derivation, Concludes, IsValidTyping}
 use Rattle.cc_meta_validity.specs.Rows.{TypeOf}
@@ -14,21 +13,16 @@ use Rattle.cc_certificate_judging.specs.CertificateParts.{bind_line, parts_lines
 use Rattle.cc_certificate_judging.specs.Judging.{NodeTree, listed, read_tree, Judgement, IsValidAt, IsBadNode, IsJudged}
 use Rattle.cc_certificate_judging.proofs.OneTree.{one_tree}
 use Rattle.cc_certificate_judging.proofs.SameParts.{same_tail, same_parts}
-use Rattle.cc_meta_certificates.specs.CertificateLaws.{IsPresentable, IsPresentableEntry, IsTermEntry}
-use Rattle.cc_meta_checking.specs.CheckingLaws.{definition_context}
-use Rattle.cc_meta_checking.specs.CanonicalLaws.{accepted_derived}
+use Rattle.cc_meta_certificates.specs.CertificateLaws.{IsPresentable}
+use Rattle.cc_meta_checking.specs.AcceptedDefinitions.{definition_context, accepted_derived}
 use Rattle.cc_core.specs.Shapes.{CapturingType}
 use Rattle.cc_meta_certificates.proofs.DefinitionCertificates.{accepted_certifiable}
 use Rattle.cc_meta_certificates.proofs.PresentableTypings.{valid_presentable}
 use Rattle.cc_meta_certificates.proofs.WholeCertificates.{written_are_read_back}
+use Rattle.cc_meta_certificates.proofs.ValidCertificates.{term_entries}
 use Rattle.cc_meta_judging.specs.JudgedCertificates.{written_tree, PartsAreReadBack, AnswersAs, WrittenCertificatesAreFoundValid, WrittenTreesAreReadBack, CertificatesOfDefinitionsAreFoundValid, TreesOfDefinitionsAreReadBack}
 use Rattle.cc_meta_judging.proofs.ReadTrees.{written_nodes, derivations_back}
 use Rattle.cc_meta_judging.proofs.ContextBinds.{binds_in, bound_are_binds, context_of_binds}
-
-term_entries : (g : Context) → AllByRecursion IsPresentableEntry g → AllByRecursion IsTermEntry g
-term_entries [] all = tt
-term_entries (TermEntry shape set ∷ older) all = (tt, term_entries older all.1)
-term_entries (TypeEntry bound ∷ older) all = absurd all.0
 
 pub parts_back : PartsAreReadBack
 parts_back names context term derivation binds stated listing open_context open_term valid done few text =

@@ -1,9 +1,7 @@
 -- The tree that is written for a valid derivation is read as the derivation.
 use Rattle.std.proofs.Common.{◌≡◌, ℕ, zero, suc, ◌+◌, ◌-◌, ◌≤◌, Bool, true, false, ◌&&◌, List, [], ◌∷◌, ◌++◌, map, length, Option, Some, None, inl, inr, refl, sym, ap, subst, ◌∙◌, arith}
 use Rattle.std.specs.Prelude.{if◌then◌else◌}
-use Rattle.std.specs.List.{AllByRecursion}
 use Rattle.std.proofs.lemmas.Bool.{and_from, eq-eqb}
-use Rattle.cc_core.specs.Contexts.{TermEntry, TypeEntry, Context, lookup}
 use Rattle.cc_core.specs.WellFormed.{Kind, TypeKind, kind_of, kinds_of}
 use Rattle.cc_core.specs.Derivations.{Rule, Claim, SetBelow, ShapeBelow, TypeBelow, OfType, Derivation, Premises, Node, NoPremise, Premise}
 use Rattle.cc_core.proofs.KindFacts.{IsKindedSet-test, IsKinded-test, IsKindedType-test, IsKindedTerm-from}
@@ -16,12 +14,14 @@ use Rattle.cc_certificate_text.specs.Certificates.{Concludes as ConcludesNode}
 use Rattle.cc_certificate_text.specs.LocalNames.{claim_has_binder}
 use Rattle.cc_certificate_judging.specs.Judging.{size_of, sizes_of, root_numbers, listed, listed_all, binder_at, under_binder, read_claim, is_in_scope, begins_at, read_tree, read_trees, IsValidAt, IsAnswer}
 use Rattle.cc_meta_certificates.specs.CertificateLines.{numbered_claim, outermost_number, certificate_node, concluded_lines, premises_concluded}
-use Rattle.cc_meta_certificates.specs.CertificateLaws.{IsClosedClaim, HasNoHoleInClaim, IsTermEntry}
+use Rattle.cc_meta_certificates.specs.CertificateLaws.{IsClosedClaim, HasNoHoleInClaim}
 use Rattle.cc_meta_certificates.proofs.ClosedSyntax.{AreNames, set_closed, shape_closed, type_closed}
+use Rattle.cc_meta_certificates.proofs.Places.{none_of_types}
 use Rattle.cc_meta_judging.specs.JudgedCertificates.{written_tree, written_trees, WrittenNodesAreOfTheTree, DerivationsAreReadBack, ValidDerivationsAreJudgedValid}
 use Rattle.cc_meta_judging.proofs.ReadClaims.{claim_back}
 use Rattle.cc_meta_judging.proofs.Settled.{HasKindsInClaim, plus_binder, IsSettled, AreSettled}
 use Rattle.cc_meta_judging.proofs.SettledTypings.{typing_settled}
+use Rattle.cc_meta_judging.proofs.ContextBinds.{map_append}
 
 -- what is well formed and has no hole is closed
 claim_closed : (names locals : ℕ) (kinds : List Kind) → length kinds ≡ names + locals → AreNames names kinds → (claim : Claim)
@@ -123,10 +123,6 @@ same_numbers names before first_locals other_locals (Premise first rest) =
     (λ i. own i ∷ root_numbers (own i) (written_trees names other_locals other_locals rest))
     ∙ ap (λ ns. own_number before first ∷ ns) (same_numbers names (own_number before first) other_locals other_locals rest)
 
-map_append : {A B : Type 0} (f : A → B) (xs ys : List A) → map f (xs ++ ys) ≡ map f xs ++ map f ys
-map_append f [] ys = refl
-map_append f (x ∷ xs) ys = ap (λ t. f x ∷ t) (map_append f xs ys)
-
 mutual
   nodes_of_tree : (names before locals : ℕ) (d : Derivation)
       → concluded_lines names before locals d ≡ map ConcludesNode (listed before (written_tree names locals d))
@@ -154,15 +150,6 @@ mutual
 
 pub written_nodes : WrittenNodesAreOfTheTree
 written_nodes = nodes_of_tree
-
-none_of_types : (g : Context) → AllByRecursion IsTermEntry g → (p : ℕ) → lookup (kinds_of g) p ≡ Some TypeKind → ⊥
-none_of_types [] all p found = cc
-none_of_types (TypeEntry bound ∷ older) all p found = all.0
-none_of_types (TermEntry shape set ∷ older) all p found =
-    elim (lookup-cases _ (kinds_of older) p TypeKind found) as (λ _. ⊥) [
-      | inl here ↦ let no = here.1 in cc
-      | inr there ↦ none_of_types older all.1 p there
-    ]
 
 pub derivations_back : DerivationsAreReadBack
 derivations_back context term derivation all formed is valid done =

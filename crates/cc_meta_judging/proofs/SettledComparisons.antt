@@ -2,7 +2,7 @@
 use Rattle.std.proofs.Common.{◌≡◌, ℕ, suc, List, [], ◌∷◌, refl, sym, ap, subst, ◌∙◌}
 use Rattle.std.specs.List.{AllByRecursion}
 use Rattle.cc_capture.specs.declared.var.Elem.{Elem}
-use Rattle.cc_capture.specs.Sets.{Set, contains}
+use Rattle.cc_capture.specs.Sets.{Set}
 use Rattle.cc_core.specs.Shapes.{Shape}
 use Rattle.cc_core.specs.Contexts.{TermEntry, TypeEntry, Context}
 use Rattle.cc_core.specs.WellFormed.{kinds_of}
@@ -11,16 +11,12 @@ use Rattle.cc_core.proofs.KindFacts.{IsKinded, IsKindedSet, IsKindedElement}
 use Rattle.cc_core.proofs.SubcapturingContexts.{entry_kinded}
 use Rattle.cc_core.proofs.Sorts.{SetSort, ShapeSort}
 use Rattle.cc_meta_typing.proofs.FormedContexts.{opened_kinded, kinded_single}
-use Rattle.cc_certificate_text.proofs.SetOrders.{listed_all}
 use Rattle.cc_certificate_judging.specs.Judging.{under_binder}
 use Rattle.cc_core.proofs.SubcapturingContexts.{IsKindedContext}
 use Rattle.cc_meta_certificates.specs.CertificateLaws.{IsOfBound, IsFinished, AreFinished}
 use Rattle.cc_meta_certificates.proofs.Places.{KindedClaim}
+use Rattle.cc_meta_certificates.proofs.PresentableComparisons.{element_kinds}
 use Rattle.cc_meta_judging.proofs.Settled.{plus_binder, IsSettled, AreSettled, no_binder}
-
-element_kinds : (g : Context) (set : Set) → IsKindedSet (kinds_of g) [] set → AllByRecursion (IsKindedElement (kinds_of g) []) set.list
-unfolding contains
-element_kinds g set is = listed_all (IsKindedElement (kinds_of g) []) set.list is
 
 -- what stands between two comparisons at a bound is well formed
 bound_kinded : (p : Derivation) (g : Context) (left middle : Shape) → IsKindedContext g → IsOfBound p

@@ -7,26 +7,16 @@ use Rattle.cc_core.specs.Contexts.{TermEntry, TypeEntry, Context}
 use Rattle.cc_core.specs.Terms.{Term, VariableTerm}
 use Rattle.cc_core.specs.WellFormed.{kinds_of}
 use Rattle.cc_core.specs.Substitution.{single, opened_term}
-use Rattle.cc_core.specs.Derivations.{Rule, t-var, t-lit, t-abs, t-tabs, t-app, t-tapp, t-box, t-unbox, t-let, t-prim, t-if, t-repeat, t-op, t-boundary, t-exit, t-sub, Claim, OfType, Derivation, Premises, Node, NoPremise, one, two, three, conclusion, IsValidTyping}
-use Rattle.cc_core.proofs.DerivationTypings.{typing_derivations}
-use Rattle.cc_core.proofs.KindFacts.{IsKindedType, IsKindedTerm, IsKindedType-from}
+use Rattle.cc_core.specs.Derivations.{Rule, t-var, t-lit, t-abs, t-tabs, t-app, t-tapp, t-box, t-unbox, t-let, t-prim, t-if, t-repeat, t-op, t-boundary, t-exit, t-sub, Claim, OfType, Derivation, Premises, Node, NoPremise, one, two, three, IsValidTyping}
+use Rattle.cc_core.proofs.KindFacts.{IsKindedTerm, IsKindedType-from}
 use Rattle.cc_core.proofs.SubcapturingContexts.{IsKindedContext}
 use Rattle.cc_core.proofs.Sorts.{TermSort}
 use Rattle.cc_meta_typing.proofs.FormedContexts.{opened_kinded, kinded_single}
-use Rattle.cc_meta_typing.proofs.InternalConversions.{internal_from}
-use Rattle.cc_meta_typing.proofs.TypingMaps.{typed_kinded, typed_kinded_set}
 use Rattle.cc_meta_certificates.specs.CertificateLaws.{IsFinished}
 use Rattle.cc_meta_certificates.proofs.Places.{KindedClaim}
+use Rattle.cc_meta_certificates.proofs.PresentableTypings.{concluded_kinded}
 use Rattle.cc_meta_judging.proofs.Settled.{IsSettled}
 use Rattle.cc_meta_judging.proofs.SettledComparisons.{comparison_settled}
-
--- the type that a valid derivation concludes is well formed
-concluded_kinded : (g : Context) (t : Term) (d : Derivation) (s : Shape) (c : Set) → IsKindedContext g
-    → IsKindedTerm (kinds_of g) [] t → IsValidTyping g t d → conclusion d ≡ OfType (capturing s c)
-    → IsKindedType (kinds_of g) [] (capturing s c)
-concluded_kinded g t d s c formed is valid concludes =
-    let typed = internal_from ((typing_derivations g t s c).1 (d, valid, concludes)) formed is in
-    (typed_kinded typed, typed_kinded_set typed)
 
 front : (g : Context) (t : Term) (rule : Rule) (premises : Premises) (claim : Claim) (s : Shape) (c : Set)
     → IsKindedContext g → IsKindedTerm (kinds_of g) [] t → IsValidTyping g t (Node rule premises claim)

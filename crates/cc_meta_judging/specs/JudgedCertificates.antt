@@ -8,8 +8,8 @@ use Rattle.cc_core.specs.WellFormed.{kinds_of, IsWellFormedContext, IsWellFormed
 use Rattle.cc_core.specs.Derivations.{OfType, Derivation, Node, Premises, NoPremise, Premise, Concludes, IsValidTyping}
 use Rattle.cc_sets.specs.DerivationSizes.{nodes}
 use Rattle.cc_sets.specs.Verdicts.{Definition, Accepted, IsAccepted, HasVerdict}
-use Rattle.cc_meta_checking.specs.CheckingLaws.{Fits, definition_context}
-use Rattle.cc_meta_checking.specs.CanonicalLaws.{accepted_derived}
+use Rattle.cc_meta_checking.specs.CheckingLaws.{Fits}
+use Rattle.cc_meta_checking.specs.AcceptedDefinitions.{definition_context, accepted_derived}
 use Rattle.cc_certificate.specs.Certificates.{binds_first, binds_others, with_binder, certificate_text}
 use Rattle.cc_certificate_text.specs.Certificates.{CertificateNode, Concludes as ConcludesNode, IsCertificate}
 use Rattle.cc_certificate_judging.specs.CertificateParts.{CertificateBind, parts_lines, bound_context}

@@ -7,21 +7,19 @@ use Rattle.cc_base.specs.declared.device.DeviceDecl.{DeviceDecl}
 use Rattle.cc_core.specs.Contexts.{Bind, TermEntry, TypeEntry, Context, entry_of}
 use Rattle.cc_core.specs.Derivations.{Derivation, OfType, Concludes}
 use Rattle.cc_grammar.specs.Syntax.{ImportSyntax}
-use Rattle.cc_mnf.specs.CoreModules.{device_names}
-use Rattle.cc_mnf.specs.ElaboratedModules.{CoreDefinition}
-use Rattle.cc_mnf.specs.ElaborationLaws.{import_names, definition_names}
+use Rattle.cc_mnf.specs.ElaboratedModules.{CoreDefinition, import_names, definition_names, device_names}
 use Rattle.cc_mnf.proofs.ElaboratedDefinitions.{definitions_are_in_order}
 use Rattle.cc_mnf.proofs.SecondNames.{names_differ}
 use Rattle.cc_sets.specs.DerivationSizes.{nodes}
 use Rattle.cc_sets.specs.Verdicts.{Accepted}
 use Rattle.cc_sets.specs.Verdicts as definitions
-use Rattle.cc_meta_checking.specs.CheckingLaws.{Fits, definition_context}
-use Rattle.cc_meta_checking.specs.CanonicalLaws.{accepted_derived}
+use Rattle.cc_meta_checking.specs.CheckingLaws.{Fits}
+use Rattle.cc_meta_checking.specs.AcceptedDefinitions.{definition_context, accepted_derived}
 use Rattle.cc_meta_modules.specs.Readings.{IsTree, imports_in, imports_of}
 use Rattle.cc_meta_modules.specs.ModuleVerdicts.{Finding, CheckedDefinition, ModuleVerdict, IsAccepted, declared_context, with_findings, to_be_checked, checked_as, HasModuleVerdict, is_no_module, import_is_missing, is_not_elaborated, is_judged}
 use Rattle.cc_meta_modules.specs.ModuleLaws.{AreFit}
 use Rattle.cc_meta_modules.specs.PresentTexts.{Texts, ArePresent, findings_for, AreVerdicts}
-use Rattle.cc_meta_modules.proofs.GlobalContexts.{module_ready, count_devices}
+use Rattle.cc_meta_modules.proofs.GlobalContexts.{module_ready, count_devices, found_count}
 use Rattle.cc_meta_modules.proofs.ModuleVerdictLaws.{fits_tree}
 use Rattle.cc_meta_modules.proofs.PresentLaws.{present_findings_fit}
 use Rattle.cc_meta_modules.proofs.ReadingLaws.{text_has_one_reading}
@@ -47,7 +45,7 @@ use Rattle.cc_meta_limits.proofs.LowDefinitions.{accepted_low, literals_kept}
 use Rattle.cc_meta_limits.proofs.LowModules as modules
 use Rattle.cc_meta_limits.proofs.LineFeeds.{names_of_one_line, literals_of_one_line}
 use Rattle.cc_meta_limits.proofs.TextDefinitions.{definitions_of_texts_low, imports_of_texts_named}
-use Rattle.cc_meta_limits.proofs.JudgedPlaces.{declared_low, findings_low, Place, place, checked_names, names_kept, definitions_named, imports_named, all_joined, all_front, distinct_front, kept_in_front, found_count, definitions_count, names_count}
+use Rattle.cc_meta_limits.proofs.JudgedPlaces.{declared_low, findings_low, Place, place, checked_names, names_kept, definitions_named, imports_named, all_joined, all_front, distinct_front, kept_in_front, definitions_count, names_count}
 
 term_entries : (g : Context) → AllByRecursion IsPresentableEntry g → AllByRecursion IsTermEntry g
 term_entries [] all = tt

@@ -5,7 +5,7 @@ use Rattle.cc_base.specs.Names.{IsName}
 use Rattle.cc_base.specs.declared.device.DeviceDecl.{DeviceDecl}
 use Rattle.cc_words.specs.Lines.{Line}
 use Rattle.cc_job.specs.Jobs.{Item, Declares, Commands, AreItems}
-use Rattle.cc_mnf.specs.CoreModules.{device_names}
+use Rattle.cc_mnf.specs.ElaboratedModules.{device_names}
 use Rattle.cc_meta_limits.specs.ModuleCertificates.{DevicesOfJobsAreNamed}
 
 declared_named : (lines : List Line) (devices : List DeviceDecl) (rest : List Item)

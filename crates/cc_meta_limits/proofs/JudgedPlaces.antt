@@ -12,9 +12,7 @@ use Rattle.cc_core.specs.Programs.{device_entry}
 use Rattle.cc_core.proofs.Lookups.{length_map}
 use Rattle.cc_device.specs.Declarations.{declared_bases}
 use Rattle.cc_grammar.specs.Syntax.{ImportSyntax}
-use Rattle.cc_mnf.specs.CoreModules.{device_names}
-use Rattle.cc_mnf.specs.ElaboratedModules.{CoreDefinition}
-use Rattle.cc_mnf.specs.ElaborationLaws.{import_names, definition_names}
+use Rattle.cc_mnf.specs.ElaboratedModules.{CoreDefinition, import_names, definition_names, device_names}
 use Rattle.cc_sets.specs.Verdicts.{Accepted}
 use Rattle.cc_sets.specs.Verdicts as definitions
 use Rattle.cc_meta_checking.specs.CheckingLaws.{Fits}
@@ -184,20 +182,6 @@ module _ (first : List (List ℕ)) (before : List CheckedDefinition) (one : Chec
       subst P (sym (append-nil (first ++ checked_names before)))
       (front (first ++ checked_names before) (one.name ∷ [])
       (front ((first ++ checked_names before) ++ one.name ∷ []) (checked_names after) (subst P split h)))
-
--- how many positions there are
-pub found_count : (g : Context) (imports : List ImportSyntax) (findings : List Finding)
-    → length findings ≡ length imports → first_missing imports findings ≡ None
-    → length (with_findings g findings) ≡ length g + length imports
-found_count g [] [] l n = omega arith
-found_count g [] (finding ∷ findings) l n = absurd (omega arith)
-found_count g (one ∷ imports) [] l n = absurd (omega arith)
-found_count g (one ∷ imports) (FoundDefinition signature ∷ findings) l n =
-    let rest = found_count (entry_of signature ∷ g) imports findings (omega arith) n in omega arith
-found_count g (one ∷ imports) (NoModule ∷ findings) l n = cc
-found_count g (one ∷ imports) (InCycle ∷ findings) l n = cc
-found_count g (one ∷ imports) (RefusedModule ∷ findings) l n = cc
-found_count g (one ∷ imports) (NoDefinition ∷ findings) l n = cc
 
 pub definitions_count : (g : Context) (before : List CheckedDefinition)
     → length (with_definitions g before) ≡ length g + length before

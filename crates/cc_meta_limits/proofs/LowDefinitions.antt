@@ -12,7 +12,7 @@ use Rattle.cc_sets.specs.Fillings.{Filling}
 use Rattle.cc_sets.specs.Inference.{Named, type_in, limited}
 use Rattle.cc_sets.specs.Outcomes.{Asked, Placed, Found}
 use Rattle.cc_sets.specs.Verdicts.{Definition, Checking, plain_checked, recursive_checked, Accepted, IsAccepted, accepted_with, signature_under, signature_of, HasVerdict}
-use Rattle.cc_meta_checking.specs.CanonicalLaws.{accepted_derived}
+use Rattle.cc_meta_checking.specs.AcceptedDefinitions.{accepted_derived}
 use Rattle.cc_meta_checking.proofs.CheckedDefinitions.{accepted_parts}
 use Rattle.cc_meta_checking.proofs.Findings.{Notes, notes-absent, notes-written, notes-own}
 use Rattle.cc_meta_checking.proofs.FoundFindings.{asked_of, Came, then_came, finds_came, noted_came, avoided_came, found_finds}

@@ -7,8 +7,7 @@ use Rattle.cc_base.specs.declared.device.DeviceDecl.{DeviceDecl}
 use Rattle.cc_core.specs.Contexts.{Context, entry_of}
 use Rattle.cc_graph.specs.Graph.{reaches}
 use Rattle.cc_grammar.specs.Syntax.{ImportSyntax}
-use Rattle.cc_mnf.specs.CoreModules.{device_names}
-use Rattle.cc_mnf.specs.ElaboratedModules.{CoreDefinition}
+use Rattle.cc_mnf.specs.ElaboratedModules.{CoreDefinition, device_names}
 use Rattle.cc_meta_modules.specs.Readings.{imports_of}
 use Rattle.cc_meta_modules.specs.ModuleVerdicts.{Finding, NoModule, InCycle, CheckedDefinition, ModuleVerdict, IsAccepted, IsRefused, to_be_checked, checked_as, after_definition, AreJudged, no_more, refused_first, accepted_first, HasModuleVerdict, is_no_module, import_is_missing, is_not_elaborated, is_judged}
 use Rattle.cc_meta_modules.specs.PresentTexts.{Texts, text_of, graph_of, definition_named, found_or_none, finding_in, finding_for, AreVerdicts}

@@ -3,8 +3,7 @@ use Rattle.std.proofs.Common.{◌≡◌, List, [], ◌∷◌, ◌++◌, map, rev
 use Rattle.std.proofs.lemmas.List.{reverse-append}
 use Rattle.cc_core.specs.Contexts.{Context, entry_of}
 use Rattle.cc_core.specs.Programs.{Definition, definition_context}
-use Rattle.cc_meta_modules.specs.ModuleLaws.{in_program}
-use Rattle.cc_meta_modules.specs.ModuleVerdicts.{CheckedDefinition, declared_context, with_findings}
+use Rattle.cc_meta_modules.specs.ModuleVerdicts.{CheckedDefinition, declared_context, with_findings, in_program}
 use Rattle.cc_meta_modules.specs.StandingDefinitions.{with_definitions}
 use Rattle.cc_meta_limits.specs.ModuleCertificates.{ContextsAreThoseOfPrograms}
 

@@ -18,14 +18,13 @@ use Rattle.cc_grammar.specs.Syntax.{ImportSyntax, LiteralExpr, ModuleSyntax}
 use Rattle.cc_grammar.specs.Tests.{operation_named}
 use Rattle.cc_grammar.specs.Reading.{reading_of, module_at, imports_at, import_at, defs_at, def_at, def_rule_at, part_at, expr_over, links_at, next_link, link_at, dot_at, operation_at, link_rule_at, expr_start_at, fun_at, expr_rule_at, type_over, shape_over, shape_start_at, paren_at, named_at, shape_rule_at, one_part_at, written_at, captures_at, set_at, caret_at, elements_at, name_at, placed_name_at, symbol_at, word_at}
 use Rattle.cc_lex.specs.Cutting.{word_of, short_symbol, pair_symbol, front_of, blank_of, token_of, number_of}
-use Rattle.cc_meta_checking.specs.CanonicalLaws.{accepted_derived}
+use Rattle.cc_meta_checking.specs.AcceptedDefinitions.{accepted_derived}
 use Rattle.cc_meta_checking.specs.ExampleDefinitions.{leaf}
 use Rattle.cc_meta_checking.proofs.ComputedVerdicts.{verdict_in, verdict_in_steps}
 use Rattle.cc_mnf.specs.Steps.{followed, gives, refuses, new_hole, with_own_holes}
 use Rattle.cc_mnf.specs.ElaboratedTypes.{elaborated_shape, elaborated_type, with_elements}
 use Rattle.cc_mnf.specs.Elaboration.{elaborated}
-use Rattle.cc_mnf.specs.CoreModules.{device_names}
-use Rattle.cc_mnf.specs.ElaboratedModules.{CoreDefinition, IsElaborated, elaboration}
+use Rattle.cc_mnf.specs.ElaboratedModules.{CoreDefinition, IsElaborated, elaboration, device_names}
 use Rattle.cc_sets.specs.Comparison.{comparison, by_form}
 use Rattle.cc_sets.specs.CanonicalDerivations.{shape_derived, form_derived}
 use Rattle.cc_sets.specs.DerivationSizes.{nodes}

@@ -6,7 +6,7 @@ use Rattle.cc_grammar.specs.Syntax.{ImportSyntax}
 use Rattle.cc_sets.specs.DerivationSizes.{nodes}
 use Rattle.cc_sets.specs.Verdicts.{Accepted}
 use Rattle.cc_words.specs.Lines.{lines_of, AreWholeLines}
-use Rattle.cc_meta_checking.specs.CanonicalLaws.{accepted_derived}
+use Rattle.cc_meta_checking.specs.AcceptedDefinitions.{accepted_derived}
 use Rattle.cc_meta_modules.specs.ModuleVerdicts.{Finding, CheckedDefinition, ModuleVerdict}
 use Rattle.cc_meta_modules.specs.PresentTexts.{Texts, ArePresent, AreVerdicts}
 use Rattle.cc_meta_modules.specs.StandingDefinitions.{StandsInPresentModule, context_behind, names_behind}

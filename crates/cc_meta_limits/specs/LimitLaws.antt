@@ -4,8 +4,7 @@ use Rattle.std.specs.List.{AllByRecursion}
 use Rattle.cc_core.specs.Contexts.{Context}
 use Rattle.cc_sets.specs.Verdicts.{Definition, Accepted, IsAccepted, HasVerdict}
 use Rattle.cc_certificate_text.specs.Heights.{shape_height, note_height, term_height}
-use Rattle.cc_meta_checking.specs.CheckingLaws.{definition_context}
-use Rattle.cc_meta_checking.specs.CanonicalLaws.{accepted_derived}
+use Rattle.cc_meta_checking.specs.AcceptedDefinitions.{definition_context, accepted_derived}
 use Rattle.cc_meta_certificates.specs.DefinitionLaws.{HasWrittenLiterals, IsLow, IsLowEntry}
 
 -- what is written for the definition's type and its right side are of heights that may be written

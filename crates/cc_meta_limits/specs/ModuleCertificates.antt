@@ -11,15 +11,14 @@ use Rattle.cc_core.specs.WellFormed.{kinds_of}
 use Rattle.cc_grammar.specs.Syntax.{ImportSyntax}
 use Rattle.cc_job.specs.Jobs.{IsJob}
 use Rattle.cc_job.specs.declared.job.Job.{Job}
-use Rattle.cc_mnf.specs.CoreModules.{device_names}
-use Rattle.cc_mnf.specs.ElaborationLaws.{import_names}
+use Rattle.cc_mnf.specs.ElaboratedModules.{import_names, device_names}
 use Rattle.cc_sets.specs.DerivationSizes.{nodes}
 use Rattle.cc_sets.specs.Verdicts.{Accepted}
-use Rattle.cc_meta_checking.specs.CanonicalLaws.{accepted_derived}
+use Rattle.cc_meta_checking.specs.AcceptedDefinitions.{accepted_derived}
 use Rattle.cc_meta_modules.specs.Readings.{imports_of}
 use Rattle.cc_meta_modules.specs.ModuleVerdicts.{Finding, CheckedDefinition, ModuleVerdict, IsAccepted}
-use Rattle.cc_meta_modules.specs.ModuleVerdicts.{HasModuleVerdict, declared_context, with_findings}
-use Rattle.cc_meta_modules.specs.ModuleLaws.{NamesOfDevicesDiffer, AreFit, in_program}
+use Rattle.cc_meta_modules.specs.ModuleVerdicts.{HasModuleVerdict, declared_context, with_findings, in_program}
+use Rattle.cc_meta_modules.specs.ModuleLaws.{NamesOfDevicesDiffer, AreFit}
 use Rattle.cc_meta_modules.specs.PresentTexts.{Texts, ArePresent, text_of, findings_for, AreVerdicts}
 use Rattle.cc_meta_modules.specs.StandingDefinitions.{StandsInPresentModule, with_definitions, context_behind}
 use Rattle.cc_meta_modules.specs.StandingDefinitions.{names_behind}

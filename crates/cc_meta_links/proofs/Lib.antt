@@ -1,4 +1,3 @@
-pub mod CheckedInGlobals
 pub mod Linked
 pub mod Positions
 pub mod Reached

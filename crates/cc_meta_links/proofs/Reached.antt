@@ -31,7 +31,7 @@ use Rattle.cc_meta_modules.proofs.FoundStanding.{definitions_stand, definitions_
 use Rattle.cc_meta_modules.proofs.GlobalContexts.{count_devices}
 use Rattle.cc_meta_modules.proofs.ModuleVerdictLaws.{accepted_modules_are_sound}
 use Rattle.cc_meta_modules.proofs.PresentLaws.{present_findings_fit}
-use Rattle.cc_meta_links.proofs.CheckedInGlobals.{CheckedIn, standing_checked}
+use Rattle.cc_meta_modules.proofs.PlacedDefinitions.{Placed, standing_placed}
 use Rattle.cc_meta_links.proofs.Positions.{IsNamed, StandsFor, ArePaired, target_at, declared_pairs, IsFoundAs, import_pairs, name_pairs, with_findings_longer}
 use Rattle.cc_meta_links.specs.PresentLinks.{Target, DefinitionOf, DeviceAt, Universal, device_targets, with_imports, earlier_targets}
 
@@ -172,9 +172,9 @@ module _ (declared : List DeviceDecl) (texts : Texts) (verdicts : List ℕ → M
       definitions_found declared texts verdicts it.imports it.findings it.before it.definition differ present are in_module
 
   pub checked_there : (module_name : List ℕ) (it : Standing) → StandsIn texts verdicts module_name it
-      → CheckedIn (length declared) (globals_of declared it) it.definition
+      → Placed (length declared) (globals_of declared it) it.definition
   checked_there module_name it stands =
-      standing_checked declared texts verdicts it.findings it.before it.definition stands.after module_name stands.text
+      standing_placed declared texts verdicts it.findings it.before it.definition stands.after module_name stands.text
       differ present are stands.is_text stands.findings_are stands.accepted
 
   -- its signature is over the devices

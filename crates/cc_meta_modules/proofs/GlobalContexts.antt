@@ -23,8 +23,7 @@ use Rattle.cc_grammar.specs.Syntax.{ImportSyntax}
 use Rattle.cc_meta_checking.specs.FillingLaws.{AreGlobals}
 use Rattle.cc_meta_checking.specs.CheckingLaws.{oldest}
 use Rattle.cc_meta_typing.proofs.FormedContexts.{kinded_single}
-use Rattle.cc_mnf.specs.CoreModules.{device_names}
-use Rattle.cc_mnf.specs.ElaboratedModules.{CoreModule, IsElaborated, elaboration}
+use Rattle.cc_mnf.specs.ElaboratedModules.{CoreModule, IsElaborated, elaboration, device_names}
 use Rattle.cc_grammar.specs.Syntax.{ModuleSyntax}
 use Rattle.cc_meta_modules.specs.ModuleLaws.{FitsDevices}
 use Rattle.cc_meta_modules.specs.ModuleVerdicts.{Finding, FoundDefinition, NoModule, InCycle, RefusedModule, NoDefinition, first_missing, declared_context, with_finding, with_findings}
@@ -99,7 +98,8 @@ pub found_base : (devices : List DeviceDecl) (findings : List Finding) → AllBy
     → HasBase (declared_context devices) (with_findings (declared_context devices) findings)
 found_base devices findings fit = findings_base devices (declared_context devices) findings (devices_base devices) fit
 
-found_count : (g : Context) (imports : List ImportSyntax) (findings : List Finding)
+-- how many positions there are with what is found for the imports
+pub found_count : (g : Context) (imports : List ImportSyntax) (findings : List Finding)
     → length findings ≡ length imports → first_missing imports findings ≡ None
     → length (with_findings g findings) ≡ length g + length imports
 found_count g [] [] l n = omega arith

@@ -19,8 +19,10 @@ use Rattle.cc_meta_checking.proofs.CheckedDefinitions.{accepted_sound}
 use Rattle.cc_meta_checking.proofs.OneVerdict.{one_verdict}
 use Rattle.cc_meta_checking.proofs.VerdictsExist.{has_verdict}
 use Rattle.cc_mnf.specs.ElaboratedModules.{CoreDefinition}
-use Rattle.cc_meta_modules.specs.ModuleLaws.{IsOverDevices, in_program}
-use Rattle.cc_meta_modules.specs.ModuleVerdicts.{CheckedDefinition, ModuleVerdict, IsAccepted, IsRefused, declared_context, to_be_checked, checked_as, after_definition, AreJudged, no_more, refused_first, accepted_first}
+use Rattle.cc_meta_modules.specs.ModuleLaws.{IsOverDevices}
+use Rattle.cc_meta_modules.specs.ModuleVerdicts.{CheckedDefinition, ModuleVerdict, IsAccepted, IsRefused}
+use Rattle.cc_meta_modules.specs.ModuleVerdicts.{declared_context, to_be_checked, checked_as, after_definition}
+use Rattle.cc_meta_modules.specs.ModuleVerdicts.{AreJudged, no_more, refused_first, accepted_first, in_program}
 use Rattle.cc_meta_modules.specs.ReadyDefinitions.{AreReady}
 use Rattle.cc_meta_modules.proofs.FilledValues.{accepted_right}
 use Rattle.cc_meta_modules.proofs.GlobalContexts.{HasBase, base_more, oldest_of_base}

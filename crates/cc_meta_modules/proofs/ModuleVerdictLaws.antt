@@ -12,13 +12,15 @@ use Rattle.cc_core.proofs.Sorts.{TypeSort}
 use Rattle.cc_core.proofs.WellFormedness.{well_formed-positions_below}
 use Rattle.cc_device.specs.Declarations.{declared_base, declared_bases}
 use Rattle.cc_grammar.specs.Syntax.{ModuleSyntax}
-use Rattle.cc_mnf.specs.CoreModules.{device_names}
-use Rattle.cc_mnf.specs.ElaboratedModules.{CoreModule, Elaboration, elaboration}
+use Rattle.cc_mnf.specs.ElaboratedModules.{CoreModule, Elaboration, elaboration, import_names, definition_names}
+use Rattle.cc_mnf.specs.ElaboratedModules.{device_names}
 use Rattle.cc_mnf.specs.ElaboratedModules as elaborated
-use Rattle.cc_mnf.specs.ElaborationLaws.{import_names, definition_names}
 use Rattle.cc_mnf.proofs.SecondNames.{names_differ}
-use Rattle.cc_meta_modules.specs.ModuleLaws.{AreFit, IsOverDevices, in_program, AreSound, ModuleVerdictsExist, ModuleVerdictsAreUnique, AcceptedModulesAreSound}
-use Rattle.cc_meta_modules.specs.ModuleVerdicts.{Finding, Refusal, CheckedDefinition, ModuleVerdict, IsAccepted, IsRefused, first_missing, declared_context, with_findings, AreJudged, HasModuleVerdict, is_no_module, import_is_missing, is_not_elaborated, is_judged}
+use Rattle.cc_meta_modules.specs.ModuleLaws.{AreFit, IsOverDevices, AreSound, ModuleVerdictsExist, ModuleVerdictsAreUnique, AcceptedModulesAreSound}
+use Rattle.cc_meta_modules.specs.ModuleVerdicts.{Finding, Refusal, CheckedDefinition, ModuleVerdict, IsAccepted}
+use Rattle.cc_meta_modules.specs.ModuleVerdicts.{IsRefused, first_missing, declared_context, with_findings, AreJudged}
+use Rattle.cc_meta_modules.specs.ModuleVerdicts.{HasModuleVerdict, is_no_module, import_is_missing, is_not_elaborated}
+use Rattle.cc_meta_modules.specs.ModuleVerdicts.{is_judged, in_program}
 use Rattle.cc_meta_modules.specs.Readings.{TextReading, IsTree, IsNoModule, HasReading, reading_of_text, imports_in}
 use Rattle.cc_meta_modules.proofs.GlobalContexts.{found_base, module_ready, count_devices}
 use Rattle.cc_meta_modules.proofs.JudgedDefinitions.{judged_exist, judged_alike, accepted_follow}

@@ -1,14 +1,14 @@
 -- A definition of an accepted module is accepted where it stands.
-use Rattle.std.proofs.Common.{◌≡◌, ℕ, List, [], ◌∷◌, ◌++◌, length, refl, sym, ap, ◌∙◌, subst, if◌then◌else◌}
+use Rattle.std.proofs.Common.{◌≡◌, ℕ, List, [], ◌∷◌, ◌++◌, length, Some, refl, sym, ap, ◌∙◌, subst, if◌then◌else◌}
 use Rattle.cc_base.specs.declared.device.DeviceDecl.{DeviceDecl}
 use Rattle.cc_core.specs.Contexts.{Context, entry_of}
 use Rattle.cc_mnf.specs.ElaboratedModules.{CoreDefinition}
 use Rattle.cc_sets.specs.Verdicts.{Definition}
 use Rattle.cc_sets.specs.Verdicts as definitions
 use Rattle.cc_meta_checking.specs.CheckingLaws.{Fits}
-use Rattle.cc_meta_modules.specs.ModuleLaws.{AreFit}
+use Rattle.cc_meta_modules.specs.ModuleLaws.{NamesOfDevicesDiffer, AreFit}
 use Rattle.cc_meta_modules.specs.ModuleVerdicts.{Finding, CheckedDefinition, ModuleVerdict, IsAccepted, declared_context, with_findings, to_be_checked, checked_as, AreJudged, no_more, refused_first, accepted_first, HasModuleVerdict, is_no_module, import_is_missing, is_not_elaborated, is_judged}
-use Rattle.cc_meta_modules.specs.PresentTexts.{findings_for}
+use Rattle.cc_meta_modules.specs.PresentTexts.{Texts, ArePresent, AreVerdicts, text_of, findings_for}
 use Rattle.cc_meta_modules.specs.ReadyDefinitions.{AreReady}
 use Rattle.cc_meta_modules.specs.StandingDefinitions.{with_definitions}
 use Rattle.cc_meta_modules.specs.StandingLaws.{StandingDefinitionsAreAccepted}
@@ -18,12 +18,12 @@ use Rattle.cc_meta_modules.proofs.JudgedDefinitions.{after_parts, accepted_parts
 use Rattle.cc_meta_modules.proofs.ModuleVerdictLaws.{fits_tree}
 use Rattle.cc_meta_modules.proofs.PresentLaws.{present_findings_fit}
 
--- what the definition comes from
-record Placed (devices : ℕ) (g : Context) (one : CheckedDefinition) : Type 0 where
-  definition : Definition
-  recursive : definition.recursive ≡ one.recursive
-  fits : Fits g definition
-  has : definitions.HasVerdict devices g definition (definitions.IsAccepted one.accepted)
+-- what the definition comes from, which fits the context and is accepted in it
+pub record Placed (devices : ℕ) (g : Context) (one : CheckedDefinition) : Type 0 where
+  pub definition : Definition
+  pub recursive : definition.recursive ≡ one.recursive
+  pub fits : Fits g definition
+  pub has : definitions.HasVerdict devices g definition (definitions.IsAccepted one.accepted)
 
 first_part : (one first : CheckedDefinition) (after others : List CheckedDefinition) → one ∷ after ≡ first ∷ others
     → one ≡ first
@@ -77,17 +77,27 @@ placed_in devices text findings before one after v (is_judged {tree = tree} {cor
     fit.over_devices found is in
     place (length devices) g core.definitions verdict ready judged before one after e
 
+-- a definition that stands in a present module
+pub standing_placed : (devices : List DeviceDecl) (texts : Texts) (verdicts : List ℕ → ModuleVerdict)
+    (findings : List Finding) (before : List CheckedDefinition) (one : CheckedDefinition) (after : List CheckedDefinition)
+    (name text : List ℕ)
+    → NamesOfDevicesDiffer devices → ArePresent texts → AreVerdicts devices texts verdicts
+    → text_of texts name ≡ Some text → findings ≡ findings_for texts verdicts name text
+    → verdicts name ≡ IsAccepted (before ++ one ∷ after)
+    → Placed (length devices) (with_definitions (with_findings (declared_context devices) findings) before) one
+standing_placed devices texts verdicts findings before one after name text differ present are is found accepted =
+    let same : findings_for texts verdicts name text ≡ findings = sym found in
+    placed_in devices text findings before one after (verdicts name)
+    (subst (λ (fs : List Finding). HasModuleVerdict devices text fs (verdicts name)) same (are name text is)) accepted
+    (subst (AreFit devices text) same
+    (present_findings_fit devices texts verdicts differ present are name text is))
+
 pub standing_accepted : StandingDefinitionsAreAccepted
 standing_accepted devices texts verdicts module_name name it differ present are e =
     let (stands, here, named) = definitions_stand devices texts verdicts module_name name it are e in
-    let same : findings_for texts verdicts stands.name stands.text ≡ it.findings = sym stands.findings_are in
-    let fit = present_findings_fit devices texts verdicts differ present are stands.name stands.text stands.present in
     let g : Context = with_definitions (with_findings (declared_context devices) it.findings) it.before in
-    let p = placed_in devices stands.text it.findings it.before it.definition stands.after (verdicts stands.name)
-    (subst (λ (fs : List Finding). HasModuleVerdict devices stands.text fs (verdicts stands.name)) same
-    (are stands.name stands.text stands.present))
-    stands.accepted
-    (subst (AreFit devices stands.text) same fit) in (
+    let p = standing_placed devices texts verdicts it.findings it.before it.definition stands.after stands.name
+    stands.text differ present are stands.present stands.findings_are stands.accepted in (
       g,
       p.definition,
       p.fits,

@@ -11,7 +11,8 @@ use Rattle.cc_core.proofs.Lookups.{length_map}
 use Rattle.cc_grammar.specs.Syntax.{ImportSyntax, ModuleSyntax}
 use Rattle.cc_meta_checking.specs.FillingLaws.{AreGlobals}
 use Rattle.cc_mnf.specs.ElaboratedModules.{CoreDefinition, CoreModule, IsElaborated, elaboration, is_right_side}
-use Rattle.cc_mnf.specs.ElaborationLaws.{import_names, definition_names, names_of, name_kinds, StandsAfter}
+use Rattle.cc_mnf.specs.ElaboratedModules.{import_names, definition_names, names_of}
+use Rattle.cc_mnf.specs.ElaborationLaws.{name_kinds, StandsAfter}
 use Rattle.cc_mnf.specs.Scopes.{Name}
 use Rattle.cc_mnf.proofs.ElaboratedDefinitions.{definitions_are_well_formed, right_sides_are_values, definitions_are_in_order}
 use Rattle.cc_mnf.proofs.ElaboratedHoles.{holes_are_of_parameters}

@@ -10,7 +10,8 @@ use Rattle.std.specs.Option.{unwrap_or, is_some}
 use Rattle.std.specs.Str.{bytes_eq}
 use Rattle.std.specs.declared.cmp.Ordering.TheVariants.{Less}
 use Rattle.cc_grammar.specs.Syntax.{ImportSyntax}
-use Rattle.cc_graph.specs.Graph.{ImportMap, IsImportMap, compare_names, is_present, does_import, IsOrder, reaches}
+use Rattle.cc_graph.specs.Graph.{ImportMap, IsImportMap, is_present, does_import, IsOrder, reaches}
+use Rattle.cc_base.specs.Names.{compare_names}
 use Rattle.cc_graph.proofs.NameLemmas.{same_name}
 use Rattle.cc_graph.proofs.OrderExistence.{orders_exist}
 use Rattle.cc_graph.proofs.OrderLaws.{orders_put_imports_first, orders_list_present_modules}

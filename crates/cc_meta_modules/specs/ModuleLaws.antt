@@ -6,14 +6,14 @@ use Rattle.std.specs.Prelude.{IsTrue}
 use Rattle.std.specs.Str.{bytes_eq}
 use Rattle.cc_base.specs.declared.device.DeviceDecl.{DeviceDecl}
 use Rattle.cc_core.specs.Occurrences.{HasNoHoleInType}
-use Rattle.cc_core.specs.Programs.{Definition, AreTyped, NamesDevicesOnly, is_definable}
+use Rattle.cc_core.specs.Programs.{AreTyped, NamesDevicesOnly, is_definable}
 use Rattle.cc_core.specs.Shapes.{CapturingType}
 use Rattle.cc_core.specs.WellFormed.{IsWellFormedType}
 use Rattle.cc_device.specs.Declarations.{declared_bases}
-use Rattle.cc_mnf.specs.CoreModules.{device_names}
+use Rattle.cc_mnf.specs.ElaboratedModules.{device_names}
 use Rattle.cc_meta_modules.specs.Readings.{imports_of}
 use Rattle.cc_meta_modules.specs.ModuleVerdicts.{Finding, FoundDefinition, CheckedDefinition, ModuleVerdict, IsAccepted}
-use Rattle.cc_meta_modules.specs.ModuleVerdicts.{HasModuleVerdict, declared_context, with_findings}
+use Rattle.cc_meta_modules.specs.ModuleVerdicts.{HasModuleVerdict, declared_context, with_findings, in_program}
 use Rattle.cc_meta_modules.specs.PresentTexts.{Texts, ArePresent, text_of, findings_for, AreVerdicts}
 
 -- the names of the devices differ
@@ -46,15 +46,6 @@ abbrev pub ModuleVerdictsAreUnique : Type 0
 ModuleVerdictsAreUnique =
     (devices : List DeviceDecl) (text : List ℕ) (findings : List Finding) (first second : ModuleVerdict)
     → HasModuleVerdict devices text findings first → HasModuleVerdict devices text findings second → first ≡ second
-
--- an accepted definition as one of a program
-abbrev pub in_program : CheckedDefinition → Definition
-in_program it = record {
-  name = it.name;
-  value = it.accepted.filled;
-  signature = it.accepted.signature;
-  is_recursive = it.recursive;
-}
 
 -- What holds of the definitions of an accepted module: their names differ; each is a value, and a recursive one a
 -- function; each signature is over the devices; and each definition has the type of its signature, in the context of

@@ -6,11 +6,10 @@ use Rattle.cc_base.specs.declared.device.DeviceDecl.{DeviceDecl}
 use Rattle.cc_base.specs.declared.place.Place.{Place}
 use Rattle.cc_core.specs.Shapes.{CapturingType}
 use Rattle.cc_core.specs.Contexts.{Context, entry_of}
-use Rattle.cc_core.specs.Programs.{device_context}
+use Rattle.cc_core.specs.Programs.{Definition as ProgramDefinition, device_context}
 use Rattle.cc_device.specs.Declarations.{declared_bases}
 use Rattle.cc_grammar.specs.Syntax.{ImportSyntax, ModuleSyntax}
-use Rattle.cc_mnf.specs.CoreModules.{device_names}
-use Rattle.cc_mnf.specs.ElaboratedModules.{CoreDefinition, CoreModule, elaboration}
+use Rattle.cc_mnf.specs.ElaboratedModules.{CoreDefinition, CoreModule, elaboration, device_names}
 use Rattle.cc_mnf.specs.ElaboratedModules as elaborated
 use Rattle.cc_sets.specs.Verdicts.{Definition, Accepted}
 use Rattle.cc_sets.specs.Verdicts as definitions
@@ -126,3 +125,12 @@ pub data HasModuleVerdict (devices : List DeviceDecl) (text : List ℕ) (finding
       → elaboration (device_names devices) tree ≡ elaborated.IsElaborated core
       → AreJudged (length devices) (with_findings (declared_context devices) findings) core.definitions verdict
       → HasModuleVerdict devices text findings verdict
+
+-- an accepted definition as one of a program
+abbrev pub in_program : CheckedDefinition → ProgramDefinition
+in_program it = record {
+  name = it.name;
+  value = it.accepted.filled;
+  signature = it.accepted.signature;
+  is_recursive = it.recursive;
+}

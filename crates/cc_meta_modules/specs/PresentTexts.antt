@@ -6,7 +6,8 @@ use Rattle.std.specs.Map.{keys_of, lookup}
 use Rattle.std.specs.Option.{unwrap_or, is_some}
 use Rattle.std.specs.Str.{bytes_eq}
 use Rattle.cc_base.specs.declared.device.DeviceDecl.{DeviceDecl}
-use Rattle.cc_graph.specs.Graph.{ImportMap, compare_names, reaches}
+use Rattle.cc_graph.specs.Graph.{ImportMap, reaches}
+use Rattle.cc_base.specs.Names.{compare_names}
 use Rattle.cc_grammar.specs.Syntax.{ImportSyntax}
 use Rattle.cc_meta_modules.specs.Readings.{imports_of}
 use Rattle.cc_meta_modules.specs.ModuleVerdicts.{Finding, FoundDefinition, NoModule, InCycle, RefusedModule, NoDefinition}

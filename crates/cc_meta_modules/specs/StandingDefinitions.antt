@@ -7,8 +7,7 @@ use Rattle.cc_base.specs.declared.code.Code.TheVariants.{E32, E33, E34}
 use Rattle.cc_base.specs.declared.device.DeviceDecl.{DeviceDecl}
 use Rattle.cc_core.specs.Contexts.{Context, entry_of}
 use Rattle.cc_grammar.specs.Syntax.{ImportSyntax}
-use Rattle.cc_mnf.specs.CoreModules.{device_names}
-use Rattle.cc_mnf.specs.ElaborationLaws.{import_names}
+use Rattle.cc_mnf.specs.ElaboratedModules.{import_names, device_names}
 use Rattle.cc_meta_modules.specs.Readings.{imports_of}
 use Rattle.cc_meta_modules.specs.ModuleVerdicts.{Finding, CheckedDefinition, ModuleVerdict, IsAccepted, IsRefused}
 use Rattle.cc_meta_modules.specs.ModuleVerdicts.{declared_context, with_findings}

@@ -5,7 +5,8 @@ use Rattle.cc_core.specs.Contexts.{Context}
 use Rattle.cc_grammar.specs.Syntax.{ImportSyntax}
 use Rattle.cc_sets.specs.Verdicts.{Definition, HasVerdict}
 use Rattle.cc_sets.specs.Verdicts as definitions
-use Rattle.cc_meta_checking.specs.CheckingLaws.{Fits, definition_context}
+use Rattle.cc_meta_checking.specs.CheckingLaws.{Fits}
+use Rattle.cc_meta_checking.specs.AcceptedDefinitions.{definition_context}
 use Rattle.cc_meta_modules.specs.ModuleLaws.{NamesOfDevicesDiffer}
 use Rattle.cc_meta_modules.specs.ModuleVerdicts.{Finding, CheckedDefinition, ModuleVerdict}
 use Rattle.cc_meta_modules.specs.PresentTexts.{Texts, ArePresent, AreVerdicts}

@@ -26,7 +26,8 @@ use Rattle.cc_core.proofs.Moving.{Member-single}
 use Rattle.cc_device.specs.Events.{Ended, ended}
 use Rattle.cc_meta_runs.specs.Machine.{LetFrame, ScopeFrame, RepetitionFrame, Stack, Configuration, configured, going, put_in, call_with_number, repeat_step, variable_step, value_step}
 use Rattle.cc_meta_runs.specs.Reach.{SetReaches, captured_by_stack}
-use Rattle.cc_meta_runs.specs.Soundness.{repeated, scopes_of, IsListed, IsFalling, ReachesOnlyScopes, FramesReachScopes}
+use Rattle.cc_meta_runs.specs.Soundness.{repeated, IsFalling, ReachesOnlyScopes, FramesReachScopes}
+use Rattle.cc_meta_runs.specs.SafeRuns.{scopes_of, IsListed}
 use Rattle.cc_meta_typing.proofs.DirectSubtyping.{SubtypesDirectly}
 use Rattle.cc_meta_typing.proofs.FreeMaps.{as_is, more}
 use Rattle.cc_meta_typing.proofs.InternalTyping.{HasVariable, TypedExactly, exact_application, Typed, captured_kinded}

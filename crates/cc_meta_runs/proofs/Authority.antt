@@ -7,7 +7,7 @@ use Rattle.cc_capture.specs.declared.var.Var.TheVariants.{Free}
 use Rattle.cc_capture.specs.declared.var.Elem.TheVariants.{Var as Variable, Cap}
 use Rattle.cc_capture.specs.Sets.{Set, Member, contains}
 use Rattle.cc_core.specs.Stores.{is_permitted}
-use Rattle.cc_meta_runs.specs.Soundness.{IsListed}
+use Rattle.cc_meta_runs.specs.SafeRuns.{IsListed}
 use Rattle.cc_meta_runs.specs.SoundRuns.{AuthorityIsWhatIsNamed}
 
 -- what a test gives stays listed, and is all that stays

@@ -6,7 +6,8 @@ use Rattle.cc_base.specs.declared.device.Kind.TheVariants as kinds
 use Rattle.cc_core.specs.Stores.{authority}
 use Rattle.cc_meta_runs.specs.Runs.{State}
 use Rattle.cc_meta_runs.specs.Links.{program_start}
-use Rattle.cc_meta_runs.specs.LinkLaws.{DeclaredDevicesHaveTheirShapes, EntriesAreTyped, EntriesRunSafely, RunsSafely}
+use Rattle.cc_meta_runs.specs.LinkLaws.{DeclaredDevicesHaveTheirShapes, EntriesAreTyped, EntriesRunSafely}
+use Rattle.cc_meta_runs.specs.SafeRuns.{RunsSafely}
 use Rattle.cc_meta_runs.proofs.LinkedPrograms.{program_typed, program_starts}
 use Rattle.cc_meta_runs.proofs.SafeRuns.{start_reaches, sound_run}
 

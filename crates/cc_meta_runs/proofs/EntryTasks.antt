@@ -11,13 +11,14 @@ use Rattle.cc_device.specs.Events.{Exited}
 use Rattle.cc_meta_runs.specs.Machine.{Configuration}
 use Rattle.cc_meta_runs.specs.Reach.{SetReaches, captured_set}
 use Rattle.cc_meta_runs.specs.Runs.{Moves, run}
-use Rattle.cc_meta_runs.specs.Soundness.{scopes_of, IsListed}
+use Rattle.cc_meta_runs.specs.SafeRuns.{scopes_of, IsListed, HaveShapes}
 use Rattle.cc_meta_runs.specs.SoundRuns.{IsSoundState}
 use Rattle.cc_meta_runs.specs.Links.{program_start}
-use Rattle.cc_meta_runs.specs.LinkLaws.{HaveShapes}
-use Rattle.cc_meta_runs.specs.Interleavings.{World, world_of, state_of, Turn, Interleaving, interleave, own_steps, ending_in, ends_from, interleaved_run}
-use Rattle.cc_meta_runs.specs.InterleavingLaws.{Takes, AreSound, ReachesDevice}
-use Rattle.cc_meta_runs.specs.TaskLaws.{AreEntries, EndsAreOfTheirTasks, IsSafeTask, TaskRunsSafely, HasItsDevicesAlone, TaskRunsAsAlone, EntriesRunInterleaved}
+use Rattle.cc_meta_runs.specs.Interleavings.{World, world_of, state_of, Turn, Interleaving, interleave, own_steps}
+use Rattle.cc_meta_runs.specs.Interleavings.{ending_in, ends_from, interleaved_run, Takes}
+use Rattle.cc_meta_runs.specs.InterleavingLaws.{AreSound, ReachesDevice}
+use Rattle.cc_meta_runs.specs.TaskLaws.{AreEntries, EndsAreOfTheirTasks, EntriesRunInterleaved}
+use Rattle.cc_meta_runs.specs.SafeTasks.{IsSafeTask, TaskRunsSafely, HasItsDevicesAlone, TaskRunsAsAlone}
 use Rattle.cc_meta_runs.proofs.RunTheorems.{runs_never_stop}
 use Rattle.cc_meta_runs.proofs.LinkedPrograms.{program_starts}
 use Rattle.cc_meta_runs.proofs.SafeRuns.{start_reaches, exit_scope}

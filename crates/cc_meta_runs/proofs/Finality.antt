@@ -1,4 +1,4 @@
--- Exactly the answered configurations are final.
+-- Exactly the answered configurations are final, and whatever asks a device has an argument that its operation takes.
 use Rattle.std.proofs.Common.{◌≡◌, ℕ, zero, suc, Bool, true, false, cond, [], ◌∷◌, Option, Some, None, refl, ap, ◌∙◌, subst}
 use Rattle.std.specs.Prelude.{pos, negsuc, nat_eq, ◌&&◌}
 use Rattle.cc_base.specs.declared.literal.Op.{Op}
@@ -15,19 +15,26 @@ use Rattle.cc_meta_runs.specs.Answers.{is_answer}
 use Rattle.cc_meta_runs.specs.Runs.{State, IsFinal, answered, closed}
 use Rattle.cc_meta_runs.specs.RunLaws.{IsAnswered, FinalExactlyWhereAnswered, FinalStatesAreAnswered}
 
-abbrev IsNotFinal : Outcome → Type 0
-IsNotFinal Stuck = Unit {0}
-IsNotFinal Final = ⊥
-IsNotFinal (Next event next) = Unit {0}
-IsNotFinal (Ask device operation argument resume) = Unit {0}
+-- it is not final, and what it asks is asked with an argument that the operation takes
+abbrev GoesOn : Outcome → Type 0
+GoesOn Stuck = Unit {0}
+GoesOn Final = ⊥
+GoesOn (Next event next) = Unit {0}
+GoesOn (Ask device operation argument resume) = is_taken (base_taken operation) argument ≡ true
 
-either_goes_on : (t : Bool) (x y : Outcome) → IsNotFinal x → IsNotFinal y → IsNotFinal (cond t x y)
+either_goes_on : (t : Bool) (x y : Outcome) → GoesOn x → GoesOn y → GoesOn (cond t x y)
 either_goes_on true x y hx hy = hx
 either_goes_on false x y hx hy = hy
 
+if_taken : (s t : Bool) (n : ℕ) (op : Op) (a : Option Literal) (resume : Literal → Configuration) → (t ≡ true → is_taken (base_taken op) a ≡ true)
+    → GoesOn (cond (s && t) (Ask n op a resume) Stuck)
+if_taken true true n op a resume h = h refl
+if_taken true false n op a resume h = tt
+if_taken false t n op a resume h = tt
+
 -- no line of the step but those of answers without a frame is final
 module _ (st : Store) (k : Stack) (made : ℕ) where
-  let_goes_on : (r body : Term) → IsNotFinal (let_step st k made r body)
+  let_goes_on : (r body : Term) → GoesOn (let_step st k made r body)
   let_goes_on (VariableTerm v) body = tt
   let_goes_on (LiteralTerm l) body = tt
   let_goes_on (FunctionTerm s c t) body = tt
@@ -44,72 +51,71 @@ module _ (st : Store) (k : Stack) (made : ℕ) where
   let_goes_on (Boundary s t) body = tt
   let_goes_on (Leave s c v w) body = tt
 
-  apply_goes_on : (a : Var) (o : Option Cell) → IsNotFinal (apply_step st k made a o)
+  apply_goes_on : (a : Var) (o : Option Cell) → GoesOn (apply_step st k made a o)
   apply_goes_on a (Some (ValueCell (FunctionTerm s c t))) = tt
   apply_goes_on a (Some (ValueCell v)) = tt
   apply_goes_on a (Some (DeviceCell n b)) = tt
   apply_goes_on a (Some (LabelCell n)) = tt
   apply_goes_on a None = tt
 
-  type_apply_goes_on : (r : Shape) (o : Option Cell) → IsNotFinal (type_apply_step st k made r o)
+  type_apply_goes_on : (r : Shape) (o : Option Cell) → GoesOn (type_apply_step st k made r o)
   type_apply_goes_on r (Some (ValueCell (TypeFunctionTerm s t))) = tt
   type_apply_goes_on r (Some (ValueCell v)) = tt
   type_apply_goes_on r (Some (DeviceCell n b)) = tt
   type_apply_goes_on r (Some (LabelCell n)) = tt
   type_apply_goes_on r None = tt
 
-  unbox_goes_on : (o : Option Cell) → IsNotFinal (unbox_step st k made o)
+  unbox_goes_on : (o : Option Cell) → GoesOn (unbox_step st k made o)
   unbox_goes_on (Some (ValueCell (BoxTerm v))) = tt
   unbox_goes_on (Some (ValueCell v)) = tt
   unbox_goes_on (Some (DeviceCell n b)) = tt
   unbox_goes_on (Some (LabelCell n)) = tt
   unbox_goes_on None = tt
 
-  primitive_goes_on : (p : Operator) (x y : Option Literal) → IsNotFinal (primitive_step st k made p x y)
+  primitive_goes_on : (p : Operator) (x y : Option Literal) → GoesOn (primitive_step st k made p x y)
   primitive_goes_on p (Some (NumberLiteral a)) (Some (NumberLiteral b)) = tt
   primitive_goes_on p x y = tt
 
-  conditional_goes_on : (t u : Term) (x : Option Literal) → IsNotFinal (conditional_step st k made t u x)
+  conditional_goes_on : (t u : Term) (x : Option Literal) → GoesOn (conditional_step st k made t u x)
   conditional_goes_on t u (Some (TruthLiteral b)) = tt
   conditional_goes_on t u x = tt
 
-  repetition_goes_on : (f : Var) (x : Option Literal) → IsNotFinal (repetition_step st k made f x)
+  repetition_goes_on : (f : Var) (x : Option Literal) → GoesOn (repetition_step st k made f x)
   repetition_goes_on f (Some (NumberLiteral (pos zero))) = tt
   repetition_goes_on f (Some (NumberLiteral (pos (suc n)))) = tt
   repetition_goes_on f (Some (NumberLiteral (negsuc n))) = tt
   repetition_goes_on f x = tt
 
-  repeat_goes_on : (f : Var) (b w : ℕ) → IsNotFinal (repeat_step st k made f b w)
+  repeat_goes_on : (f : Var) (b w : ℕ) → GoesOn (repeat_step st k made f b w)
   repeat_goes_on f b w =
       either_goes_on (nat_eq b w) (going st k made (LiteralTerm UnitLiteral)) (call_with_number st k made f (suc b) w b) tt tt
 
-  operation_goes_on : (op : Op) (o : Option Cell) (x : Option (Option Literal)) → IsNotFinal (operation_step st k made op o x)
+  operation_goes_on : (op : Op) (o : Option Cell) (x : Option (Option Literal)) → GoesOn (operation_step st k made op o x)
   operation_goes_on op (Some (DeviceCell n b)) (Some a) =
-      either_goes_on (same_base b (base_operated op) && is_taken (base_taken op) a)
-      (Ask n op a (λ answer. configured st k made (LiteralTerm answer))) Stuck tt tt
+      if_taken (same_base b (base_operated op)) (is_taken (base_taken op) a) n op a (λ answer. configured st k made (LiteralTerm answer)) (λ h. h)
   operation_goes_on op o x = tt
 
-  exit_to_goes_on : (v : Var) (n : ℕ) (o : Option Stack) → IsNotFinal (exit_to st made v n o)
+  exit_to_goes_on : (v : Var) (n : ℕ) (o : Option Stack) → GoesOn (exit_to st made v n o)
   exit_to_goes_on v n (Some j) = tt
   exit_to_goes_on v n None = tt
 
-  exit_goes_on : (v : Var) (o : Option Cell) → IsNotFinal (exit_step st k made v o)
+  exit_goes_on : (v : Var) (o : Option Cell) → GoesOn (exit_step st k made v o)
   exit_goes_on v (Some (LabelCell n)) = exit_to_goes_on v n (below_scope n k)
   exit_goes_on v o = tt
 
-variable_goes_on : (st : Store) (f : Frame) (k : Stack) (made : ℕ) (v : Var) → IsNotFinal (variable_step st (f ∷ k) made v)
+variable_goes_on : (st : Store) (f : Frame) (k : Stack) (made : ℕ) (v : Var) → GoesOn (variable_step st (f ∷ k) made v)
 variable_goes_on st (LetFrame body) k made v = tt
 variable_goes_on st (ScopeFrame n) k made v = tt
 variable_goes_on st (RepetitionFrame g b w) k made v = repeat_goes_on st k made g b w
 
-value_goes_on : (st : Store) (f : Frame) (k : Stack) (made : ℕ) (v : Term) → IsNotFinal (value_step st (f ∷ k) made v)
+value_goes_on : (st : Store) (f : Frame) (k : Stack) (made : ℕ) (v : Term) → GoesOn (value_step st (f ∷ k) made v)
 value_goes_on st (LetFrame body) k made v = tt
 value_goes_on st (ScopeFrame n) k made v = tt
 value_goes_on st (RepetitionFrame g b w) k made v = repeat_goes_on st k made g b w
 
 -- a final outcome comes of an answer without a frame
-final_at : {x : Outcome} → IsNotFinal x → x ≡ Final → ⊥
-final_at not_final is = subst IsNotFinal is not_final
+final_at : {x : Outcome} → GoesOn x → x ≡ Final → ⊥
+final_at goes_on is = subst GoesOn is goes_on
 
 of_variable : (st : Store) (k : Stack) (made : ℕ) (v : Var) → variable_step st k made v ≡ Final → k ≡ []
 of_variable st [] made v is = refl
@@ -159,6 +165,41 @@ final_exactly_where_answered c = (
   from_final c.store c.stack c.labels_made c.term,
   λ is. ap (λ k. term_step c.store k c.labels_made c.term) is.1 ∙ no_frame_final c.store c.labels_made c.term is.0,
 )
+
+-- what is asked is asked with an argument that the operation takes
+module _ {n : ℕ} {op : Op} {a : Option Literal} {resume : Literal → Configuration} where
+  asked_at : {x : Outcome} → GoesOn x → x ≡ Ask n op a resume → is_taken (base_taken op) a ≡ true
+  asked_at goes_on is = subst GoesOn is goes_on
+
+  variable_asks : (st : Store) (k : Stack) (made : ℕ) (v : Var) → variable_step st k made v ≡ Ask n op a resume → is_taken (base_taken op) a ≡ true
+  variable_asks st [] made v is = cc
+  variable_asks st (f ∷ k) made v is = asked_at (variable_goes_on st f k made v) is
+
+  value_asks : (st : Store) (k : Stack) (made : ℕ) (v : Term) → value_step st k made v ≡ Ask n op a resume → is_taken (base_taken op) a ≡ true
+  value_asks st [] made v is = cc
+  value_asks st (f ∷ k) made v is = asked_at (value_goes_on st f k made v) is
+
+  term_asks : (st : Store) (k : Stack) (made : ℕ) (t : Term) → term_step st k made t ≡ Ask n op a resume → is_taken (base_taken op) a ≡ true
+  term_asks st k made (VariableTerm v) is = variable_asks st k made v is
+  term_asks st k made (LiteralTerm l) is = value_asks st k made (LiteralTerm l) is
+  term_asks st k made (FunctionTerm s c t) is = value_asks st k made (FunctionTerm s c t) is
+  term_asks st k made (TypeFunctionTerm s t) is = value_asks st k made (TypeFunctionTerm s t) is
+  term_asks st k made (BoxTerm v) is = value_asks st k made (BoxTerm v) is
+  term_asks st k made (Application f x) is = asked_at (apply_goes_on st k made x (cell_at st f)) is
+  term_asks st k made (TypeApplication f r) is = asked_at (type_apply_goes_on st k made r (cell_at st f)) is
+  term_asks st k made (Unboxing o v) is = asked_at (unbox_goes_on st k made (cell_at st v)) is
+  term_asks st k made (Let m r body) is = asked_at (let_goes_on st k made r body) is
+  term_asks st k made (Primitive p v w) is =
+      asked_at (primitive_goes_on st k made p (literal_in (cell_at st v)) (literal_in (cell_at st w))) is
+  term_asks st k made (Conditional m v t u) is = asked_at (conditional_goes_on st k made t u (literal_in (cell_at st v))) is
+  term_asks st k made (Repetition v f) is = asked_at (repetition_goes_on st k made f (literal_in (cell_at st v))) is
+  term_asks st k made (Operation p v o) is = asked_at (operation_goes_on st k made p (cell_at st v) (argument_at st o)) is
+  term_asks st k made (Boundary s body) is = cc
+  term_asks st k made (Leave s c x v) is = asked_at (exit_goes_on st k made v (cell_at st x)) is
+
+pub asks_rightly : (c : Configuration) (n : ℕ) (op : Op) (a : Option Literal) (resume : Literal → Configuration) → step c ≡ Ask n op a resume
+    → is_taken (base_taken op) a ≡ true
+asks_rightly c n op a resume is = term_asks c.store c.stack c.labels_made c.term is
 
 -- the devices decide nothing of this
 answered_goes_on : (n : ℕ) (op : Op) (a : Option Literal) (resume : Literal → Configuration) (o : Option Reply) → answered n op a resume o ≡ IsFinal → ⊥

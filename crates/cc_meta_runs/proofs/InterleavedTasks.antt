@@ -11,10 +11,13 @@ use Rattle.cc_device.proofs.Operations.{set_at, set_elsewhere}
 use Rattle.cc_meta_runs.specs.Machine.{Configuration}
 use Rattle.cc_meta_runs.specs.Reach.{SetReaches, captured_set}
 use Rattle.cc_meta_runs.specs.Runs.{State, Move, IsStuck, IsFinal, Moves, move, with_event}
-use Rattle.cc_meta_runs.specs.Soundness.{scopes_of, IsListed}
-use Rattle.cc_meta_runs.specs.SoundRuns.{FitsDevices, IsSoundState, IsSoundMove, IsAmong}
-use Rattle.cc_meta_runs.specs.Interleavings.{World, state_of, move_of, after_turn, Turn, Chosen, offered, chosen_from, Interleaving, take_turn, go_on, interleave, trace_of, all_events, own_events, own_steps}
-use Rattle.cc_meta_runs.specs.InterleavingLaws.{Takes, no_turn, then_turn, AreSound, IsAtRest, InterleavingsAreTurns, SchedulesGoOn, TasksStaySound, KeepsItsPromises, TasksKeepTheirPromises, events_on, History, quiet, DevicesHaveHistories}
+use Rattle.cc_meta_runs.specs.SafeRuns.{scopes_of, IsListed, IsAmong}
+use Rattle.cc_meta_runs.specs.SoundRuns.{FitsDevices, IsSoundState, IsSoundMove}
+use Rattle.cc_meta_runs.specs.Interleavings.{World, state_of, move_of, after_turn, Turn, Chosen, offered, chosen_from}
+use Rattle.cc_meta_runs.specs.Interleavings.{Interleaving, take_turn, go_on, interleave, trace_of, all_events}
+use Rattle.cc_meta_runs.specs.Interleavings.{own_events, own_steps, Takes, no_turn, then_turn, IsAtRest, events_on}
+use Rattle.cc_meta_runs.specs.Interleavings.{History, quiet}
+use Rattle.cc_meta_runs.specs.InterleavingLaws.{AreSound, InterleavingsAreTurns, SchedulesGoOn, TasksStaySound, KeepsItsPromises, TasksKeepTheirPromises, DevicesHaveHistories}
 use Rattle.cc_meta_runs.proofs.DeviceTable.{moves_keep_the_devices}
 use Rattle.cc_meta_runs.proofs.RunTheorems.{fitting_is_by_shapes, moves_are_sound, among, follow}
 use Rattle.cc_meta_runs.proofs.LocalSteps.{kept_from, move_continues, with_on}

@@ -26,7 +26,8 @@ use Rattle.cc_core.proofs.KindFacts.{IsOfKind, IsKindedElement, IsKindedSet, IsK
 use Rattle.cc_device.specs.Events.{Event}
 use Rattle.cc_meta_runs.specs.Machine.{LetFrame, ScopeFrame, RepetitionFrame, Stack, Configuration, Outcome, Stuck, Final, Next, Ask, is_taken}
 use Rattle.cc_meta_runs.specs.Reach.{SetReaches, captured_by_stack}
-use Rattle.cc_meta_runs.specs.Soundness.{repeated, HasStackTyping, no_frame, let_frame, scope_frame, repetition_frame, labels_in, countdown, scopes_of, IsFalling, ReachesOnlyScopes, FramesReachScopes, IsSound, ReachesNoNewDevice, HasNoNewDeviceCell, FitsScopes, OperatesNoDevice, IsSoundStep, IsSoundOutcome}
+use Rattle.cc_meta_runs.specs.Soundness.{repeated, HasStackTyping, no_frame, let_frame, scope_frame, repetition_frame, labels_in, countdown, IsFalling, ReachesOnlyScopes, FramesReachScopes, IsSound, ReachesNoNewDevice, HasNoNewDeviceCell, FitsScopes, OperatesNoDevice, IsSoundStep, IsSoundOutcome}
+use Rattle.cc_meta_runs.specs.SafeRuns.{scopes_of}
 use Rattle.cc_meta_typing.proofs.DirectSubtyping.{SubtypesDirectly, direct_from, direct_to}
 use Rattle.cc_meta_typing.proofs.FormedContexts.{length-kinds_of, kinded_single, IsKindedTerm-added, HasKinds-opened}
 use Rattle.cc_meta_typing.proofs.FreeMaps.{as_is, more, subtypes-kept, same_position, same_variable, still, still_set, still_term, maps_longer, maps_under}

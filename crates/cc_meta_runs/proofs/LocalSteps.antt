@@ -15,8 +15,8 @@ use Rattle.cc_core.specs.Captured.{captured_variables}
 use Rattle.cc_meta_runs.specs.Runs.{State, Move, IsStuck, IsFinal, Moves, answered, closed, move}
 use Rattle.cc_meta_runs.specs.Soundness.{IsSound, IsSoundOutcome, OperatesNoDevice}
 use Rattle.cc_meta_runs.specs.SoundRuns.{IsSoundState, IsKeptSound, IsSoundMove}
-use Rattle.cc_meta_runs.specs.Interleavings.{state_of}
-use Rattle.cc_meta_runs.specs.InterleavingLaws.{ReachesDevice, ComesToTheSame, StepsDependOnWhatTheyReach, StepsChangeWhatTheyReach, on_device, History, then_operated}
+use Rattle.cc_meta_runs.specs.Interleavings.{state_of, on_device, History, then_operated}
+use Rattle.cc_meta_runs.specs.InterleavingLaws.{ReachesDevice, ComesToTheSame, StepsDependOnWhatTheyReach, StepsChangeWhatTheyReach}
 use Rattle.cc_meta_runs.proofs.ReachLemmas.{set_reaches-left}
 use Rattle.cc_meta_runs.proofs.StepTheorem.{steps_are_sound}
 use Rattle.cc_meta_runs.proofs.DeviceTable.{moves_touch_one_device}
@@ -25,9 +25,6 @@ use Rattle.cc_meta_runs.proofs.RunTheorems.{moves_are_sound}
 -- what a move from a sound state keeps
 pub kept_from : (state : State) → IsSoundState state → (event : Option Event) (next : State) → move state ≡ Moves event next → IsKeptSound state event next
 kept_from state sound event next is = subst (IsSoundMove state) is (moves_are_sound state sound)
-
-operated_number : {n n' : ℕ} {op op' : Op} {l l' : Literal} → Some (Operated n op l) ≡ Some (Operated n' op' l') → n ≡ n'
-operated_number e = cc
 
 pub steps_change_what_they_reach : StepsChangeWhatTheyReach
 steps_change_what_they_reach state next event sound is number not =

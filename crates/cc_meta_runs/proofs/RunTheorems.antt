@@ -21,8 +21,9 @@ use Rattle.cc_meta_runs.specs.Machine.{Configuration, Outcome, Stuck, Final, Nex
 use Rattle.cc_meta_runs.specs.Reach.{IsEnd, Reaches, here, through, SetReaches, captured_set, captured_by_stack}
 use Rattle.cc_meta_runs.specs.Runs as runs
 use Rattle.cc_meta_runs.specs.Runs.{State, Move, IsStuck, IsFinal, Moves, answered, closed, move, with_event, Ending, Ends, IsStopped, Run, ended, after_move, ending_of, run_on, run, LeadsIn}
-use Rattle.cc_meta_runs.specs.Soundness.{labels_in, scopes_of, IsListed, ReachesNoNewDevice, FitsScopes, IsSoundQuestion, IsSoundOutcome, OperatesNoDevice, no_frame}
-use Rattle.cc_meta_runs.specs.SoundRuns.{FitsDevices, IsSoundState, IsAmong, TypedProgramsStartSoundly, SoundnessIsKept, SoundStatesNeverGetStuck, OperatedDevicesAreReached, ReachNeverGrows, ScopesFollowEvents, RunsNeverStop, RunsAreSteps, EventsAreWellScoped, EntriesKeepTheirAuthority}
+use Rattle.cc_meta_runs.specs.Soundness.{labels_in, ReachesNoNewDevice, FitsScopes, IsSoundQuestion, IsSoundOutcome, OperatesNoDevice, no_frame}
+use Rattle.cc_meta_runs.specs.SafeRuns.{scopes_of, IsListed, IsAmong}
+use Rattle.cc_meta_runs.specs.SoundRuns.{FitsDevices, IsSoundState, TypedProgramsStartSoundly, SoundnessIsKept, SoundStatesNeverGetStuck, OperatedDevicesAreReached, ReachNeverGrows, ScopesFollowEvents, RunsNeverStop, RunsAreSteps, EventsAreWellScoped, EntriesKeepTheirAuthority}
 use Rattle.cc_meta_runs.proofs.ReachLemmas.{set_reaches-left, set_reaches-either, set_reaches-none, variable_reaches, declared_reach}
 use Rattle.cc_meta_runs.proofs.StoreTyping.{store_typed_from}
 use Rattle.cc_meta_runs.proofs.StepHelpers.{listed_label}

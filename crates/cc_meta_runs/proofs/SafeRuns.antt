@@ -15,9 +15,8 @@ use Rattle.cc_device.specs.Events.{Event, Exited, Follows, operated, entered, en
 use Rattle.cc_meta_runs.specs.Reach.{SetReaches, captured_set}
 use Rattle.cc_meta_runs.specs.Runs as runs
 use Rattle.cc_meta_runs.specs.Runs.{State, Moves, move, Leads, run}
-use Rattle.cc_meta_runs.specs.Soundness.{scopes_of, IsListed}
+use Rattle.cc_meta_runs.specs.SafeRuns.{scopes_of, IsListed, IsSafeMoment, RunsSafely}
 use Rattle.cc_meta_runs.specs.SoundRuns.{IsSoundState, IsSoundStart, start}
-use Rattle.cc_meta_runs.specs.LinkLaws.{IsSafeMoment, RunsSafely}
 use Rattle.cc_meta_runs.proofs.Authority.{authority_is_what_is_named}
 use Rattle.cc_meta_runs.proofs.ReachLemmas.{set_reaches-either, set_reaches-none, variable_reaches, declared_reach}
 use Rattle.cc_meta_runs.proofs.StoreTyping.{store_typed_from}

@@ -3,8 +3,9 @@ use Rattle.std.proofs.Common.{◌≡◌, ℕ, zero, suc, List, [], ◌∷◌, �
 use Rattle.std.specs.List.{AllByRecursion}
 use Rattle.std.proofs.lemmas.List.{append-nil}
 use Rattle.cc_meta_runs.specs.Runs.{Move, IsStuck, IsFinal, Moves}
-use Rattle.cc_meta_runs.specs.Interleavings.{World, move_of, after_turn, Turn, Chosen, offered, chosen_from, Interleaving, take_turn, go_on, interleave}
-use Rattle.cc_meta_runs.specs.InterleavingLaws.{IsAtRest, ComeUp, all_came, passed_over, takes_turn, repeated, SchedulesAreRepeated}
+use Rattle.cc_meta_runs.specs.Interleavings.{World, move_of, after_turn, Turn, Chosen, offered, chosen_from}
+use Rattle.cc_meta_runs.specs.Interleavings.{Interleaving, take_turn, go_on, interleave, IsAtRest}
+use Rattle.cc_meta_runs.specs.InterleavingLaws.{ComeUp, all_came, passed_over, takes_turn, repeated, SchedulesAreRepeated}
 use Rattle.cc_meta_runs.proofs.InterleavedTasks.{is_turn}
 
 repeated_once_more : (times : ℕ) (s : List ℕ) → repeated times s ++ s ≡ s ++ repeated times s

@@ -27,7 +27,8 @@ use Rattle.cc_core.proofs.KindFacts.{IsKindedSet, IsKinded}
 use Rattle.cc_device.specs.Events.{Exited, entered, exited}
 use Rattle.cc_meta_runs.specs.Machine.{Frame, LetFrame, ScopeFrame, RepetitionFrame, Stack, Configuration, configured, Ask, Stuck, same_base, is_taken, argument_at, operation_step, below_scope, exit_to, exit_step, boundary_step}
 use Rattle.cc_meta_runs.specs.Reach.{IsEnd, Reaches, here, through, SetReaches, captured_by_frame, captured_by_stack}
-use Rattle.cc_meta_runs.specs.Soundness.{labels_in, countdown, scopes_of, IsListed, IsFalling, FramesReachScopes}
+use Rattle.cc_meta_runs.specs.Soundness.{labels_in, countdown, IsFalling, FramesReachScopes}
+use Rattle.cc_meta_runs.specs.SafeRuns.{scopes_of, IsListed}
 use Rattle.cc_meta_typing.proofs.DirectSubtyping.{SubtypesDirectly}
 use Rattle.cc_meta_typing.proofs.FormedContexts.{some_is}
 use Rattle.cc_meta_typing.proofs.FreeMaps.{as_is, more, lookup_cases, subtypes-kept}

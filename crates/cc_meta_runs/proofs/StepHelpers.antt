@@ -25,7 +25,8 @@ use Rattle.cc_core.proofs.KindFacts.{IsKindedSet, IsKindedTerm}
 use Rattle.cc_device.specs.Events.{Event}
 use Rattle.cc_meta_runs.specs.Machine.{Stack, configured}
 use Rattle.cc_meta_runs.specs.Reach.{IsEnd, Reaches, here, through, SetReaches, captured_by_stack}
-use Rattle.cc_meta_runs.specs.Soundness.{labels_in, countdown, scopes_of, IsListed, IsFalling, FramesReachScopes, FitsScopes, OperatesNoDevice}
+use Rattle.cc_meta_runs.specs.Soundness.{labels_in, countdown, IsFalling, FramesReachScopes, FitsScopes, OperatesNoDevice}
+use Rattle.cc_meta_runs.specs.SafeRuns.{scopes_of, IsListed}
 use Rattle.cc_meta_typing.proofs.DirectSubtyping.{SubtypesDirectly, alike, under_any, through_bound, functions, type_functions, boxes}
 use Rattle.cc_meta_runs.proofs.PutCaptures.{captured_when_put}
 use Rattle.cc_meta_typing.proofs.FreeMaps.{lookup_cases}

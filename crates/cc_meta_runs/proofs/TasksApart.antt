@@ -8,8 +8,9 @@ use Rattle.cc_device.specs.Events.{Event}
 use Rattle.cc_device.proofs.Operations.{set_at, set_elsewhere}
 use Rattle.cc_meta_runs.specs.Machine.{Configuration}
 use Rattle.cc_meta_runs.specs.Runs.{State, Move, IsStuck, IsFinal, Moves, move, ending_of, after_move, run_on, run}
-use Rattle.cc_meta_runs.specs.Interleavings.{World, state_of, move_of, after_turn, Turn, trace_of, own_events, own_steps, ending_in}
-use Rattle.cc_meta_runs.specs.InterleavingLaws.{Takes, no_turn, then_turn, AreSound, ReachesDevice, TasksApartRunAsAlone}
+use Rattle.cc_meta_runs.specs.Interleavings.{World, state_of, move_of, after_turn, Turn, trace_of, own_events}
+use Rattle.cc_meta_runs.specs.Interleavings.{own_steps, ending_in, Takes, no_turn, then_turn}
+use Rattle.cc_meta_runs.specs.InterleavingLaws.{AreSound, ReachesDevice, TasksApartRunAsAlone}
 use Rattle.cc_meta_runs.proofs.LocalSteps.{kept_from, steps_change_what_they_reach, Agree, SameMove, same_move}
 use Rattle.cc_meta_runs.proofs.InterleavedTasks.{mover, sound_turn, tasks_stay_sound, own_turn_events, other_turn_events, own_turn_steps, other_turn_steps, own_move, own_next, other_next}
 

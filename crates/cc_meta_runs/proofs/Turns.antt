@@ -9,8 +9,10 @@ use Rattle.cc_device.specs.Devices.{Devices}
 use Rattle.cc_device.specs.Events.{Event}
 use Rattle.cc_meta_runs.specs.Machine.{Configuration}
 use Rattle.cc_meta_runs.specs.Runs.{State, Move, IsStuck, IsFinal, Moves, Ending}
-use Rattle.cc_meta_runs.specs.Interleavings.{World, after_turn, Turn, Chosen, chosen, Interleaving, take_turn, go_on, interleave, own_steps, ending_in, ends_from, report_of}
-use Rattle.cc_meta_runs.specs.InterleavingLaws.{Takes, no_turn, then_turn, all_steps, TurnsAreWithinFuel}
+use Rattle.cc_meta_runs.specs.Interleavings.{World, after_turn, Turn, Chosen, chosen, Interleaving, take_turn, go_on}
+use Rattle.cc_meta_runs.specs.Interleavings.{interleave, own_steps, ending_in, ends_from, report_of, Takes, no_turn}
+use Rattle.cc_meta_runs.specs.Interleavings.{then_turn}
+use Rattle.cc_meta_runs.specs.InterleavingLaws.{all_steps, TurnsAreWithinFuel}
 use Rattle.cc_meta_runs.proofs.InterleavedTasks.{mover, own_turn_steps, other_turn_steps, interleavings_are_turns}
 
 -- tasks stay as many

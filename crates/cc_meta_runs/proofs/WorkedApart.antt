@@ -22,8 +22,8 @@ use Rattle.cc_core.proofs.Moving.{Member-single}
 use Rattle.cc_meta_runs.specs.ExamplePrograms.{number, whole_numbers, nothing, entry_with, val, two_devices, out, hits, print, tick}
 use Rattle.cc_meta_runs.specs.ExampleEntries.{functions}
 use Rattle.cc_meta_runs.specs.ExampleTasks.{one, nine, OneAndNineAreEntries, OneAndNineRunAsAlone}
-use Rattle.cc_meta_runs.specs.Soundness.{IsListed}
-use Rattle.cc_meta_runs.specs.TaskLaws.{HasItsDevicesAlone}
+use Rattle.cc_meta_runs.specs.SafeRuns.{IsListed}
+use Rattle.cc_meta_runs.specs.SafeTasks.{HasItsDevicesAlone}
 use Rattle.cc_meta_runs.proofs.EntryTasks.{entries_run_interleaved}
 
 abbrev with_devices : Context

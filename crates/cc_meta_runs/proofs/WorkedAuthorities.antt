@@ -19,7 +19,7 @@ use Rattle.cc_core.specs.Subcapturing.{Subcaptures, variable, SubcapturesSet}
 use Rattle.cc_core.specs.WellFormed.{IsWellFormedType, IsWellFormedTerm}
 use Rattle.cc_core.specs.Subtyping.{reflexive}
 use Rattle.cc_device.specs.Devices.{Console, Counter}
-use Rattle.cc_meta_runs.specs.Soundness.{IsListed}
+use Rattle.cc_meta_runs.specs.SafeRuns.{IsListed}
 use Rattle.cc_core.specs.Typing.{HasTyping, t-var, t-lit, t-abs, t-app, t-box, t-let, t-op, t-sub, HasType}
 use Rattle.cc_core.specs.Stores.{DeviceCell, HasStoreTyping, none_stored, value_stored, device_stored, recursive_stored}
 use Rattle.cc_core.proofs.Moving.{Member-single}
@@ -58,9 +58,6 @@ with_main = TermEntry main_shape (variable_set out) ∷ with_idle
 pub below_declared : (g : Context) (p : ℕ) (s : Shape) (d : Set) → lookup g p ≡ Some (TermEntry s d) → SubcapturesSet g (variable_set (Free p)) d
 below_declared g p s d there e m =
     subst (λ x. Subcaptures g x d) (sym (Member-single e (Variable (Free p)) m)) (variable {shape = s} {declared = d} there (subcaptures_reflexive g d))
-
-nothing_below : (g : Context) (c : Set) → SubcapturesSet g empty c
-nothing_below g c e m = absurd (Member-empty e m)
 
 -- def f
 prints_typing : HasTyping with_devices prints_number printing (captured_variables prints_number)

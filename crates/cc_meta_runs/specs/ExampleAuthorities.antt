@@ -16,7 +16,8 @@ use Rattle.cc_device.specs.Events.{Operated}
 use Rattle.cc_meta_runs.specs.ExamplePrograms.{number, whole_numbers, nothing, entry_with, val, defining, two_cells}
 use Rattle.cc_meta_runs.specs.ExamplePrograms.{two_devices, out, hits, print, prints_number}
 use Rattle.cc_meta_runs.specs.Runs.{State, run}
-use Rattle.cc_meta_runs.specs.SoundRuns.{IsAmong, IsSoundStart, start}
+use Rattle.cc_meta_runs.specs.SoundRuns.{IsSoundStart, start}
+use Rattle.cc_meta_runs.specs.SafeRuns.{IsAmong}
 
 -- Over two devices: no device for the empty set, those that are named, in the order of their positions, and all for the
 -- universal capability. Other positions name no device.

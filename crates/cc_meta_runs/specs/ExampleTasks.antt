@@ -14,7 +14,8 @@ use Rattle.cc_meta_runs.specs.ExamplePrograms.{print, tick, printed, ticked, don
 use Rattle.cc_meta_runs.specs.ExamplePrograms.{out_of_fuel}
 use Rattle.cc_meta_runs.specs.ExampleEntries.{defined, functions}
 use Rattle.cc_meta_runs.specs.Interleavings.{interleaved_run}
-use Rattle.cc_meta_runs.specs.TaskLaws.{AreEntries, TaskRunsAsAlone}
+use Rattle.cc_meta_runs.specs.TaskLaws.{AreEntries}
+use Rattle.cc_meta_runs.specs.SafeTasks.{TaskRunsAsAlone}
 
 -- Module m, over the console out and the counter hits:
 --   def one: ((u: Unit) -> Int)^{hits} = fun (u: Unit) => hits.tick()

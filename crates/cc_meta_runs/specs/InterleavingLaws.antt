@@ -1,41 +1,29 @@
 -- What holds of tasks that run interleaved.
-use Rattle.std.specs.Prelude.{◌≡◌, ◌≢◌, ◌≤◌, ◌⊎◌, ℕ, zero, suc, List, [], ◌∷◌, ◌++◌, length, Option, Some, None}
-use Rattle.std.specs.Prelude.{slice_get, nat_eq, if◌then◌else◌}
+use Rattle.std.specs.Prelude.{◌≡◌, ◌≢◌, ◌≤◌, ◌⊎◌, ℕ, zero, suc, List, [], ◌∷◌, ◌++◌, length, Option, Some}
+use Rattle.std.specs.Prelude.{slice_get}
 use Rattle.std.specs.List.{sum_by}
 use Rattle.cc_base.specs.declared.literal.Base.{Base}
 use Rattle.cc_base.specs.declared.literal.Op.{Op}
 use Rattle.cc_base.specs.Literals.{Literal}
 use Rattle.cc_core.specs.Typing.{base_operated}
 use Rattle.cc_core.specs.Stores.{DeviceCell}
-use Rattle.cc_device.specs.Devices.{DeviceState, Answer, answer_of, Devices}
-use Rattle.cc_device.specs.Events.{Event, Operated, Entered, Ended, Exited, literal_shown, FollowsAll}
+use Rattle.cc_device.specs.Devices.{DeviceState, Devices}
+use Rattle.cc_device.specs.Events.{Event, Operated, FollowsAll}
 use Rattle.cc_meta_runs.specs.Machine.{Configuration}
 use Rattle.cc_meta_runs.specs.Reach.{SetReaches, captured_set}
 use Rattle.cc_meta_runs.specs.Runs.{State, Move, IsStuck, IsFinal, Moves, move, run}
-use Rattle.cc_meta_runs.specs.Soundness.{scopes_of, IsListed, IsSound, ReachesNoNewDevice}
-use Rattle.cc_meta_runs.specs.SoundRuns.{IsSoundState, IsAmong}
+use Rattle.cc_meta_runs.specs.Soundness.{IsSound, ReachesNoNewDevice}
+use Rattle.cc_meta_runs.specs.SafeRuns.{scopes_of, IsListed, IsAmong}
+use Rattle.cc_meta_runs.specs.SoundRuns.{IsSoundState}
 use Rattle.cc_meta_runs.specs.Interleavings.{World, state_of, move_of, after_turn, Turn, interleave, trace_of}
-use Rattle.cc_meta_runs.specs.Interleavings.{all_events, own_events, own_steps, ending_at, Report, report_of}
-
--- turns that are taken, in whatever order, lead from a world to another
-pub data Takes : World → List Turn → World → Type 0 where
-  no_turn : {world : World} → Takes world [] world
-  then_turn : {world last : World} {task : ℕ} {event : Option Event} {next : State} {turns : List Turn}
-      → move_of world task ≡ Some (Moves event next) → Takes (after_turn world task next) turns last
-      → Takes world (record { task = task; event = event } ∷ turns) last
+use Rattle.cc_meta_runs.specs.Interleavings.{all_events, own_events, own_steps, ending_at, Report, report_of, Takes}
+use Rattle.cc_meta_runs.specs.Interleavings.{IsAtRest, events_on, History}
 
 -- each task is sound on the devices
 abbrev pub AreSound : World → Type 0
 AreSound world =
     (task : ℕ) (configuration : Configuration) → slice_get world.tasks task ≡ Some configuration
     → IsSoundState (state_of world.devices configuration)
-
--- the task has come to its end, or there is none of its number
-abbrev pub IsAtRest : Option Move → Type 0
-IsAtRest None = Unit {0}
-IsAtRest (Some IsStuck) = ⊥
-IsAtRest (Some IsFinal) = Unit {0}
-IsAtRest (Some (Moves event next)) = ⊥
 
 -- An interleaved run is its turns.
 abbrev pub InterleavingsAreTurns : Type 0
@@ -140,28 +128,6 @@ TasksKeepTheirPromises =
     (world last : World) (turns : List Turn) → AreSound world → Takes world turns last
     → (task : ℕ) (configuration : Configuration) → slice_get world.tasks task ≡ Some configuration
     → KeepsItsPromises task configuration turns last
-
--- the event in front of the events, if it operates the device
-abbrev pub on_device : ℕ → Event → List Event → List Event
-on_device number (Operated device operation literal) events =
-    if nat_eq device number then Operated device operation literal ∷ events else events
-on_device number (Entered label) events = events
-on_device number (Ended label) events = events
-on_device number (Exited label) events = events
-
--- the events that operate the device
-abbrev pub events_on : ℕ → List Event → List Event
-events_on number [] = []
-events_on number (event ∷ events) = on_device number event (events_on number events)
-
--- A history of the device of a number: what it was before, its events in order, and what it is after them. Each of
--- them is answered by the device as the events before it left it.
-pub data History (number : ℕ) : DeviceState → List Event → DeviceState → Type 0 where
-  quiet : {device : DeviceState} → History number device [] device
-  then_operated : {device last : DeviceState} {operation : Op} {events : List Event}
-      (argument : Option Literal) (answer : Answer)
-      → answer_of device operation argument ≡ Some answer → History number answer.device events last
-      → History number device (Operated number operation (literal_shown argument answer.literal) ∷ events) last
 
 -- The events of a device in the one trace of all tasks are a history of that device alone, from its state at the start.
 abbrev pub DevicesHaveHistories : Type 0

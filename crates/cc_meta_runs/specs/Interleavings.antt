@@ -1,13 +1,15 @@
 -- Several tasks that run interleaved on the same devices.
 use Rattle.std.specs.Prelude.{ℕ, zero, suc, nat_eq, List, [], ◌∷◌, ◌++◌, map, Option, Some, None, slice_get, slice_set}
-use Rattle.std.specs.Prelude.{if◌then◌else◌}
+use Rattle.std.specs.Prelude.{if◌then◌else◌, ◌≡◌}
 use Rattle.std.specs.Option.{option_map}
 use Rattle.cc_core.specs.Programs.{Entry}
-use Rattle.cc_device.specs.Devices.{Devices}
-use Rattle.cc_device.specs.Events.{Event}
+use Rattle.cc_device.specs.Devices.{Devices, DeviceState, Answer, answer_of}
+use Rattle.cc_device.specs.Events.{Event, Operated, Entered, Ended, Exited, literal_shown}
 use Rattle.cc_meta_runs.specs.Machine.{Configuration}
-use Rattle.cc_meta_runs.specs.Runs.{State, Move, IsFinal, Moves, move, Ending, ending_of}
+use Rattle.cc_meta_runs.specs.Runs.{State, Move, IsFinal, Moves, move, Ending, ending_of, IsStuck}
 use Rattle.cc_meta_runs.specs.Links.{program_start}
+use Rattle.cc_base.specs.declared.literal.Op.{Op}
+use Rattle.cc_base.specs.Literals.{Literal}
 
 -- The tasks by their numbers, each with its own store, frames, term and labels, and the devices, which all of them
 -- share.
@@ -135,3 +137,39 @@ report_of run = record { trace = trace_of run.turns; ends = ends_from 0 run.turn
 -- the report of the programs of several entries
 abbrev pub interleaved_run : ℕ → List ℕ → List Entry → Devices → Report
 interleaved_run fuel schedule entries devices = report_of (interleave fuel schedule (world_of entries devices))
+
+-- turns that are taken, in whatever order, lead from a world to another
+pub data Takes : World → List Turn → World → Type 0 where
+  no_turn : {world : World} → Takes world [] world
+  then_turn : {world last : World} {task : ℕ} {event : Option Event} {next : State} {turns : List Turn}
+      → move_of world task ≡ Some (Moves event next) → Takes (after_turn world task next) turns last
+      → Takes world (record { task = task; event = event } ∷ turns) last
+
+-- the task has come to its end, or there is none of its number
+abbrev pub IsAtRest : Option Move → Type 0
+IsAtRest None = Unit {0}
+IsAtRest (Some IsStuck) = ⊥
+IsAtRest (Some IsFinal) = Unit {0}
+IsAtRest (Some (Moves event next)) = ⊥
+
+-- the event in front of the events, if it operates the device
+abbrev pub on_device : ℕ → Event → List Event → List Event
+on_device number (Operated device operation literal) events =
+    if nat_eq device number then Operated device operation literal ∷ events else events
+on_device number (Entered label) events = events
+on_device number (Ended label) events = events
+on_device number (Exited label) events = events
+
+-- the events that operate the device
+abbrev pub events_on : ℕ → List Event → List Event
+events_on number [] = []
+events_on number (event ∷ events) = on_device number event (events_on number events)
+
+-- A history of the device of a number: what it was before, its events in order, and what it is after them. Each of
+-- them is answered by the device as the events before it left it.
+pub data History (number : ℕ) : DeviceState → List Event → DeviceState → Type 0 where
+  quiet : {device : DeviceState} → History number device [] device
+  then_operated : {device last : DeviceState} {operation : Op} {events : List Event}
+      (argument : Option Literal) (answer : Answer)
+      → answer_of device operation argument ≡ Some answer → History number answer.device events last
+      → History number device (Operated number operation (literal_shown argument answer.literal) ∷ events) last

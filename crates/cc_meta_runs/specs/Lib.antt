@@ -17,6 +17,8 @@ pub mod Machine
 pub mod Reach
 pub mod RunLaws
 pub mod Runs
+pub mod SafeRuns
+pub mod SafeTasks
 pub mod SoundRuns
 pub mod Soundness
 pub mod StoreLaws

@@ -1,23 +1,16 @@
 -- Programs that are linked from the modules of an entry are typed, and run soundly.
-use Rattle.std.specs.Prelude.{◌≡◌, ◌≢◌, ℕ, List, map, reverse, Some}
-use Rattle.cc_base.specs.declared.literal.Base.{Base}
-use Rattle.cc_base.specs.declared.literal.Op.{Op}
+use Rattle.std.specs.Prelude.{◌≡◌, ℕ, List, map, reverse, Some}
 use Rattle.cc_base.specs.declared.device.Kind.{Kind}
-use Rattle.cc_base.specs.Literals.{Literal}
 use Rattle.cc_core.specs.Shapes.{CapturingType}
 use Rattle.cc_core.specs.Terms.{Term}
 use Rattle.cc_core.specs.Contexts.{entry_of, lookup}
-use Rattle.cc_core.specs.Typing.{base_operated, HasType}
-use Rattle.cc_core.specs.Stores.{ValueCell, DeviceCell, HasStoreTyping}
+use Rattle.cc_core.specs.Typing.{HasType}
+use Rattle.cc_core.specs.Stores.{ValueCell, HasStoreTyping}
 use Rattle.cc_core.specs.Programs.{Definition, Entry, definition_in, IsEntry}
 use Rattle.cc_device.specs.Declarations.{declared_state, declared_base}
-use Rattle.cc_device.specs.Devices.{Devices, base_of_device}
-use Rattle.cc_device.specs.Events.{Event, Operated, Exited, IsWellScoped}
+use Rattle.cc_device.specs.Devices.{Devices}
 use Rattle.cc_meta_runs.specs.Links.{entry_store, entry_context, position_of, program_context, program_start}
-use Rattle.cc_meta_runs.specs.Reach.{SetReaches, captured_set}
-use Rattle.cc_meta_runs.specs.Runs.{State, IsStuck, Moves, move, Leads, IsStopped, run}
-use Rattle.cc_meta_runs.specs.Soundness.{scopes_of, IsListed}
-use Rattle.cc_meta_runs.specs.SoundRuns.{IsAmong}
+use Rattle.cc_meta_runs.specs.SafeRuns.{HaveShapes, RunsSafely}
 
 -- The linked store of an entry is typed, cell by cell: each definition has the type of its signature in the context of
 -- the cells before it, and a recursive one where its own position has that type too.
@@ -42,38 +35,10 @@ EntriesAreTyped =
     (entry : Entry) → IsEntry entry
     → (type : CapturingType) × HasType (program_context entry) (program_start entry).term type
 
--- the devices are of the shapes
-abbrev pub HaveShapes : Devices → List Base → Type 0
-HaveShapes devices shapes = map base_of_device devices ≡ shapes
-
 -- declared devices are of the shapes that they are declared with
 abbrev pub DeclaredDevicesHaveTheirShapes : Type 0
 DeclaredDevicesHaveTheirShapes =
     (declared : List Kind) → HaveShapes (map declared_state declared) (map declared_base declared)
-
--- What holds of a moment of a run that has leave to use some devices. It is not stuck. Each device that is operated
--- then or later is reached by what the moment captures, and is one of those. An exit finds its scope among those that
--- stand.
-pub record IsSafeMoment (permitted : List ℕ) (now : State) : Type 0 where
-  pub not_stuck : move now ≢ IsStuck
-  pub reached : (later : State) (events : List Event) → Leads now events later
-      → (device : ℕ) (operation : Op) (literal : Literal) → IsAmong (Operated device operation literal) events
-      → SetReaches now.configuration.store (captured_set now.configuration)
-      (DeviceCell device (base_operated operation))
-  pub permits : (later : State) (events : List Event) → Leads now events later
-      → (device : ℕ) (operation : Op) (literal : Literal) → IsAmong (Operated device operation literal) events
-      → IsListed device permitted
-  pub exits : (label : ℕ) (next : State) → move now ≡ Moves (Some (Exited label)) next
-      → IsListed label (scopes_of now.configuration.stack)
-
--- What holds of the run from a state, with so much fuel, that has leave to use some devices. It does not stop before
--- its end. Each of its moments is safe. It operates no other device, and its events are well scoped.
-pub record RunsSafely (permitted : List ℕ) (start : State) (fuel : ℕ) : Type 0 where
-  pub not_stopped : (run fuel start).ending ≢ IsStopped
-  pub moments : (now : State) (events : List Event) → Leads start events now → IsSafeMoment permitted now
-  pub authority : (device : ℕ) (operation : Op) (literal : Literal)
-      → IsAmong (Operated device operation literal) (run fuel start).events → IsListed device permitted
-  pub well_scoped : IsWellScoped (run fuel start).events
 
 -- The program of an entry runs safely with the entry's authority, on all devices of its shapes and with any fuel.
 abbrev pub EntriesRunSafely : Type 0

@@ -1,5 +1,5 @@
 -- What holds of whole runs of well-typed programs.
-use Rattle.std.specs.Prelude.{◌≡◌, ◌≢◌, ◌⊎◌, ◌<◌, ℕ, List, [], ◌∷◌, Option, Some, slice_get}
+use Rattle.std.specs.Prelude.{◌≡◌, ◌≢◌, ◌⊎◌, ◌<◌, ℕ, List, [], Option, Some, slice_get}
 use Rattle.std.specs.Option.{option_map}
 use Rattle.cc_base.specs.declared.literal.Base.{Base}
 use Rattle.cc_base.specs.declared.literal.Op.{Op}
@@ -19,7 +19,8 @@ use Rattle.cc_meta_runs.specs.Answers.{shown}
 use Rattle.cc_meta_runs.specs.Machine.{configured}
 use Rattle.cc_meta_runs.specs.Reach.{SetReaches, captured_set}
 use Rattle.cc_meta_runs.specs.Runs.{State, Move, IsStuck, IsFinal, Moves, move, Leads, IsStopped, run}
-use Rattle.cc_meta_runs.specs.Soundness.{labels_in, scopes_of, IsListed, IsSound, ReachesNoNewDevice, FitsScopes}
+use Rattle.cc_meta_runs.specs.Soundness.{labels_in, IsSound, ReachesNoNewDevice, FitsScopes}
+use Rattle.cc_meta_runs.specs.SafeRuns.{scopes_of, IsListed, IsAmong}
 
 -- each device cell has a device of its shape
 abbrev pub FitsDevices : Store → Devices → Type 0
@@ -68,11 +69,6 @@ IsSoundMove before (Moves event after) = IsKeptSound before event after
 -- Moves from sound states are sound.
 abbrev pub MovesAreSound : Type 0
 MovesAreSound = (state : State) → IsSoundState state → IsSoundMove state (move state)
-
--- the event is one of the list
-abbrev pub IsAmong : Event → List Event → Type 0
-IsAmong event [] = ⊥
-IsAmong event (first ∷ others) = (event ≡ first) ⊎ IsAmong event others
 
 -- A program whose store and term are typed, and that has made no label, starts soundly.
 abbrev pub TypedProgramsStartSoundly : Type 0

@@ -1,5 +1,5 @@
 -- What holds of each configuration of a well-typed program, and what each step keeps.
-use Rattle.std.specs.Prelude.{◌≡◌, ◌⊎◌, ℕ, zero, suc, ◌<◌, ◌≤◌, List, [], ◌∷◌, length, Option, Some, None, IsTrue}
+use Rattle.std.specs.Prelude.{◌≡◌, ℕ, zero, suc, ◌<◌, ◌≤◌, List, [], ◌∷◌, length, Option, Some, None, IsTrue}
 use Rattle.cc_base.specs.declared.literal.Base.{Base}
 use Rattle.cc_base.specs.declared.literal.Base.TheVariants as bases
 use Rattle.cc_base.specs.declared.literal.Op.{Op}
@@ -20,6 +20,7 @@ use Rattle.cc_device.specs.Events.{Event, Operated, Entered, Ended, Exited, Foll
 use Rattle.cc_meta_runs.specs.Machine.{LetFrame, ScopeFrame, RepetitionFrame, Stack, Configuration, Outcome, Stuck}
 use Rattle.cc_meta_runs.specs.Machine.{Final, Next, Ask, is_taken, step}
 use Rattle.cc_meta_runs.specs.Reach.{SetReaches, captured_by_frame, captured_set}
+use Rattle.cc_meta_runs.specs.SafeRuns.{scopes_of, IsListed}
 
 -- the type of a function that a repetition calls
 abbrev pub repeated : Shape
@@ -60,18 +61,6 @@ labels_in (LabelCell label ∷ store) = label ∷ labels_in store
 abbrev pub countdown : ℕ → List ℕ
 countdown zero = []
 countdown (suc number) = number ∷ countdown number
-
--- the labels of the scopes on a stack, the top one first
-abbrev pub scopes_of : Stack → List ℕ
-scopes_of [] = []
-scopes_of (LetFrame body ∷ stack) = scopes_of stack
-scopes_of (ScopeFrame label ∷ stack) = label ∷ scopes_of stack
-scopes_of (RepetitionFrame function begun wanted ∷ stack) = scopes_of stack
-
--- the number is one of the list
-abbrev pub IsListed : ℕ → List ℕ → Type 0
-IsListed number [] = ⊥
-IsListed number (first ∷ others) = (number ≡ first) ⊎ IsListed number others
 
 -- each number is greater than all that follow it
 abbrev pub IsFalling : List ℕ → Type 0

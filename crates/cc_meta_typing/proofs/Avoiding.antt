@@ -12,6 +12,7 @@ use Rattle.cc_capture.specs.ElementOrder.{same_element-true, same_element-itself
 use Rattle.cc_capture.specs.Sets.{Set, Member, remove, union}
 use Rattle.cc_capture.proofs.Membership.{same_members, Member-remove, Member-union, Member-flat_image}
 use Rattle.cc_capture.proofs.Images.{flat_image-union}
+use Rattle.cc_capture.proofs.WordSets.{alike as same_test}
 use Rattle.cc_core.specs.Shapes.{Shape, BaseShape, AnyShape, TypeVariable, FunctionShape, TypeFunctionShape, BoxShape, ExitShape, CapturingType}
 use Rattle.cc_core.specs.Contexts.{Bind, TermEntry, TypeEntry, Context, lookup}
 use Rattle.cc_core.specs.Traversal.{act, act_set}
@@ -44,11 +45,6 @@ unless_some false a s e = (refl, e)
 pub not_true : (b : Bool) → (b ≡ true → ⊥) → b ≡ false
 not_true true h = absurd (h refl)
 not_true false h = refl
-
-same_test : (a b : Bool) → (a ≡ true → b ≡ true) → (b ≡ true → a ≡ true) → a ≡ b
-same_test true b f g = sym (f refl)
-same_test false true f g = g refl
-same_test false false f g = refl
 
 -- Opening at a position other than the one that is avoided.
 module _ (at position : ℕ) (apart : at ≡ position → ⊥) where

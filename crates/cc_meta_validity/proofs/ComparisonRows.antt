@@ -32,10 +32,6 @@ of_types left right e = subst IsOfTypes (sym e) tt
 
 -- sets of one element
 
-list_of_single : (e : Elem) → (single e).list ≡ e ∷ []
-unfolding insert placed empty
-list_of_single e = refl
-
 only : (left : Set) (e : Elem) → left.list ≡ e ∷ [] → left ≡ single e
 unfolding insert placed empty
 only left e same = same_list left (single e) same

@@ -16,9 +16,12 @@ use Rattle.cc_mnf.specs.Scopes.{Name, outermost}
 use Rattle.cc_mnf.specs.ElaboratedTypes.{optional_note, optional_type}
 use Rattle.cc_mnf.specs.Elaboration.{elaborated}
 use Rattle.cc_mnf.specs.Operands.{PlacedTerm, start}
-use Rattle.cc_mnf.specs.ElaboratedModules.{CoreDefinition, CoreModule, IsElaborated, with_name, with_imports, is_right_side, or_no_value, elaborated_definition, elaborated_definitions, elaborated_module, elaboration_of, elaboration}
+use Rattle.cc_mnf.specs.ElaboratedModules.{CoreDefinition, CoreModule, IsElaborated, with_name, with_imports}
+use Rattle.cc_mnf.specs.ElaboratedModules.{is_right_side, or_no_value, elaborated_definition, elaborated_definitions}
+use Rattle.cc_mnf.specs.ElaboratedModules.{elaborated_module, elaboration_of, elaboration, import_names}
+use Rattle.cc_mnf.specs.ElaboratedModules.{definition_names, names_of}
 use Rattle.cc_mnf.specs.ElaborationLaws as law
-use Rattle.cc_mnf.specs.ElaborationLaws.{import_names, definition_names, names_of, StandsAfter, name_kinds, visible_kinds, IsWellFormedAfter, MayBeDefined, heading, heading_in_text}
+use Rattle.cc_mnf.specs.ElaborationLaws.{StandsAfter, name_kinds, visible_kinds, IsWellFormedAfter, MayBeDefined, heading, heading_in_text}
 use Rattle.cc_mnf.proofs.StepFacts.{Always, then_always, gives_always, refuses_always, always_weaker}
 use Rattle.cc_mnf.proofs.BroughtFacts.{Comes, Brings, then_brings, gives_brings, refuses_brings, always_brings, both_brought, own_holes_bring}
 use Rattle.cc_mnf.proofs.ScopeFacts.{HasNames, has_names}

@@ -8,8 +8,10 @@ use Rattle.cc_base.specs.declared.place.Place.{Place}
 use Rattle.cc_grammar.specs.Syntax.{ImportSyntax, DefSyntax, ModuleSyntax}
 use Rattle.cc_mnf.specs.Steps.{Outcome, Refused, Found, Step, goes_on, followed, gives, refuses, with_own_holes}
 use Rattle.cc_mnf.specs.Scopes.{Name}
-use Rattle.cc_mnf.specs.ElaboratedModules.{CoreDefinition, CoreModule, IsElaborated, IsRefused, with_imports, elaborated_definition, elaborated_definitions, elaboration_of, elaboration}
-use Rattle.cc_mnf.specs.ElaborationLaws.{import_names, IsWellFormedAfter}
+use Rattle.cc_mnf.specs.ElaboratedModules.{CoreDefinition, CoreModule, IsElaborated, IsRefused, with_imports}
+use Rattle.cc_mnf.specs.ElaboratedModules.{elaborated_definition, elaborated_definitions, elaboration_of, elaboration}
+use Rattle.cc_mnf.specs.ElaboratedModules.{import_names}
+use Rattle.cc_mnf.specs.ElaborationLaws.{IsWellFormedAfter}
 use Rattle.cc_mnf.specs.NameLaws as law
 use Rattle.cc_mnf.specs.NameLaws.{SecondImport, SecondDefinition, CanBeElaborated, text_of, defined_names}
 use Rattle.cc_mnf.proofs.BroughtFacts.{Comes}

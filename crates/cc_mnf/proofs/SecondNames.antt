@@ -12,7 +12,8 @@ use Rattle.cc_grammar.specs.Syntax.{ImportSyntax, DefSyntax, ModuleSyntax}
 use Rattle.cc_mnf.specs.Steps.{gives, refuses}
 use Rattle.cc_mnf.specs.Scopes.{Name}
 use Rattle.cc_mnf.specs.ElaboratedModules.{with_name, with_imports, elaborated_definitions, elaborated_module}
-use Rattle.cc_mnf.specs.ElaborationLaws.{import_names, definition_names, names_of, heading, heading_in_text}
+use Rattle.cc_mnf.specs.ElaboratedModules.{import_names, definition_names, names_of}
+use Rattle.cc_mnf.specs.ElaborationLaws.{heading, heading_in_text}
 use Rattle.cc_mnf.specs.NameLaws as law
 use Rattle.cc_mnf.specs.NameLaws.{SecondImport, SecondDefinition, CanBeElaborated, text_of, defined_names}
 use Rattle.cc_mnf.proofs.BroughtFacts.{Brings, then_brings, gives_brings, refuses_brings, own_holes_bring, weaker_brings}

@@ -1,7 +1,6 @@
 -- The elaborated modules that values of the program stand for, and what is answered for a module.
 use Rattle.std.specs.Prelude.{◌≡◌, List, map, Result, Ok, Err, Vec}
 use Rattle.std.specs.declared.alloc.Global.{Global}
-use Rattle.cc_base.specs.declared.device.DeviceDecl.{DeviceDecl}
 use Rattle.cc_core.specs.declared.terms.CoreDef.{CoreDef}
 use Rattle.cc_core.specs.Views.{note_of, term_of}
 use Rattle.cc_core.specs.Places.{places_of}
@@ -10,7 +9,6 @@ use Rattle.cc_mnf.specs.declared.elaborate.CoreModule.{CoreModule as DeclaredMod
 use Rattle.cc_mnf.specs.declared.error.ElaborateError.{ElaborateError}
 use Rattle.cc_mnf.specs.declared.error.ElaborateError.TheVariants as errors
 use Rattle.cc_mnf.specs.ElaboratedModules.{CoreDefinition, CoreModule, Elaboration, IsElaborated, IsRefused}
-use Rattle.cc_mnf.specs.Scopes.{Name}
 
 -- the definition
 abbrev pub definition_of : CoreDef → CoreDefinition
@@ -30,10 +28,6 @@ definitions_of definitions = map definition_of definitions.items
 -- the module
 abbrev pub module_of : DeclaredModule → CoreModule
 module_of it = record { imports = imports_syntax it.imports; definitions = definitions_of it.defs }
-
--- the names of declared devices, in order
-abbrev pub device_names : List DeviceDecl → List Name
-device_names devices = map (λ device. device.name) devices
 
 -- The answer is the elaboration, unless there is no memory.
 abbrev pub Elaborates : Result DeclaredModule ElaborateError → Elaboration → Type 0

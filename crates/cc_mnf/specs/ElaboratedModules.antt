@@ -1,11 +1,12 @@
 -- The elaboration of modules. Devices, imports and definitions have different names, and stand at the free positions in
 -- this order. Each definition sees the names before it, and its own in its right side where it is recursive.
-use Rattle.std.specs.Prelude.{ℕ, zero, Bool, true, false, List, [], ◌∷◌, ◌++◌, if◌then◌else◌}
+use Rattle.std.specs.Prelude.{ℕ, zero, Bool, true, false, List, [], ◌∷◌, ◌++◌, map, if◌then◌else◌}
 use Rattle.std.specs.List.{list_any}
 use Rattle.std.specs.Str.{bytes_eq}
 use Rattle.cc_base.specs.declared.code.Code.{Code}
 use Rattle.cc_base.specs.declared.code.Code.TheVariants.{E09, E12}
 use Rattle.cc_base.specs.declared.place.Place.{Place}
+use Rattle.cc_base.specs.declared.device.DeviceDecl.{DeviceDecl}
 use Rattle.cc_core.specs.Captured.{is_value}
 use Rattle.cc_core.specs.Places.{Places}
 use Rattle.cc_core.specs.Stores.{is_function}
@@ -106,3 +107,19 @@ elaboration_of (Found elaboration holes) = IsElaborated elaboration
 -- elaborated module.
 unfoldable pub elaboration : List Name → ModuleSyntax → Elaboration
 elaboration devices text = elaboration_of (elaborated_module devices text zero)
+
+-- the names of declared devices, in order
+abbrev pub device_names : List DeviceDecl → List Name
+device_names devices = map (λ device. device.name) devices
+
+-- the names of imports, in order
+abbrev pub import_names : List ImportSyntax → List Name
+import_names imports = map (λ one. one.name) imports
+
+-- the names of elaborated definitions, in order
+abbrev pub definition_names : List CoreDefinition → List Name
+definition_names definitions = map (λ one. one.name) definitions
+
+-- the names of devices, imports and definitions, at the free positions in this order
+abbrev pub names_of : List Name → List ImportSyntax → List CoreDefinition → List Name
+names_of devices imports definitions = devices ++ import_names imports ++ definition_names definitions

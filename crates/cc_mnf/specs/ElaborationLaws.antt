@@ -10,23 +10,11 @@ use Rattle.cc_core.specs.Shapes.{Shape}
 use Rattle.cc_core.specs.Stores.{is_function}
 use Rattle.cc_core.specs.Terms.{Own}
 use Rattle.cc_core.specs.WellFormed.{Kind, TermKind, is_well_formed_note, is_well_formed_term}
-use Rattle.cc_grammar.specs.Syntax.{ImportSyntax, DefSyntax, ModuleSyntax}
-use Rattle.cc_mnf.specs.ElaboratedModules.{CoreDefinition, CoreModule, IsElaborated, IsRefused, elaboration}
+use Rattle.cc_grammar.specs.Syntax.{DefSyntax, ModuleSyntax}
+use Rattle.cc_mnf.specs.ElaboratedModules.{CoreDefinition, CoreModule, IsElaborated, IsRefused, elaboration, names_of}
 use Rattle.cc_core.specs.Holes.{HolesAreOfParameters}
 use Rattle.cc_mnf.specs.Holes.{parameter_holes}
 use Rattle.cc_mnf.specs.Scopes.{Name}
-
--- the names of imports, in order
-abbrev pub import_names : List ImportSyntax → List Name
-import_names imports = map (λ one. one.name) imports
-
--- the names of elaborated definitions, in order
-abbrev pub definition_names : List CoreDefinition → List Name
-definition_names definitions = map (λ one. one.name) definitions
-
--- the names of devices, imports and definitions, at the free positions in this order
-abbrev pub names_of : List Name → List ImportSyntax → List CoreDefinition → List Name
-names_of devices imports definitions = devices ++ import_names imports ++ definition_names definitions
 
 -- The definition stands in the module, with these before it.
 abbrev pub StandsAfter : CoreModule → List CoreDefinition → CoreDefinition → Type 0

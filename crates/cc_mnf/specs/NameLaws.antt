@@ -7,7 +7,7 @@ use Rattle.cc_base.specs.declared.code.Code.TheVariants.{E09}
 use Rattle.cc_base.specs.declared.place.Place.{Place}
 use Rattle.cc_grammar.specs.Syntax.{ImportSyntax, DefSyntax, ModuleSyntax}
 use Rattle.cc_mnf.specs.ElaboratedModules.{CoreDefinition, CoreModule, IsElaborated, IsRefused, elaboration}
-use Rattle.cc_mnf.specs.ElaborationLaws.{import_names, names_of}
+use Rattle.cc_mnf.specs.ElaboratedModules.{import_names, names_of}
 use Rattle.cc_mnf.specs.Scopes.{Name}
 
 -- the names of devices, imports and definitions of an elaborated module differ, where those of the devices do

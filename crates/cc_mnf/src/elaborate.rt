@@ -5,7 +5,8 @@ ghost use Rattle.std.specs.Prelude.{◌≡◌, false, [], ◌∷◌, ◌++◌, I
 ghost use Rattle.std.specs.List.{IsDistinct, list_any};
 ghost use Rattle.std.specs.Str.{bytes_eq};
 ghost use Rattle.cc_core.specs.Views.{note_of, term_of};
-ghost use Rattle.cc_mnf.specs.CoreModules.{definition_of, definitions_of, device_names, module_of, Elaborates};
+ghost use Rattle.cc_mnf.specs.CoreModules.{definition_of, definitions_of, module_of, Elaborates};
+ghost use Rattle.cc_mnf.specs.ElaboratedModules.{device_names};
 ghost use Rattle.cc_mnf.specs.ElaboratedModules as plain;
 ghost use Rattle.cc_mnf.specs.Elaboration as expressions;
 ghost use Rattle.cc_mnf.specs.Operands as operands;

@@ -9,9 +9,9 @@ use Rattle.cc_base.specs.declared.literal.Import.{Import}
 use Rattle.cc_core.specs.declared.terms.CoreDef.{CoreDef}
 use Rattle.cc_core.proofs.Lookups.{length_map}
 use Rattle.cc_grammar.specs.Syntax.{ModuleSyntax}
-use Rattle.cc_mnf.specs.CoreModules.{definition_of, module_of, device_names}
+use Rattle.cc_mnf.specs.CoreModules.{definition_of, module_of}
 use Rattle.cc_mnf.specs.declared.elaborate.CoreModule.{CoreModule as DeclaredModule}
-use Rattle.cc_mnf.specs.ElaboratedModules.{elaboration}
+use Rattle.cc_mnf.specs.ElaboratedModules.{elaboration, device_names}
 use Rattle.cc_mnf.specs.ElaboratedModules as elaborated
 use Rattle.cc_parse.specs.declared.tree.Module.{Module}
 use Rattle.cc_parse.specs.Trees.{import_syntax, module_syntax}

@@ -4,8 +4,7 @@ ghost use Rattle.std.specs.Prelude.{◌≡◌, ◌++◌, ◌∷◌, [], map, IfO
 ghost use Rattle.cc_core.specs.Contexts.{entry_of};
 ghost use Rattle.cc_core.specs.Views.{type_of, context_of};
 ghost use Rattle.cc_meta_modules.specs.StandingDefinitions as plain;
-ghost use Rattle.cc_mnf.specs.CoreModules.{device_names};
-ghost use Rattle.cc_mnf.specs.ElaborationLaws.{import_names};
+ghost use Rattle.cc_mnf.specs.ElaboratedModules.{import_names, device_names};
 ghost use Rattle.cc_module.specs.Findings.{finding_of};
 ghost use Rattle.cc_module.specs.Judgements.{checked_definition_of};
 ghost use Rattle.cc_parse.specs.Trees.{import_syntax};

@@ -19,8 +19,7 @@ use Rattle.cc_explain.specs.declared.target.Target.{Target}
 use Rattle.cc_explain.specs.declared.target.Target.TheVariants as targets
 use Rattle.cc_grammar.specs.Syntax.{ImportSyntax}
 use Rattle.cc_meta_entries.specs.PresentEntries.{CheckedModule, program_module}
-use Rattle.cc_meta_modules.specs.ModuleLaws.{in_program}
-use Rattle.cc_meta_modules.specs.ModuleVerdicts.{CheckedDefinition}
+use Rattle.cc_meta_modules.specs.ModuleVerdicts.{CheckedDefinition, in_program}
 use Rattle.cc_meta_runs.specs.Links.{count_definitions, position_among, position_in}
 use Rattle.cc_meta_links.proofs.Positions.{in_nothing, from_given}
 use Rattle.cc_module_links.specs.Laws.{EntriesNameEarlier}

@@ -12,7 +12,7 @@ use Rattle.cc_core.specs.Stores.{ValueCell, DeviceCell, Store}
 use Rattle.cc_core.specs.Views.{term_of}
 use Rattle.cc_core.proofs.Lookups.{lookup-cases}
 use Rattle.cc_device.specs.Devices.{base_of_device, Devices}
-use Rattle.cc_meta_runs.specs.LinkLaws.{HaveShapes}
+use Rattle.cc_meta_runs.specs.SafeRuns.{HaveShapes}
 use Rattle.cc_meta_runs.specs.Links.{device_cells}
 use Rattle.cc_meta_runs.specs.Soundness.{labels_in, IsSound}
 use Rattle.cc_meta_runs.specs.SoundRuns.{HasShapesOfCells}

@@ -23,7 +23,7 @@ pub struct Program {
 impl Program {
     ghost use Rattle.std.specs.Prelude.{◌≡◌, ◌+◌, ◌↔◌, IsTrue};
     ghost use Rattle.cc_device.specs.Devices.{Devices};
-    ghost use Rattle.cc_meta_runs.specs.LinkLaws.{HaveShapes};
+    ghost use Rattle.cc_meta_runs.specs.SafeRuns.{HaveShapes};
     ghost use Rattle.cc_meta_runs.specs.SoundRuns.{HasShapesOfCells};
     ghost use Rattle.cc_meta_runs.specs.Soundness.{IsSound};
     ghost use Rattle.cc_program.specs.Programs.{shapes_of, values_of, term_in, start_of};

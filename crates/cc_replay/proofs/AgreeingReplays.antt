@@ -13,7 +13,7 @@ use Rattle.cc_replay.specs.Replays.{Comparison, event_next, answer_in, answered_
 use Rattle.cc_replay.specs.declared.replaying.Replayed.TheVariants.{Agrees}
 use Rattle.cc_replay.proofs.AnswersInLines.{answer_fits, answer_back}
 use Rattle.cc_replay.proofs.Comparisons.{text_agrees, nothing_agrees, text_is_met, BeginsWith}
-use Rattle.cc_replay.proofs.QuestionsTaken.{asks_rightly}
+use Rattle.cc_meta_runs.proofs.Finality.{asks_rightly}
 use Rattle.cc_run_texts.specs.RunTexts.{event_text, end_text}
 use Rattle.cc_words.specs.Lines.{Line}
 

@@ -18,7 +18,7 @@ use Rattle.cc_replay.specs.declared.replaying.Replayed.TheVariants.{Agrees, Diff
 use Rattle.cc_replay.proofs.AgreeingReplays.{agreeing_lines_are_traces}
 use Rattle.cc_replay.proofs.AnswersInLines.{answer_fits, answer_back}
 use Rattle.cc_replay.proofs.Comparisons.{text_agrees, text_is_met}
-use Rattle.cc_replay.proofs.QuestionsTaken.{asks_rightly}
+use Rattle.cc_meta_runs.proofs.Finality.{asks_rightly}
 use Rattle.cc_run_texts.specs.RunTexts.{event_text, end_text}
 use Rattle.cc_words.specs.Lines.{Line}
 

@@ -5,7 +5,6 @@ pub mod Comparisons
 pub mod FirstDifferences
 pub mod LineByLine
 pub mod LineSteps
-pub mod QuestionsTaken
 pub mod ReplayedRuns
 pub mod SafeTraces
 pub mod WorkedReplays

@@ -137,22 +137,9 @@ pub record StandsAt (names : List (List ℕ)) (fuel : ℕ) (start : Configuratio
   pub within : steps ≤ fuel
   pub fewer : met ≤ steps
 
-no_line_more : (r : Replayed) → r ≡ behind_lines 0 r
-no_line_more Agrees = refl
-no_line_more (Differs k) = let same : k ≡ 0 + k = omega arith in ap (λ n. Differs n) same
-
 one_line_more : (met : ℕ) (r : Replayed) → behind_lines met (behind_line r) ≡ behind_lines (met + 1) r
 one_line_more met Agrees = refl
 one_line_more met (Differs k) = let same : met + suc k ≡ met + 1 + k = omega arith in ap (λ n. Differs n) same
-
-pub stands_at_first : (names : List (List ℕ)) (fuel : ℕ) (start : Configuration) (lines : List ℕ) → StandsAt names fuel start lines 0 0 start lines
-stands_at_first names fuel start lines =
-    let same : fuel ≡ fuel - 0 = omega arith in
-    record {
-      comes = ap (λ n. replay_from names 0 n start (lines_of lines)) same ∙ no_line_more (replay_from names 0 (fuel - 0) start (lines_of lines));
-      within = omega arith;
-      fewer = omega arith;
-    }
 
 -- a step further
 module _ (names : List (List ℕ)) (fuel : ℕ) (start : Configuration) (lines : List ℕ) (steps met : ℕ) (held held' : Configuration) (rest : List ℕ)

@@ -13,7 +13,8 @@ use Rattle.cc_meta_runs.specs.Machine.{Configuration, Outcome, Stuck, Final, Nex
 use Rattle.cc_meta_runs.specs.Runs.{State, Move, IsStuck, IsFinal, Moves, answered, closed, move, with_event, Ending, ending_of, LeadsIn, run}
 use Rattle.cc_meta_runs.specs.Runs as runs
 use Rattle.cc_meta_runs.specs.RunLaws.{GoesOn}
-use Rattle.cc_meta_runs.specs.SoundRuns.{IsSoundState, IsAmong}
+use Rattle.cc_meta_runs.specs.SoundRuns.{IsSoundState}
+use Rattle.cc_meta_runs.specs.SafeRuns.{IsAmong}
 use Rattle.cc_meta_runs.proofs.DeviceTable.{devices_answer_what_suits}
 use Rattle.cc_meta_runs.proofs.RunSteps.{runs_are_exact}
 use Rattle.cc_meta_runs.proofs.RunTheorems.{soundness_is_kept, sound_states_never_get_stuck}
@@ -22,7 +23,7 @@ use Rattle.cc_replay.specs.AnsweredRuns as given
 use Rattle.cc_replay.specs.ReplayLaws.{HasAnswersOf64Bits, lines_of_run, RunsAreReplayed}
 use Rattle.cc_replay.specs.Replays.{ending_in}
 use Rattle.cc_replay.proofs.AgreeingReplays.{agreeing_lines_are_traces}
-use Rattle.cc_replay.proofs.QuestionsTaken.{asks_rightly}
+use Rattle.cc_meta_runs.proofs.Finality.{asks_rightly}
 
 -- a reply is an answer of the operation's kind
 replied_kind : (devices : Devices) (n : ℕ) (op : Op) (argument : Option Literal) (o : Option DeviceState) (reply : Reply) → reply_of devices n op argument o ≡ Some reply

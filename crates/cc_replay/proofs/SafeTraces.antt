@@ -20,8 +20,8 @@ use Rattle.cc_meta_runs.specs.Links.{program_start}
 use Rattle.cc_meta_runs.specs.Machine.{Configuration, Outcome, Stuck, Final, Next, Ask, step}
 use Rattle.cc_meta_runs.specs.Reach.{SetReaches, captured_set, captured_by_stack}
 use Rattle.cc_meta_runs.specs.Runs.{State, with_event, IsStopped, end_with}
-use Rattle.cc_meta_runs.specs.Soundness.{scopes_of, IsListed, IsSound, ReachesNoNewDevice, FitsScopes, OperatesNoDevice, IsSoundOutcome, IsSoundStep}
-use Rattle.cc_meta_runs.specs.SoundRuns.{IsAmong}
+use Rattle.cc_meta_runs.specs.Soundness.{IsSound, ReachesNoNewDevice, FitsScopes, OperatesNoDevice, IsSoundOutcome, IsSoundStep}
+use Rattle.cc_meta_runs.specs.SafeRuns.{scopes_of, IsListed, IsAmong}
 use Rattle.cc_meta_runs.proofs.Finality.{final_exactly_where_answered}
 use Rattle.cc_meta_runs.proofs.LinkedPrograms.{program_starts}
 use Rattle.cc_meta_runs.proofs.ReachLemmas.{set_reaches-left}

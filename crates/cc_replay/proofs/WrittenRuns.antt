@@ -1,8 +1,8 @@
 -- The text of a run's lines has these lines, and is replayed.
-use Rattle.std.proofs.Common.{◌≡◌, ◌≢◌, ℕ, zero, suc, ◌+◌, ◌-◌, ◌/◌, ◌%◌, Bool, true, false, not, ◌==◌, cond, List, [], ◌∷◌, ◌++◌, length, map, flat_map, Option, Some, None, inl, inr, ◌⊎◌, refl, sym, ap, ◌∙◌, subst, arith, true≢false}
-use Rattle.std.specs.Prelude.{ℤ, pos, negsuc, nat_lt, codes, encode_utf8_all, slice_index_or, IsTrue, if◌then◌else◌}
-use Rattle.std.specs.Fmt.{decimal, signed_decimal, digits, digits_onto, digit_glyph}
-use Rattle.std.specs.List.{AllByRecursion, list_all}
+use Rattle.std.proofs.Common.{◌≡◌, ◌≢◌, ℕ, zero, suc, ◌+◌, ◌-◌, ◌/◌, ◌%◌, Bool, true, false, ◌==◌, cond, List, [], ◌∷◌, ◌++◌, length, map, flat_map, Option, Some, None, inl, inr, ◌⊎◌, refl, sym, ap, ◌∙◌, subst, arith, true≢false}
+use Rattle.std.specs.Prelude.{ℤ, nat_lt, codes, encode_utf8_all, slice_index_or, IsTrue, if◌then◌else◌}
+use Rattle.std.specs.Fmt.{decimal}
+use Rattle.std.specs.List.{AllByRecursion}
 use Rattle.std.proofs.lemmas.Bool.Decides.{Decides-eqb}
 use Rattle.std.proofs.lemmas.List.{append-nil, append_assoc}
 use Rattle.cc_base.specs.Literals.{Literal, UnitLiteral, TruthLiteral, NumberLiteral, TextLiteral}
@@ -10,17 +10,16 @@ use Rattle.cc_base.specs.declared.literal.Base.TheVariants as bases
 use Rattle.cc_base.specs.declared.literal.Op.{Op}
 use Rattle.cc_base.specs.declared.literal.Op.TheVariants as operations
 use Rattle.cc_certificate.specs.Laws.{IsOneLine}
-use Rattle.cc_certificate.proofs.OneLine.{joined}
+use Rattle.cc_certificate.proofs.OneLine.{joined, by_test, one_if, decimal_one, signed_one, truth_one, quoted_one}
 use Rattle.cc_core.specs.Typing.{base_answered}
 use Rattle.cc_device.specs.Endings.{Shown, ShownLiteral, ShownFunction, ShownTypeFunction, ShownBox, ShownDevice, ShownLabel, End, Done, OutOfFuel}
 use Rattle.cc_device.specs.Events.{Event, Operated, Entered, Ended, Exited}
 use Rattle.cc_meta_runs.specs.Answers.{shown}
 use Rattle.cc_meta_runs.specs.Runs.{State, Move, IsStuck, IsFinal, Moves, move, Ending, Ends, IsStopped, end_with, ending_of, run}
-use Rattle.cc_meta_runs.specs.SoundRuns.{IsAmong}
+use Rattle.cc_meta_runs.specs.SafeRuns.{IsAmong}
 use Rattle.cc_meta_runs.proofs.RunSteps.{runs_are_exact}
-use Rattle.cc_print.specs.TermTexts.{truth_text, quoted, literal_text}
+use Rattle.cc_print.specs.TermTexts.{quoted, literal_text}
 use Rattle.cc_print.specs.TypeTexts.{numbered, position_text}
-use Rattle.cc_print.proofs.Words.{both}
 use Rattle.cc_replay.specs.AnsweredRuns.{trace_lines}
 use Rattle.cc_replay.specs.LineLiterals.{StandsInLine, IsLineState}
 use Rattle.cc_replay.specs.ReplayLaws.{HasAnswersOf64Bits, lines_of_run, written_lines, WrittenRunsAreReplayed}
@@ -35,53 +34,11 @@ use Rattle.cc_words.proofs.Splits.{AllLack}
 use Rattle.cc_words.proofs.Steps.{Lacks}
 
 -- texts without a line feed
-apart : (b : ℕ) → not (b == 10) ≡ true → b ≢ 10
-apart b h e = true≢false (sym (subst (λ x. not (x == 10) ≡ true) e h))
-
-by_test : (text : List ℕ) → list_all (λ b. not (b == 10)) text ≡ true → IsOneLine text
-by_test [] h = tt
-by_test (b ∷ text) h =
-    let each = both (not (b == 10)) (list_all (λ c. not (c == 10)) text) h in
-    (apart b each.0, by_test text each.1)
-
-one_if : (b : Bool) (x y : List ℕ) → IsOneLine x → IsOneLine y → IsOneLine (if b then x else y)
-one_if true x y h k = h
-one_if false x y h k = k
-
-apart_if : (b : Bool) (x y : ℕ) → x ≢ 10 → y ≢ 10 → (if b then x else y) ≢ 10
-apart_if true x y h k = h
-apart_if false x y h k = k
-
-glyph_apart : (upper : Bool) (d : ℕ) → digit_glyph upper d ≢ 10
-glyph_apart upper d =
-    apart_if (nat_lt d 10) (48 + d) (if upper then 55 + d else 87 + d) (λ e. omega (arith, e))
-    (apart_if upper (55 + d) (87 + d) (λ e. omega (arith, e)) (λ e. omega (arith, e)))
-
-digits_one : (k base : ℕ) (upper : Bool) (n : ℕ) (rest : List ℕ) → IsOneLine rest → IsOneLine (digits_onto k base upper n rest)
-digits_one zero base upper n rest h = h
-digits_one (suc k) base upper n rest h =
-    one_if (n / base == 0) (digit_glyph upper (n % base) ∷ rest) (digits_onto k base upper (n / base) (digit_glyph upper (n % base) ∷ rest))
-    (glyph_apart upper (n % base), h)
-    (digits_one k base upper (n / base) (digit_glyph upper (n % base) ∷ rest) (glyph_apart upper (n % base), h))
-
-decimal_one : (n : ℕ) → IsOneLine (decimal n)
-unfolding digits
-decimal_one n = digits_one 64 10 false n [] tt
-
-signed_one : (z : ℤ) → IsOneLine (signed_decimal z)
-signed_one (pos n) = decimal_one n
-signed_one (negsuc n) = joined (45 ∷ []) (decimal (suc n)) (by_test (45 ∷ []) refl) (decimal_one (suc n))
-
-truth_one : (b : Bool) → IsOneLine (truth_text b)
-truth_one true = by_test (codes "true") refl
-truth_one false = by_test (codes "false") refl
-
 literal_one : (l : Literal) → StandsInLine l → IsOneLine (literal_text l)
 literal_one UnitLiteral h = by_test (codes "unit") refl
 literal_one (TruthLiteral b) h = truth_one b
 literal_one (NumberLiteral z) h = signed_one z
-literal_one (TextLiteral t) h =
-    joined (34 ∷ []) (encode_utf8_all t ++ 34 ∷ []) (by_test (34 ∷ []) refl) (joined (encode_utf8_all t) (34 ∷ []) h (by_test (34 ∷ []) refl))
+literal_one (TextLiteral t) h = quoted_one t h
 
 operand_one : (l : Literal) → StandsInLine l → IsOneLine (operand_text l)
 operand_one UnitLiteral h = by_test (codes "unit") refl

@@ -14,8 +14,9 @@ use Rattle.cc_meta_runs.specs.Links.{program_start}
 use Rattle.cc_meta_runs.specs.Machine.{Configuration, step, Stuck}
 use Rattle.cc_meta_runs.specs.Reach.{SetReaches, captured_set}
 use Rattle.cc_meta_runs.specs.Runs.{State, IsStopped, Run, run}
-use Rattle.cc_meta_runs.specs.Soundness.{scopes_of, IsListed, IsSound}
-use Rattle.cc_meta_runs.specs.SoundRuns.{IsSoundState, IsAmong}
+use Rattle.cc_meta_runs.specs.Soundness.{IsSound}
+use Rattle.cc_meta_runs.specs.SafeRuns.{scopes_of, IsListed, IsAmong}
+use Rattle.cc_meta_runs.specs.SoundRuns.{IsSoundState}
 use Rattle.cc_replay.specs.AnsweredRuns.{GoesOnTo, AnsweredRun, ending_after, trace_lines, trace_of}
 use Rattle.cc_replay.specs.LineLiterals.{IsLineState}
 use Rattle.cc_replay.specs.Replays.{replay}

@@ -1,6 +1,6 @@
 -- The commands of a job have one output.
 use Rattle.std.proofs.Common.{◌≡◌, Bool, true, false, ◌||◌, [], ◌∷◌, ◌++◌, refl, sym, ap, subst, ◌∙◌, append_assoc}
-use Rattle.cc_mnf.specs.CoreModules.{device_names}
+use Rattle.cc_mnf.specs.ElaboratedModules.{device_names}
 use Rattle.cc_replies.specs.ReplyTexts.{reply_text, is_refusal}
 use Rattle.cc_replies.specs.Replies.{after}
 use Rattle.cc_replies.specs.Outputs.{IsOutput}

@@ -16,7 +16,7 @@ use Rattle.cc_meta_modules.specs.PresentTexts.{Texts, ArePresent, text_of, AreVe
 use Rattle.cc_meta_modules.specs.StandingDefinitions.{standing_in}
 use Rattle.cc_meta_modules.proofs.PresentLaws.{present_verdicts_exist, present_verdicts_are_unique}
 use Rattle.cc_meta_modules.proofs.FoundStanding.{found_by_texts}
-use Rattle.cc_mnf.specs.CoreModules.{device_names}
+use Rattle.cc_mnf.specs.ElaboratedModules.{device_names}
 use Rattle.cc_policy.specs.declared.policy.Rule.{Rule}
 use Rattle.cc_certificate_judging.proofs.BytesFound.{something_is_found, one_thing_is_found}
 use Rattle.cc_replies.specs.PolicyReplies.{audit_told, guard_told}

@@ -9,9 +9,8 @@ use Rattle.cc_lex.specs.Cutting.{word_of, short_symbol, pair_symbol, front_of, b
 use Rattle.cc_meta_modules.specs.ModuleVerdicts.{ModuleVerdict, IsAccepted, HasModuleVerdict, is_judged, no_more}
 use Rattle.cc_meta_modules.specs.PresentTexts.{Texts, AreVerdicts}
 use Rattle.cc_meta_modules.specs.Readings.{IsTree, reading_of_text}
-use Rattle.cc_mnf.specs.CoreModules.{device_names}
 use Rattle.cc_mnf.specs.Elaboration.{elaborated}
-use Rattle.cc_mnf.specs.ElaboratedModules.{IsElaborated, elaboration}
+use Rattle.cc_mnf.specs.ElaboratedModules.{IsElaborated, elaboration, device_names}
 use Rattle.cc_mnf.specs.Steps.{followed, gives, refuses, new_hole, with_own_holes}
 use Rattle.cc_replies.specs.StaleExamples as example
 use Rattle.cc_replies.proofs.WorkedTexts.{are_verdicts, none_present, tree_of}

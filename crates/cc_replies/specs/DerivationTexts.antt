@@ -2,7 +2,7 @@
 use Rattle.std.specs.Prelude.{ℕ, nat_le, List, [], Option, Some, None, if◌then◌else◌}
 use Rattle.cc_certificate.specs.DefinitionCertificates.{definition_certificate_lines}
 use Rattle.cc_core.specs.Contexts.{Context}
-use Rattle.cc_meta_checking.specs.CanonicalLaws.{accepted_derived}
+use Rattle.cc_meta_checking.specs.AcceptedDefinitions.{accepted_derived}
 use Rattle.cc_sets.specs.DerivationSizes.{nodes}
 use Rattle.cc_sets.specs.Verdicts.{Accepted}
 use Rattle.cc_replies.specs.ReplyTexts.{Derived, reply_text}

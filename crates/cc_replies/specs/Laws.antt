@@ -6,7 +6,7 @@ use Rattle.cc_base.specs.declared.device.DeviceDecl.{DeviceDecl}
 use Rattle.cc_meta_entries.specs.PresentEntries.{CheckedEntry}
 use Rattle.cc_meta_modules.specs.ModuleLaws.{NamesOfDevicesDiffer}
 use Rattle.cc_meta_modules.specs.PresentTexts.{ArePresent}
-use Rattle.cc_mnf.specs.CoreModules.{device_names}
+use Rattle.cc_mnf.specs.ElaboratedModules.{device_names}
 use Rattle.cc_policy.specs.declared.policy.Rule.{Rule}
 use Rattle.cc_policy.specs.Policies.{Decides}
 use Rattle.cc_replies.specs.PolicyReplies.{Allows, IsPermitted, decision_for, are_allowed, permitted_told, guard_told}

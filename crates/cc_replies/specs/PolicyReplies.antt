@@ -8,7 +8,7 @@ use Rattle.cc_meta_entries.specs.PresentEntries.{CheckedEntry}
 use Rattle.cc_meta_modules.specs.ModuleVerdicts.{CheckedDefinition, ModuleVerdict}
 use Rattle.cc_meta_modules.specs.PresentTexts.{Texts}
 use Rattle.cc_meta_runs.specs.Runs.{Run}
-use Rattle.cc_mnf.specs.CoreModules.{device_names}
+use Rattle.cc_mnf.specs.ElaboratedModules.{device_names}
 use Rattle.cc_policy.specs.declared.policy.Decision.{Decision}
 use Rattle.cc_policy.specs.declared.policy.Rule.{Rule}
 use Rattle.cc_policy.specs.Policies.{Decides, decision_of, denial}

@@ -6,7 +6,7 @@ use Rattle.cc_meta_entries.specs.PresentEntries.{CheckedEntry, program_entry}
 use Rattle.cc_meta_modules.specs.ModuleVerdicts.{CheckedDefinition, ModuleVerdict}
 use Rattle.cc_meta_modules.specs.PresentTexts.{Texts}
 use Rattle.cc_meta_runs.specs.Links.{program_start}
-use Rattle.cc_mnf.specs.CoreModules.{device_names}
+use Rattle.cc_mnf.specs.ElaboratedModules.{device_names}
 use Rattle.cc_replay.specs.Replays.{replay}
 use Rattle.cc_replies.specs.ReplyTexts.{Reply, Replayed, ReplayRefused}
 use Rattle.cc_replies.specs.RunReplies.{IsEntryAnswer}

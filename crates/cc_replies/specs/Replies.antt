@@ -8,8 +8,8 @@ use Rattle.cc_base.specs.declared.code.Code.{Code}
 use Rattle.cc_base.specs.declared.code.Code.TheVariants.{E30, E31, E32, E34, E36}
 use Rattle.cc_base.specs.declared.device.DeviceDecl.{DeviceDecl}
 use Rattle.cc_certificate.specs.DefinitionCertificates.{definition_certificate_lines}
-use Rattle.cc_graph.specs.Graph.{compare_names}
-use Rattle.cc_meta_checking.specs.CanonicalLaws.{accepted_derived}
+use Rattle.cc_base.specs.Names.{compare_names}
+use Rattle.cc_meta_checking.specs.AcceptedDefinitions.{accepted_derived}
 use Rattle.cc_meta_entries.specs.PresentEntries.{started_in}
 use Rattle.cc_meta_modules.specs.ModuleVerdicts.{ModuleVerdict, IsAccepted, IsRefused}
 use Rattle.cc_meta_modules.specs.PresentTexts.{Texts, text_of, AreVerdicts}

@@ -2,7 +2,7 @@
 
 ghost use Rattle.std.specs.Prelude.{◌≡◌, ◌++◌, [], map, IfOk, OnOk};
 ghost use Rattle.std.specs.String.{string_bytes};
-ghost use Rattle.cc_mnf.specs.CoreModules.{device_names};
+ghost use Rattle.cc_mnf.specs.ElaboratedModules.{device_names};
 ghost use Rattle.cc_module.specs.Judgements.{checked_definition_of};
 ghost use Rattle.cc_replies.specs.ReplyTexts as plain;
 ghost use Rattle.cc_replies.specs.ReplyTexts.{Signatures, SignaturesRefused, reply_text};

@@ -23,7 +23,7 @@ use Rattle.cc_meta_modules.specs.ModuleLaws.{NamesOfDevicesDiffer}
 use Rattle.cc_base.specs.declared.code.Code.{Code}
 use Rattle.cc_base.specs.declared.code.Code.TheVariants.{E32, E34}
 use Rattle.cc_base.specs.declared.place.Place.{Place}
-use Rattle.cc_graph.specs.Graph.{compare_names}
+use Rattle.cc_base.specs.Names.{compare_names}
 use Rattle.cc_judge.specs.Places.{text_at}
 use Rattle.cc_judge.proofs.TextPlaces.{text_of_place, place_of_key, distinct_keys}
 use Rattle.cc_meta_modules.specs.ModuleVerdicts.{CheckedDefinition, IsAccepted, IsRefused}

@@ -20,14 +20,14 @@ use Rattle.cc_base.specs.declared.place.Place.{Place}
 use Rattle.cc_check.specs.Definitions.{accepted_of}
 use Rattle.cc_core.specs.Views.{context_of}
 use Rattle.cc_derive.specs.Accepting.{IsAcceptedIn}
-use Rattle.cc_graph.specs.Graph.{compare_names}
+use Rattle.cc_base.specs.Names.{compare_names}
 use Rattle.cc_graph.proofs.NameLemmas.{same_name, is_same_name}
 use Rattle.cc_judge.specs.declared.grounds.Grounds.{Grounds}
 use Rattle.cc_judge.specs.Judgements.{Judgement, judgement_in, AreCurrent}
 use Rattle.cc_judge.specs.Kept.{judged_on, judgements_from}
 use Rattle.cc_judge.specs.Places.{IsAbsentKey}
 use Rattle.cc_judge.proofs.TextPlaces.{distinct_keys}
-use Rattle.cc_meta_checking.specs.CheckingLaws.{definition_context}
+use Rattle.cc_meta_checking.specs.AcceptedDefinitions.{definition_context}
 use Rattle.cc_meta_modules.specs.ModuleLaws.{NamesOfDevicesDiffer}
 use Rattle.cc_meta_modules.specs.ModuleVerdicts.{CheckedDefinition, ModuleVerdict, IsAccepted, IsRefused}
 use Rattle.cc_meta_modules.specs.PresentTexts.{Texts, ArePresent, text_of, AreVerdicts}

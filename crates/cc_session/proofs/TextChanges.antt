@@ -15,7 +15,7 @@ use Rattle.std.specs.Str.{bytes_eq}
 use Rattle.std.specs.declared.cmp.Ordering.{Ordering}
 use Rattle.std.specs.declared.cmp.Ordering.TheVariants.{Less, Equal, Greater}
 use Rattle.cc_base.specs.NameTexts.{bytes_eq-order}
-use Rattle.cc_graph.specs.Graph.{compare_names}
+use Rattle.cc_base.specs.Names.{compare_names}
 use Rattle.cc_graph.proofs.NameLemmas.{names_total, turned, is_same_name}
 use Rattle.cc_judge.specs.Places.{IsGap, IsAbsentKey}
 use Rattle.cc_judge.proofs.Entries.{turned_back}

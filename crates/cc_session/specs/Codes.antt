@@ -1,10 +1,8 @@
 -- How the judgements of a session are stored: each tree has a code of its own. It serves proofs alone.
-use Rattle.std.specs.Prelude.{◌≡◌, ℕ, Bool, false, ◌==◌, List, Option, refl}
-use Rattle.std.specs.Coded.{Coded, code_by, coded×, coded_ℕ, coded_ℤ, coded_bool, coded_list, coded_option}
-use Rattle.std.proofs.Common.{sym, ap, ◌∙◌, eq-eqb}
-use Rattle.std.proofs.lemmas.Bool.{false≢true}
+use Rattle.std.specs.Prelude.{◌≡◌, ℕ, Bool, List, Option, refl}
+use Rattle.std.specs.Coded.{Coded, code_by, coded×, coded_ℕ, coded_bool, coded_list, coded_option}
+use Rattle.std.proofs.Common.{ap}
 use base.Stored.{Gv, gnil, gnum, gcons}
-use Rattle.cc_base.specs.Literals.{Literal, UnitLiteral, TruthLiteral, NumberLiteral, TextLiteral}
 use Rattle.cc_base.specs.declared.code.Code.{Code}
 use Rattle.cc_base.specs.declared.literal.Base.{Base}
 use Rattle.cc_base.specs.declared.literal.Op.{Op}
@@ -19,44 +17,9 @@ use Rattle.cc_core.specs.Terms.{TypeFunctionTerm, BoxTerm, Application, TypeAppl
 use Rattle.cc_core.specs.Terms.{Conditional, Repetition, Operation, Boundary, Leave}
 use Rattle.cc_sets.specs.Verdicts.{Accepted}
 use Rattle.cc_judge.specs.Judgements.{Judgement}
+use Rattle.cc_judge.specs.StoredTrees.{front, back, tag, apart, literal_tree, one_literal}
 use Rattle.cc_meta_modules.specs.ModuleVerdicts.{Finding, FoundDefinition, NoModule, InCycle, RefusedModule}
 use Rattle.cc_meta_modules.specs.ModuleVerdicts.{NoDefinition, CheckedDefinition, ModuleVerdict, IsAccepted, IsRefused}
-
--- the parts of a pair
-abbrev front : Gv → Gv
-front gnil = gnil
-front (gnum n) = gnil
-front (gcons a b) = a
-
-abbrev back : Gv → Gv
-back gnil = gnil
-back (gnum n) = gnil
-back (gcons a b) = b
-
-abbrev number : Gv → ℕ
-number gnil = 0
-number (gnum n) = n
-number (gcons a b) = 0
-
--- the number of the constructor that a code begins with
-abbrev tag : Gv → ℕ
-tag code = number (front code)
-
-apart : (m n : ℕ) → (m == n) ≡ false → m ≡ n → ⊥
-apart m n other same = false≢true (sym other ∙ eq-eqb m n same)
-
-abbrev literal_tree : Literal → Gv
-literal_tree UnitLiteral = gcons (gnum 0) gnil
-literal_tree (TruthLiteral truth) = gcons (gnum 1) (coded_bool.code truth)
-literal_tree (NumberLiteral number) = gcons (gnum 2) (coded_ℤ.code number)
-literal_tree (TextLiteral text) = gcons (gnum 3) ((coded_list coded_ℕ).code text)
-
-pub one_literal : (x y : Literal) → literal_tree x ≡ literal_tree y → x ≡ y
-one_literal UnitLiteral UnitLiteral e = refl
-one_literal (TruthLiteral a) (TruthLiteral b) e = ap TruthLiteral (coded_bool.inj a b (ap back e))
-one_literal (NumberLiteral a) (NumberLiteral b) e = ap NumberLiteral (coded_ℤ.inj a b (ap back e))
-one_literal (TextLiteral a) (TextLiteral b) e = ap TextLiteral ((coded_list coded_ℕ).inj a b (ap back e))
-one_literal x y e = absurd (apart (tag (literal_tree x)) (tag (literal_tree y)) refl (ap tag e))
 
 -- the codes of what is not made of other trees
 pub record LeafCodes : Type 0 where

@@ -8,7 +8,7 @@ ghost use Rattle.std.specs.Option.{unwrap_or, is_some};
 ghost use Rattle.cc_entry.specs.Entries.{entry_of};
 ghost use Rattle.cc_entry.specs.Modules.{module_of};
 ghost use Rattle.cc_meta_entries.specs.PresentEntries as plain;
-ghost use Rattle.cc_graph.specs.Graph.{compare_names};
+ghost use Rattle.cc_base.specs.Names.{compare_names};
 ghost use Rattle.cc_judge.specs.Dependencies.{AreRead};
 ghost use Rattle.cc_meta_modules.specs.ModuleLaws.{NamesOfDevicesDiffer};
 ghost use Rattle.cc_meta_modules.specs.PresentTexts.{ArePresent, text_of};

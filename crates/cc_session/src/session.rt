@@ -7,7 +7,7 @@ ghost use Rattle.std.specs.Str.{bytes_eq};
 ghost use Rattle.cc_core.specs.Views.{context_of};
 ghost use Rattle.cc_derive.specs.Accepting.{IsAcceptedIn};
 ghost use Rattle.cc_entry.specs.Modules.{module_of};
-ghost use Rattle.cc_graph.specs.Graph.{compare_names};
+ghost use Rattle.cc_base.specs.Names.{compare_names};
 ghost use Rattle.cc_judge.specs.Judgements.{stale_count, verdicts_of};
 ghost use Rattle.cc_judge.specs.Kept.{named_verdicts};
 ghost use Rattle.cc_meta_modules.specs.ModuleLaws.{NamesOfDevicesDiffer};

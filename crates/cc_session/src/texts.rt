@@ -5,7 +5,7 @@ ghost use Rattle.std.specs.BTreeMap.{insert_entry};
 ghost use Rattle.std.specs.List.{slice_get};
 ghost use Rattle.std.specs.Map.{keys_of, remove_entry};
 ghost use Rattle.std.specs.Str.{bytes_eq};
-ghost use Rattle.cc_graph.specs.Graph.{compare_names};
+ghost use Rattle.cc_base.specs.Names.{compare_names};
 ghost use Rattle.cc_meta_modules.specs.PresentTexts.{ArePresent, text_of};
 ghost use Rattle.cc_judge.specs.Places.{IsGap};
 ghost use Rattle.cc_session.specs.Sessions.{others_present};

@@ -146,9 +146,6 @@ listed_itself x xs =
     list_any-append (same_element x) xs (x ∷ [])
     ∙ or_right (is_listed x xs) (same_element x x || false) (or_left (same_element x x) false (same_element-itself x))
 
-pub marks_begin : (right : Set) (old : List Bool) → MarksThose (IsListedMissing [] right) old old true
-marks_begin right old = marks_none _ old (λ e fact. let h : false ≡ true = fact.0 in cc)
-
 pub marks_more : (xs : List Elem) (x : Elem) (right : Set) (old middle new : List Bool) (a b : Bool)
     → MarksThose (IsListedMissing xs right) old middle a → MarksThose (IsThatMissing x right) middle new b
     → MarksThose (IsListedMissing (xs ++ x ∷ []) right) old new (a && b)

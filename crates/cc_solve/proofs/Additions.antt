@@ -133,11 +133,6 @@ joins sets from to one other joined f t is is' all =
     here : other ≡ filling_of sets to
     here = read sets to other t is'
 
--- the elements of a list, of which a fact at an index is made, are added one after the other
-pub adds_begin : (F : (Elem → Type 0) → ℕ → Elem → Type 0) (old : List Set) → ((at : ℕ) (e : Elem) → F (IsListed []) at e → ⊥)
-    → AddsThose (F (IsListed [])) old old
-adds_begin F old none = adds_none (F (IsListed [])) old none
-
 listed_nothing : (e : Elem) → IsListed [] e → ⊥
 listed_nothing e fact = let h : false ≡ true = fact in cc
 

@@ -6,10 +6,6 @@ pub on_ok : {T E : Type 0} (r : Result T E) (A B : Type 0) → (A → B) → OnO
 on_ok (Ok x) A B f a = f a
 on_ok (Err x) A B f a = a
 
-pub on_both : {T E : Type 0} (r : Result T E) (A : Type 0) → A → OnOk r A
-on_both (Ok x) A a = a
-on_both (Err x) A a = tt
-
 pub if_so : (b : Bool) (P Q : Type 0) → b ≡ true → MatchBool b P Q → P
 if_so true P Q is h = h
 if_so false P Q is h = cc

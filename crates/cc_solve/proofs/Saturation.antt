@@ -134,24 +134,6 @@ spreads_grown from to old new before after f t added (x, m, none) queued = recor
     cases : (at : ℕ) → (at ≡ to) ⊎ (at ≡ to → ⊥)
     cases at = cases_eq at to
 
--- nothing grew
-pub spreads_none : (from : ℕ) (Fact : Elem → Type 0) (old : List Set) (queue : List ℕ)
-    → ((at : ℕ) (e : Elem) → Fact (Hole at) → Member e (filling_of old from) → Member e (filling_of old at)) → Spreads from Fact old old queue queue
-spreads_none from Fact old queue there' = record {
-  adds = record { room = refl; kept = λ at e m. m; only = λ at e m. inl m; all = λ at e fact. there' at e fact.0 fact.1 };
-  queue_kept = λ at h. h;
-  queue_within = λ at h. inl h;
-  grown = λ at. inr (λ e m. m);
-  less = λ elements among. omega arith;
-}
-
-pub spreads_not_grown : (from to : ℕ) (old new : List Set) (queue : List ℕ) → AddsThose (λ at e. (at ≡ to) × Member e (filling_of old from)) old new → new ≡ old
-    → Spreads from (λ e. e ≡ Hole to) old new queue queue
-spreads_not_grown from to old new queue added same =
-    subst (λ s. Spreads from (λ e. e ≡ Hole to) old s queue queue) (sym same)
-    (spreads_none from (λ e. e ≡ Hole to) old queue
-    (λ at e fact m. subst (λ s. Member e (filling_of s at)) same (added.all at e (hole_same at to fact, m))))
-
 -- one step, and then another
 pub spreads_then : (from : ℕ) (A B C : Elem → Type 0) (old middle new : List Set) (before between after : List ℕ)
     → ((e : Elem) → C e → A e ⊎ B e) → ((e : Elem) → A e → C e) → ((e : Elem) → B e → C e)
@@ -199,9 +181,6 @@ spreads_then from A B C old middle new before between after split left right one
     still : (elements : List Elem) → AreAmong elements old → AreAmong elements middle
     still elements among at e m =
         elim (one.adds.only at e m) as (λ _. Contains elements e) [ inl was ↦ among at e was | inr fact ↦ among from e fact.1 ]
-
-pub spreads_begin : (from : ℕ) (old : List Set) (queue : List ℕ) → Spreads from (IsListed []) old old queue queue
-spreads_begin from old queue = spreads_none from (IsListed []) old queue (λ at e fact m. let h : false ≡ true = fact in cc)
 
 pub spreads_more : (from : ℕ) (xs : List Elem) (x : Elem) (old middle new : List Set) (before between after : List ℕ)
     → Spreads from (IsListed xs) old middle before between → Spreads from (λ e. e ≡ x) middle new between after

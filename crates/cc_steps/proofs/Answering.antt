@@ -5,38 +5,24 @@ use Rattle.cc_capture.specs.declared.var.Var.TheVariants.{Free}
 use Rattle.cc_core.specs.declared.terms.Node.{Node}
 use Rattle.cc_core.specs.Captured.{is_value}
 use Rattle.cc_core.specs.Stores.{ValueCell}
-use Rattle.cc_core.specs.Terms.{Term, VariableTerm}
+use Rattle.cc_core.specs.Terms.{Term}
 use Rattle.cc_core.specs.Views.{term_of}
-use Rattle.cc_device.specs.Events.{Event, Ended}
-use Rattle.cc_meta_runs.specs.Answers.{is_answer}
-use Rattle.cc_meta_runs.specs.Machine.{LetFrame, ScopeFrame, configured, Outcome, Final, Next, going, put_in, term_step, step}
-use Rattle.cc_meta_runs.proofs.Finality.{final_exactly_where_answered}
+use Rattle.cc_device.specs.Events.{Event}
+use Rattle.cc_meta_runs.specs.Machine.{LetFrame, configured, Outcome, going, put_in, term_step, step}
 use Rattle.cc_steps.specs.declared.parts.Cell.{Cell}
 use Rattle.cc_steps.specs.declared.parts.Frame.{Frame}
 use Rattle.cc_steps.specs.declared.parts.Parts.{Parts}
 use Rattle.cc_steps.specs.Environments.{extended, follow}
-use Rattle.cc_steps.specs.Growing.{Enters, Adds, Pops, HasNoFrame}
+use Rattle.cc_steps.specs.Growing.{Enters, Adds, Pops}
 use Rattle.cc_steps.specs.Lines.{GoesAs, Goes}
 use Rattle.cc_steps.specs.Naming.{Names}
 use Rattle.cc_steps.specs.Parts.{cell_in, frame_in, focus_in, store_of, stack_of, configuration_of, cell_environment, focus_environment, AreLinked, IsLinked, HasRoom}
 use Rattle.cc_steps.specs.Placing.{body_in}
 use Rattle.cc_steps.specs.Putting.{put_all}
-use Rattle.cc_steps.proofs.Following.{goes_same, stays, Grows, grows_cell, same_parts, entered_goes}
+use Rattle.cc_steps.proofs.Following.{goes_same, Grows, grows_cell, same_parts, entered_goes}
 use Rattle.cc_steps.proofs.Linking.{store-push, stack-push, length-store, linked_front, linked_top, IsLinkedFrame}
 use Rattle.cc_steps.proofs.PutBodies.{put_in-body}
-use Rattle.cc_steps.proofs.StepLines.{value_named, answer_ends}
-
--- a variable is named already
-pub names_variable : {parts : Parts} (position : ℕ) → IsLinked parts → Names (VariableTerm (Free position)) parts parts position
-names_variable {parts} position linked = record {
-  links = refl;
-  frames = refl;
-  labels = refl;
-  linked = linked.linked;
-  len = omega arith;
-  capacity = refl;
-  named = λ stack made body. refl;
-}
+use Rattle.cc_steps.proofs.StepLines.{value_named}
 
 -- a value is, where its new cell stands
 pub names_value : {c : Cell} {position : ℕ} {before after : Parts} (value : Term) → IsLinked before → cell_environment (Some c) ≤ length before.links.items
@@ -127,36 +113,3 @@ module _ {frame : Frame} {before middle : Parts} (linked : IsLinked before) (pop
         };
         follows = subst (λ z. GoesAs z event (configuration_of after)) (sym same) goes.follows;
       }
-
--- without a frame nothing is done
-pub unframed_goes : {before after : Parts} → IsLinked before → is_answer (configuration_of before).term ≡ true → HasNoFrame before after
-    → Goes (step (configuration_of before)) before None after
-unframed_goes {before} {after} linked answer none =
-    let final : step (configuration_of before) ≡ Final = (final_exactly_where_answered (configuration_of before)).1 (answer, ap (stack_of before.links.items) none.frames) in
-    goes_same (step (configuration_of before)) Final before after None final
-    (record {
-      linked = record {
-        linked = same_parts after.links.items before.links.items after.cells.items before.cells.items after.frames.items before.frames.items after.labels before.labels
-            (ap (λ v. v.items) none.links) (ap (λ v. v.items) none.cells) (none.empty ∙ sym none.frames) none.labels linked.linked;
-        focus = omega (arith, linked.focus, ap focus_environment none.focus, ap (λ v. length v.items) none.links);
-      };
-      uses = record {
-        cells = omega (arith, ap (λ v. length v.items) none.cells);
-        room = λ steps room. record {
-          links = let h = room.links in omega (arith, ap vec_len none.links, ap vec_capacity none.links);
-          cells = let h = room.cells in omega (arith, ap vec_len none.cells, ap vec_capacity none.cells);
-          frames = let h = room.frames in omega (arith, none.len, none.capacity);
-          positions = let h = room.positions in omega (arith, ap (λ v. length v.items) none.cells);
-        };
-      };
-      follows = tt;
-    })
-
--- an answer ends a boundary
-pub ended_goes : {parts : Parts} (label : ℕ) → IsLinked parts → is_answer (configuration_of parts).term ≡ true
-    → Goes (term_step (configuration_of parts).store (ScopeFrame label ∷ (configuration_of parts).stack) parts.labels (configuration_of parts).term) parts (Some (Ended label)) parts
-ended_goes {parts} label linked answer =
-    let c = configuration_of parts in
-    goes_same (term_step c.store (ScopeFrame label ∷ c.stack) parts.labels c.term) (Next (Some (Ended label)) c) parts parts (Some (Ended label))
-    (answer_ends c.store c.stack parts.labels label c.term answer)
-    (stays (Next (Some (Ended label)) c) parts (Some (Ended label)) linked (refl, refl))

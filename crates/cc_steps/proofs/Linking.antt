@@ -79,30 +79,6 @@ pub follow-newest : (links : List Link) (l : Link) → ((at : ℕ) → link_befo
     → l.before ≤ length links → follow (links ++ l ∷ []) (suc (length links)) ≡ extended l.position (follow links l.before)
 follow-newest links l older h = λ j i. follow-newest_at links l older h i j
 
--- where there is no node, an index has no position
-follow-absent : (links : List Link) (at i : ℕ) → slice_get links at ≡ None → follow links (suc at) i ≡ None
-follow-absent links at zero h = ap link_position h
-follow-absent links at (suc i) h = ap (λ o. follow links (link_before o) i) h
-
--- a walk along the nodes, at a number that is not 0
-pub follow-none : (links : List Link) (e i : ℕ) → 0 < e → slice_get links (e - 1) ≡ None → follow links e i ≡ None
-follow-none links e i h s =
-    let at : e ≡ suc (e - 1) = omega arith in
-    ap (λ x. follow links x i) at ∙ follow-absent links (e - 1) i s
-
-pub follow-here : (links : List Link) (e i : ℕ) (l : Link) → 0 < e → slice_get links (e - 1) ≡ Some l → i ≡ 0
-    → follow links e i ≡ l.position
-follow-here links e i l h s z =
-    let at : e ≡ suc (e - 1) = omega arith in
-    (λ j. follow links (at j) (z j)) ∙ ap link_position s
-
-pub follow-outward : (links : List Link) (e i : ℕ) (l : Link) → 0 < e → slice_get links (e - 1) ≡ Some l → 0 < i
-    → follow links e i ≡ follow links l.before (i - 1)
-follow-outward links e i l h s z =
-    let at : e ≡ suc (e - 1) = omega arith in
-    let index : i ≡ suc (i - 1) = omega arith in
-    (λ j. follow links (at j) (index j)) ∙ ap (λ o. follow links (link_before o) (i - 1)) s
-
 -- cells, frames and the focus stay when a node is added
 module _ (links : List Link) (l : Link) (older : (at : ℕ) → link_before (slice_get links at) ≤ at) where
   pub cell_in-more : (c : Cell) → cell_environment (Some c) ≤ length links → cell_in (links ++ l ∷ []) c ≡ cell_in links c
@@ -179,20 +155,6 @@ held_at-cell links cs e v = of (resolved (follow links e) v)
     of : (w : Var) → cell_at (store_of links cs) w ≡ option_map (cell_in links) (held_by cs (position_of w))
     of (Free p) = lookup-store links cs p
     of (Bound i) = refl
-
--- nothing is at an environment past the nodes
-pub within_none : (n : ℕ) → 0 ≤ n
-within_none n = omega arith
-
--- what a cell that is found has for its environment is there
-pub held_within : (links : List Link) (cs : List Cell) (e : ℕ) (v : Var) (c : Cell)
-    → ((at : ℕ) → cell_environment (slice_get cs at) ≤ length links)
-    → held_at links cs e v ≡ Some c → cell_environment (Some c) ≤ length links
-held_within links cs e v c h = of (position_of (resolved (follow links e) v))
-  where
-    of : (o : Option ℕ) → held_by cs o ≡ Some c → cell_environment (Some c) ≤ length links
-    of (Some p) is = subst (λ x. cell_environment x ≤ length links) is (h p)
-    of None is = cc
 
 -- longer lists are linked too
 module _ (links : List Link) (cs : List Cell) (fs : List Frame) (made : ℕ) (linked : AreLinked links cs fs made) where

@@ -1,42 +1,34 @@
 -- Repetitions, lets that wait, boundaries and exits: what the code does is their line of the table.
 use denote.Bor.{Bor}
-use Rattle.std.proofs.Common.{◌≡◌, ℕ, suc, ◌+◌, ◌<◌, ◌≤◌, ◌^◌, ℤ, pos, Bool, true, false, [], ◌∷◌, ◌++◌, length, Some, None, refl, sym, ap, ◌∙◌, arith, vec_len, vec_capacity}
+use Rattle.std.proofs.Common.{◌≡◌, ℕ, suc, ◌+◌, ◌<◌, ◌≤◌, ◌^◌, ℤ, pos, true, false, [], ◌∷◌, ◌++◌, length, Some, None, refl, sym, ap, ◌∙◌, arith, vec_len, vec_capacity}
 use Rattle.std.specs.Prelude.{nat_eq}
 use Rattle.std.proofs.lemmas.Bool.{cond-true, cond-false, eq-eqb, ne_eqb}
 use Rattle.cc_base.specs.Literals.{UnitLiteral, NumberLiteral}
 use Rattle.cc_capture.specs.declared.var.Var.TheVariants.{Free}
 use Rattle.cc_core.specs.declared.terms.Node.{Node}
 use Rattle.cc_core.specs.Stores.{ValueCell, LabelCell}
-use Rattle.cc_core.specs.Terms.{VariableTerm, LiteralTerm, Application}
+use Rattle.cc_core.specs.Terms.{LiteralTerm, Application}
 use Rattle.cc_core.specs.Views.{term_of}
-use Rattle.cc_device.specs.Events.{Entered, Exited}
+use Rattle.cc_device.specs.Events.{Entered}
 use Rattle.cc_meta_runs.specs.Answers.{is_answer}
-use Rattle.cc_meta_runs.specs.Machine.{LetFrame, ScopeFrame, RepetitionFrame, Stack, configured, Outcome, Stuck, Next, going, put_in, let_step, call_with_number, repeat_step, below_scope, exit_step, boundary_step}
+use Rattle.cc_meta_runs.specs.Machine.{LetFrame, ScopeFrame, RepetitionFrame, Stack, configured, going, put_in, let_step, call_with_number, repeat_step, below_scope, boundary_step}
 use Rattle.cc_steps.specs.declared.parts.Small.TheVariants as smalls
 use Rattle.cc_steps.specs.declared.parts.Cell.TheVariants as cell_forms
 use Rattle.cc_steps.specs.declared.parts.Frame.{Frame}
 use Rattle.cc_steps.specs.declared.parts.Frame.TheVariants as frame_forms
-use Rattle.cc_steps.specs.declared.parts.Focus.{Focus}
 use Rattle.cc_steps.specs.declared.parts.Focus.TheVariants as focuses
 use Rattle.cc_steps.specs.declared.parts.Parts.{Parts}
 use Rattle.cc_steps.specs.Environments.{extended, follow}
-use Rattle.cc_steps.specs.Growing.{Enters, Adds, Waits, Pops, HasNoFrame}
-use Rattle.cc_steps.specs.Lines.{GoesAs, Goes}
-use Rattle.cc_steps.specs.Parts.{frame_in, focus_in, store_of, stack_of, configuration_of, focus_environment, AreLinked, IsLinked}
+use Rattle.cc_steps.specs.Growing.{Enters, Adds, Waits, Pops}
+use Rattle.cc_steps.specs.Lines.{Goes}
+use Rattle.cc_steps.specs.Parts.{frame_in, store_of, stack_of, configuration_of, AreLinked, IsLinked}
 use Rattle.cc_steps.specs.Placing.{term_in, body_in}
 use Rattle.cc_steps.specs.Putting.{put_all}
 use Rattle.cc_steps.specs.Unwinding.{Unwinds}
 use Rattle.cc_steps.proofs.Following.{goes_same, Grows, grows_none, grows_cell, grows_frame, same_parts, entered_goes, shown_goes}
 use Rattle.cc_steps.proofs.Linking.{store-push, stack-push, length-store, linked_label, linked_frame, linked_front}
 use Rattle.cc_steps.proofs.PutBodies.{put_in-body}
-use Rattle.cc_steps.proofs.StepLines.{let-other, left, not_left}
-
--- the focus alone is set
-pub focused : {x : Outcome} {before : Parts} (focus : Focus) → IsLinked before → focus_environment focus ≤ length before.links.items
-    → GoesAs x None (configured (configuration_of before).store (configuration_of before).stack before.labels (focus_in before.links.items focus))
-    → Goes x before None (record before { focus = focus })
-focused {x} {before} focus linked below goes =
-    shown_goes (record before { focus = focus }) (grows_none linked) refl refl refl refl below goes
+use Rattle.cc_steps.proofs.StepLines.{let-other}
 
 -- a cell and a frame are added, and the function of a repetition is called
 pub called : {before middle after : Parts} {position : ℕ} (number : ℤ) (function begun wanted n : ℕ) → IsLinked before
@@ -74,17 +66,6 @@ repeated_goes {before} {after} function begun wanted other goes =
     (call_with_number c.store c.stack before.labels (Free function) (suc begun) wanted begun) (ne_eqb begun wanted other)
     ∙ ap (λ b. call_with_number c.store c.stack before.labels (Free function) b wanted begun) (sym more))
     goes
-
-pub repetition_over : {before : Parts} (function begun wanted : ℕ) → IsLinked before → begun ≡ wanted
-    → Goes (repeat_step (configuration_of before).store (configuration_of before).stack before.labels (Free function) begun wanted) before None
-    (record before { focus = focuses.Small smalls.Unit })
-repetition_over {before} function begun wanted linked same =
-    let c = configuration_of before in
-    let x = repeat_step c.store c.stack before.labels (Free function) begun wanted in
-    goes_same x (going c.store c.stack before.labels (LiteralTerm UnitLiteral)) before (record before { focus = focuses.Small smalls.Unit }) None
-    (cond-true (nat_eq begun wanted) (going c.store c.stack before.labels (LiteralTerm UnitLiteral))
-    (call_with_number c.store c.stack before.labels (Free function) (suc begun) wanted begun) (eq-eqb begun wanted same))
-    (focused {x = going c.store c.stack before.labels (LiteralTerm UnitLiteral)} (focuses.Small smalls.Unit) linked (omega arith) (refl, refl))
 
 -- a let whose right side is no answer waits
 pub waits_goes : {before after : Parts} (right body : Bor Node) (environment : ℕ) → IsLinked before → environment ≤ length before.links.items
@@ -159,18 +140,6 @@ pub record Unwinding (label : ℕ) (before now : Parts) : Type 0 where
   pub capacity : vec_capacity now.frames ≡ vec_capacity before.frames
   pub below : below_scope label (configuration_of before).stack ≡ below_scope label (configuration_of now).stack
 
-pub unwinding_none : {label : ℕ} {parts : Parts} → IsLinked parts → Unwinding label parts parts
-unwinding_none {label} {parts} linked = record {
-  links = refl;
-  cells = refl;
-  labels = refl;
-  focus = refl;
-  linked = linked.linked;
-  len = omega arith;
-  capacity = refl;
-  below = refl;
-}
-
 module _ {label : ℕ} {before now next : Parts} {frame : Frame} (unwinding : Unwinding label before now) (pops : Pops frame now next) where
   stack_popped : (configuration_of now).stack ≡ frame_in next.links.items frame ∷ (configuration_of next).stack
   stack_popped =
@@ -214,47 +183,3 @@ scope_here label other k same = cond-true (nat_eq other label) (Some k) (below_s
 
 pub scope_elsewhere : (label other : ℕ) (k : Stack) → (other ≡ label → ⊥) → below_scope label (ScopeFrame other ∷ k) ≡ below_scope label k
 scope_elsewhere label other k ne = cond-false (nat_eq other label) (Some k) (below_scope label k) (ne_eqb other label ne)
-
-pub unwinds_nothing : {label : ℕ} {before now next : Parts} → Unwinding label before now → HasNoFrame now next → Unwinds label before next false
-unwinds_nothing {label} {before} {now} {next} unwinding none = record {
-  links = none.links ∙ unwinding.links;
-  cells = none.cells ∙ unwinding.cells;
-  labels = none.labels ∙ unwinding.labels;
-  focus = none.focus ∙ unwinding.focus;
-  linked = same_parts next.links.items now.links.items next.cells.items now.cells.items next.frames.items now.frames.items next.labels now.labels
-      (ap (λ v. v.items) none.links) (ap (λ v. v.items) none.cells) (none.empty ∙ sym none.frames) none.labels unwinding.linked;
-  len = omega (arith, unwinding.len, none.len);
-  capacity = none.capacity ∙ unwinding.capacity;
-  below = unwinding.below ∙ ap (λ fs. below_scope label (stack_of now.links.items fs)) none.frames;
-}
-
--- an exit to where its scope stands, and where it does not
-unwound_grows : {label : ℕ} {before after : Parts} {found : Bool} → Unwinds label before after found → Grows before after
-unwound_grows {label} {before} {after} {found} unwinds = record {
-  linked = unwinds.linked;
-  links = unwinds.links;
-  cells_len = omega (arith, ap vec_len unwinds.cells);
-  cells_room = ap vec_capacity unwinds.cells;
-  frames_len = let h = unwinds.len in omega arith;
-  frames_room = unwinds.capacity;
-}
-
-pub left_goes : {before after : Parts} (label value : ℕ) → IsLinked before → Unwinds label before after true
-    → Goes (exit_step (configuration_of before).store (configuration_of before).stack before.labels (Free value) (Some (LabelCell label))) before (Some (Exited label))
-    (record after { focus = focuses.Position value })
-left_goes {before} {after} label value linked unwinds =
-    let c = configuration_of before in
-    let y = Next (Some (Exited label)) (configured c.store (configuration_of after).stack before.labels (VariableTerm (Free value))) in
-    goes_same (exit_step c.store c.stack before.labels (Free value) (Some (LabelCell label))) y before (record after { focus = focuses.Position value }) (Some (Exited label))
-    (left c.store c.stack before.labels (Free value) label (configuration_of after).stack unwinds.below)
-    (shown_goes {x = y} (record after { focus = focuses.Position value }) (unwound_grows unwinds) refl refl refl refl (omega arith)
-    (refl, λ j. configured (store_of (sym unwinds.links j).items (sym unwinds.cells j).items) (configuration_of after).stack (sym unwinds.labels j) (VariableTerm (Free value))))
-
-pub not_left_goes : {before after : Parts} (label value : ℕ) → IsLinked before → Unwinds label before after false
-    → Goes (exit_step (configuration_of before).store (configuration_of before).stack before.labels (Free value) (Some (LabelCell label))) before None after
-not_left_goes {before} {after} label value linked unwinds =
-    let c = configuration_of before in
-    goes_same (exit_step c.store c.stack before.labels (Free value) (Some (LabelCell label))) Stuck before after None
-    (not_left c.store c.stack before.labels (Free value) label unwinds.below)
-    (shown_goes {x = Stuck} after (unwound_grows unwinds) refl refl refl refl
-    (omega (arith, linked.focus, ap focus_environment unwinds.focus)) tt)

@@ -14,10 +14,9 @@ use Rattle.cc_core.specs.Views.{form_of}
 use Rattle.cc_capture.specs.Sets.{Set}
 use Rattle.cc_device.specs.Events.{Ended, Exited}
 use Rattle.cc_meta_runs.specs.Answers.{is_answer}
-use Rattle.cc_meta_runs.specs.Machine.{LetFrame, ScopeFrame, RepetitionFrame, Stack, Configuration, configured, Stuck, Next, going, bound_to_new, let_step, apply_step, type_apply_step, literal_in, result_of, primitive_step, conditional_step, repeat_step, below_scope, exit_to, exit_step, term_step}
+use Rattle.cc_meta_runs.specs.Machine.{LetFrame, ScopeFrame, RepetitionFrame, Stack, Configuration, configured, Stuck, Next, going, bound_to_new, let_step, apply_step, type_apply_step, result_of, primitive_step, conditional_step, repeat_step, below_scope, exit_to, exit_step, term_step}
 use Rattle.cc_steps.specs.Environments.{Environment, extended}
 use Rattle.cc_steps.specs.Lines.{GoesAs, number_in, truth_in}
-use Rattle.cc_steps.specs.Parts.{literal_of_term}
 use Rattle.cc_steps.specs.Putting.{put_all}
 use Rattle.cc_steps.proofs.PutBodies.{put_in-body, type_body}
 
@@ -38,23 +37,6 @@ is_answer-put e (Repetition v w) = refl
 is_answer-put e (Operation p v o) = refl
 is_answer-put e (Boundary s t) = refl
 is_answer-put e (Leave s c v w) = refl
-
-pub literal_of-put : (e : Environment) (t : Term) → literal_in (Some (ValueCell (put_all e t))) ≡ literal_of_term t
-literal_of-put e (VariableTerm v) = refl
-literal_of-put e (LiteralTerm l) = refl
-literal_of-put e (FunctionTerm s c t) = refl
-literal_of-put e (TypeFunctionTerm s t) = refl
-literal_of-put e (BoxTerm v) = refl
-literal_of-put e (Application v w) = refl
-literal_of-put e (TypeApplication v s) = refl
-literal_of-put e (Unboxing o v) = refl
-literal_of-put e (Let n s t) = refl
-literal_of-put e (Primitive p v w) = refl
-literal_of-put e (Conditional n v s t) = refl
-literal_of-put e (Repetition v w) = refl
-literal_of-put e (Operation p v o) = refl
-literal_of-put e (Boundary s t) = refl
-literal_of-put e (Leave s c v w) = refl
 
 module _ (st : Store) (k : Stack) (made : ℕ) where
   -- the body of a function, and of a type function

@@ -2,24 +2,14 @@
 use Rattle.std.proofs.Common.{◌≡◌, ◌↔◌, ◌<◌, ◌≤◌, ◌+◌, ℕ, Bool, true, List, [], ◌∷◌, ◌++◌, map, length, take, get_or, Some, IsTrue, refl, sym, ap, ◌∙◌, subst, arith}
 use Rattle.std.specs.Prelude.{slice_get}
 use Rattle.std.specs.List.{AllByRecursion, AllZip}
-use Rattle.std.proofs.lemmas.List.{map-append, map_more, take_more}
+use Rattle.std.proofs.lemmas.List.{take_more}
 use Rattle.std.proofs.lemmas.Option.{slice_get_read, slice_get_past, slice_get-get_or}
 use Rattle.std.proofs.lemmas.Slice.Zip.{all_zipped_more}
 use Rattle.cc_device.specs.declared.ends.End.{End}
 use Rattle.cc_machine.specs.Machines.{held_by}
 use Rattle.cc_meta_runs.specs.Machine.{Final, step}
-use Rattle.cc_program.specs.declared.program.Program.{Program}
 use Rattle.cc_tasks.specs.declared.task.Task.{Task}
-use Rattle.cc_tasks.specs.Tasks.{holds, begins, HasEnded, HaveEnded, IsEndOf}
-
--- loading
-pub loaded_more : (programs : List Program) (old new : List Task) (i : ℕ) (program : Program) (task : Task) → i < length programs
-    → map holds old ≡ map begins (take i programs) → new ≡ old ++ task ∷ [] → holds task ≡ begins program → program ≡ get_or programs i program
-    → map holds new ≡ map begins (take (i + 1) programs)
-loaded_more programs old new i program task less before pushed is at =
-    ap (map holds) pushed ∙ map-append holds old (task ∷ [])
-    ∙ (λ j. before j ++ (is ∙ ap begins at) j ∷ [])
-    ∙ sym (map_more begins programs i program less)
+use Rattle.cc_tasks.specs.Tasks.{HasEnded, IsEndOf}
 
 -- what has ended
 pub ended_there : (tasks : List Task) (n : ℕ) (some : Task) (b : Bool) → n < length tasks
@@ -40,10 +30,6 @@ awaited_within tasks n running =
 all_more : {A : Type 0} (P : A → Type 0) (xs : List A) (x : A) → AllByRecursion P xs → P x → AllByRecursion P (xs ++ x ∷ [])
 all_more P [] x all here = (here, tt)
 all_more P (y ∷ xs) x all here = (all.0, all_more P xs x all.1 here)
-
-pub ended_more : (tasks : List Task) (order : List ℕ) (i : ℕ) → i < length order → HaveEnded tasks (take i order) → HasEnded (slice_get tasks (get_or order i 0)) → HaveEnded tasks (take (i + 1) order)
-ended_more tasks order i less before here =
-    subst (HaveEnded tasks) (sym (take_more order i 0 less)) (all_more (λ n. HasEnded (slice_get tasks n)) (take i order) (get_or order i 0) before here)
 
 -- the ends
 pub ends_more : (tasks : List Task) (old new : List (End × ℕ)) (i : ℕ) (task : Task) (end : End × ℕ) → i < length tasks → AllZip IsEndOf (take i tasks) old

@@ -14,8 +14,7 @@ use Rattle.cc_meta_runs.specs.Alike.{erased_cell, erased_configuration}
 use Rattle.cc_meta_runs.specs.Machine.{Configuration}
 use Rattle.cc_meta_runs.specs.Runs.{IsFinal, Moves, closed, move}
 use Rattle.cc_meta_runs.specs.SoundRuns.{HasShapesOfCells}
-use Rattle.cc_meta_runs.specs.Interleavings.{World, state_of, move_of}
-use Rattle.cc_meta_runs.specs.InterleavingLaws.{IsAtRest}
+use Rattle.cc_meta_runs.specs.Interleavings.{World, state_of, move_of, IsAtRest}
 use Rattle.cc_program.specs.declared.program.Program.{Program}
 use Rattle.cc_program.specs.Programs.{start_of}
 use Rattle.cc_tasks.specs.declared.task.Task.{Task}

@@ -4,8 +4,9 @@ use Rattle.std.specs.Prelude.{slice_get, nat_eq, if◌then◌else◌}
 use Rattle.std.specs.List.{AllByRecursion}
 use Rattle.cc_device.specs.Events.{Event}
 use Rattle.cc_meta_runs.specs.Runs.{State, Move, IsStuck, IsFinal, Moves}
-use Rattle.cc_meta_runs.specs.Interleavings.{World, move_of, after_turn, Chosen, offered, chosen_from, Turn, Interleaving, resting, turn_first, go_on, interleave, numbered, trace_of, own_steps}
-use Rattle.cc_meta_runs.specs.InterleavingLaws.{IsAtRest}
+use Rattle.cc_meta_runs.specs.Interleavings.{World, move_of, after_turn, Chosen, offered, chosen_from, Turn}
+use Rattle.cc_meta_runs.specs.Interleavings.{Interleaving, resting, turn_first, go_on, interleave, numbered, trace_of}
+use Rattle.cc_meta_runs.specs.Interleavings.{own_steps, IsAtRest}
 use Rattle.cc_meta_runs.proofs.InterleavedTasks.{own_turn_steps, other_turn_steps}
 
 some_is : {A : Type 0} (a b : A) → Some a ≡ Some b → a ≡ b

@@ -9,7 +9,8 @@ use Rattle.cc_device.specs.Views.{end_of, event_of}
 use Rattle.cc_meta_runs.specs.Interleavings.{World, Report, interleaved_run}
 use Rattle.cc_meta_runs.specs.Links.{program_start}
 use Rattle.cc_meta_runs.specs.Runs.{Ending, Ends}
-use Rattle.cc_meta_runs.specs.TaskLaws.{AreEntries, RunsInterleaved}
+use Rattle.cc_meta_runs.specs.TaskLaws.{AreEntries}
+use Rattle.cc_meta_runs.specs.SafeTasks.{RunsInterleaved}
 use Rattle.cc_program.specs.declared.program.Program.{Program}
 use Rattle.cc_program.specs.Programs.{start_of}
 use Rattle.cc_tasks.specs.declared.tasks.TaskReport.{TaskReport}

@@ -45,7 +45,7 @@ use Rattle.cc_core.proofs.SubcapturingContexts.{IsKindedContext, entry_kinded, k
 use Rattle.cc_device.specs.Declarations.{declared_base, declared_bases}
 use Rattle.cc_meta_typing.proofs.FormedContexts.{IsKindedContext-test}
 use Rattle.cc_meta_typing.proofs.InternalConversions.{formed_type_from, internal_from, type_from}
-use Rattle.cc_meta_modules.specs.ModuleLaws.{in_program}
+use Rattle.cc_meta_modules.specs.ModuleVerdicts.{in_program}
 use Rattle.cc_meta_runs.specs.Links.{device_cells}
 use Rattle.cc_meta_runs.proofs.Links.{linked_store_typed}
 use Rattle.cc_meta_runs.proofs.LinkedPrograms.{all_reversed}

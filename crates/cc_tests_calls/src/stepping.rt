@@ -1,7 +1,7 @@
 // A machine that takes memory first, and then goes step by step.
 ghost use Rattle.std.specs.Prelude.{◌+◌, ◌<◌, ◌≤◌};
 ghost use Rattle.cc_machine.specs.Machines.{count_cells, held_by};
-ghost use Rattle.cc_meta_runs.specs.LinkLaws.{HaveShapes};
+ghost use Rattle.cc_meta_runs.specs.SafeRuns.{HaveShapes};
 ghost use Rattle.cc_meta_runs.specs.SoundRuns.{HasShapesOfCells};
 ghost use Rattle.cc_program.specs.Programs.{shapes_of};
 

@@ -83,9 +83,6 @@ split_at-first c (b ∷ bs) = choose (b == c) (split_at c bs)
     choose false [] = (b ∷ [], [], refl)
     choose false (word ∷ words) = (b ∷ word, words, refl)
 
-joined-before : (c b : ℕ) (word : List ℕ) (words : List (List ℕ)) → joined c (before_first b (word ∷ words)) ≡ b ∷ joined c (word ∷ words)
-joined-before c b word words = refl
-
 joined-cons : (c b : ℕ) (bs : List ℕ) (test : Bool) (words : List (List ℕ)) → (b == c) ≡ test → joined c words ≡ bs → ((word : List ℕ) × (more : List (List ℕ)) × (words ≡ word ∷ more)) → joined c (cond test ([] ∷ words) (before_first b words)) ≡ b ∷ bs
 joined-cons c b bs true [] t e first = let clash = first.2 in cc
 joined-cons c b bs true (word ∷ words) t e first = ap (λ xs. c ∷ xs) e ∙ ap (λ x. x ∷ bs) (sym ((Decides-eqb b c).0 t))

@@ -15,7 +15,7 @@ use Rattle.cc_meta_modules.specs.ModuleVerdicts.{CheckedDefinition, Finding, Mod
 use Rattle.cc_meta_modules.specs.PresentTexts.{Texts, text_of, findings_for}
 use Rattle.cc_meta_modules.specs.Readings.{imports_in, imports_of}
 use Rattle.cc_meta_modules.specs.StandingDefinitions.{Standing, first_named, standing_or, standing_by, standing_from, standing_in}
-use Rattle.cc_mnf.specs.CoreModules.{device_names}
+use Rattle.cc_mnf.specs.ElaboratedModules.{device_names}
 use Rattle.cc_replies.proofs.ExplainLaws.{same_target, same_target-true, same_target-itself}
 use Rattle.cc_replies.proofs.FirstChains.{path_from, first_chain_found}
 use Rattle.cc_replies.specs.ExplainReplies.{Explains, AreExplained, IsExplainAnswer}

@@ -21,7 +21,7 @@ use Rattle.cc_meta_modules.specs.ModuleLaws.{NamesOfDevicesDiffer}
 use Rattle.cc_meta_modules.specs.ModuleVerdicts.{CheckedDefinition, Finding, NoModule, InCycle, ModuleVerdict, IsRefused, HasModuleVerdict}
 use Rattle.cc_meta_modules.specs.PresentTexts.{Texts, ArePresent, text_of, with_module, graph_of, finding_in, finding_for, findings_for, AreVerdicts}
 use Rattle.cc_meta_modules.specs.Readings.{imports_in, imports_of}
-use Rattle.cc_mnf.specs.CoreModules.{device_names}
+use Rattle.cc_mnf.specs.ElaboratedModules.{device_names}
 use Rattle.cc_words.specs.Words.{number_of, signed_of}
 use Rattle.cc_worked_texts.proofs.ComputedModules.{text_computing, text_verdict_in, text_verdict_in_steps}
 use Rattle.cc_worked_texts.proofs.QuickTokens.{quick_reading, same_reading}

@@ -4,7 +4,7 @@ use Rattle.std.specs.List.{flat_map}
 use Rattle.cc_base.specs.declared.device.DeviceDecl.{DeviceDecl}
 use Rattle.cc_certificate_judging.specs.AnswerExamples.{function_node}
 use Rattle.cc_certificate_reading.specs.Examples.{text, opening, statement, body_node}
-use Rattle.cc_mnf.specs.CoreModules.{device_names}
+use Rattle.cc_mnf.specs.ElaboratedModules.{device_names}
 use Rattle.cc_replies.specs.Replies.{Replies}
 use Rattle.cc_replies.specs.ReplyTexts.{Reply, line, reply_text, is_refusal}
 use Rattle.cc_replies.specs.Requests.{VerifyText, JobState}

@@ -21,8 +21,7 @@ use Rattle.cc_core.specs.Shapes.{CapturingType}
 use Rattle.cc_core.specs.Contexts.{Context, entry_of}
 use Rattle.cc_grammar.specs.Syntax.{ModuleSyntax}
 use Rattle.cc_meta_checking.proofs.ComputedVerdicts.{verdict_in, verdict_in_steps}
-use Rattle.cc_mnf.specs.CoreModules.{device_names}
-use Rattle.cc_mnf.specs.ElaboratedModules.{CoreDefinition, Elaboration, elaboration}
+use Rattle.cc_mnf.specs.ElaboratedModules.{CoreDefinition, Elaboration, elaboration, device_names}
 use Rattle.cc_mnf.specs.ElaboratedModules as elaborated
 use Rattle.cc_sets.specs.Verdicts as definitions
 use Rattle.cc_meta_modules.specs.ModuleVerdicts.{CheckedDefinition, ModuleVerdict, IsAccepted, IsRefused, Refusal, Finding, with_findings, AreJudged, no_more, refused_first, accepted_first, HasModuleVerdict, is_no_module, import_is_missing, is_not_elaborated, is_judged, first_missing, declared_context, to_be_checked, checked_as, after_definition}

@@ -15,8 +15,8 @@ use Rattle.cc_core.specs.Substitution.{single}
 use Rattle.cc_core.specs.Terms.{Note, Absent, Written, Own, Term, VariableTerm, LiteralTerm, FunctionTerm}
 use Rattle.cc_core.specs.Terms.{TypeFunctionTerm, BoxTerm, Application, TypeApplication, Unboxing, Let, Primitive}
 use Rattle.cc_core.specs.Terms.{Conditional, Repetition, Operation, Boundary, Leave}
-use Rattle.cc_mnf.specs.CoreModules.{device_names}
 use Rattle.cc_mnf.specs.ElaboratedModules.{CoreDefinition, Elaboration, IsElaborated, IsRefused, elaboration}
+use Rattle.cc_mnf.specs.ElaboratedModules.{device_names}
 use Rattle.cc_meta_modules.specs.Readings.{TextReading, IsTree, IsNoModule, reading_of_text}
 use Rattle.cc_worked_texts.specs.TextVerdicts.{devices}
 

@@ -1,8 +1,8 @@
 -- What is said of two worked texts: that they say the same.
 use Rattle.std.specs.Prelude.{◌≡◌, ℕ, Bool, true, codes, List, ◌++◌, map, Option, Some, None, is_some}
 use Rattle.cc_core.specs.Terms.{Note, Term}
-use Rattle.cc_mnf.specs.CoreModules.{device_names}
 use Rattle.cc_mnf.specs.ElaboratedModules.{CoreDefinition, Elaboration, IsElaborated, IsRefused, elaboration}
+use Rattle.cc_mnf.specs.ElaboratedModules.{device_names}
 use Rattle.cc_meta_modules.specs.Readings.{TextReading, IsTree, IsNoModule, reading_of_text}
 use Rattle.cc_worked_texts.specs.TextVerdicts.{devices}
 

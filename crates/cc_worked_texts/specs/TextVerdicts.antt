@@ -11,7 +11,7 @@ use Rattle.cc_capture.specs.declared.var.Elem.TheVariants.{Var as Variable}
 use Rattle.cc_capture.specs.Sets.{empty}
 use Rattle.cc_core.specs.Shapes.{BaseShape, FunctionShape, capturing}
 use Rattle.cc_core.specs.Substitution.{single}
-use Rattle.cc_mnf.specs.CoreModules.{device_names}
+use Rattle.cc_mnf.specs.ElaboratedModules.{device_names}
 use Rattle.cc_print.specs.TypeTexts.{type_text}
 use Rattle.cc_meta_modules.specs.ModuleVerdicts.{CheckedDefinition, Finding, FoundDefinition, HasModuleVerdict}
 use Rattle.cc_meta_modules.specs.ModuleVerdicts.{IsAccepted, IsRefused}

@@ -11,8 +11,7 @@ use Rattle.cc_words.proofs.Numbers.{Lacks-decimal}
 use Rattle.cc_words.proofs.LineLists.{terminated, whole-terminated, lines_of-whole}
 use Rattle.cc_job.specs.declared.job.Command.{Command}
 use Rattle.cc_job.specs.declared.job.Command.TheVariants.{Put}
-use Rattle.cc_job.specs.Examples.{text}
-use Rattle.cc_job.specs.Jobs.{IsCommand, IsItem, Commands}
+use Rattle.cc_job.specs.Jobs.{IsCommand, IsItem, Commands, text}
 use Rattle.cc_workload.specs.Workloads.{module_name, definition_name, import_line, printing_module, counting_module, calling_module, entry_module, link, requests, DevicesDiffer, WorkloadItems}
 use Rattle.cc_workload.proofs.WorkloadNames.{module_named}
 

@@ -3,7 +3,7 @@ use Rattle.std.specs.Prelude.{◌≡◌, ℕ, List, [], ◌∷◌, length, take,
 use Rattle.cc_base.specs.declared.device.Kind.TheVariants.{Console, Counter}
 use Rattle.cc_job.specs.declared.job.Command.{Command}
 use Rattle.cc_job.specs.declared.job.Command.TheVariants.{Put, Check, Run}
-use Rattle.cc_job.specs.Examples.{text}
+use Rattle.cc_job.specs.Jobs.{text}
 use Rattle.cc_workload.specs.Workloads.{workload}
 
 -- the whole job of one module

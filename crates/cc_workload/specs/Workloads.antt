@@ -9,8 +9,7 @@ use Rattle.cc_base.specs.declared.device.DeviceDecl.{DeviceDecl}
 use Rattle.cc_job.specs.declared.job.Command.{Command}
 use Rattle.cc_job.specs.declared.job.Command.TheVariants.{Put, Check, Run}
 use Rattle.cc_job.specs.declared.job.Job.{Job}
-use Rattle.cc_job.specs.Examples.{text}
-use Rattle.cc_job.specs.Jobs.{IsItem, items_of}
+use Rattle.cc_job.specs.Jobs.{IsItem, items_of, text}
 
 -- the module with this number in the chain: m1, m2 and so on
 abbrev pub module_name : ℕ → List ℕ

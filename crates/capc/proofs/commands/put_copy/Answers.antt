@@ -1,6 +1,6 @@
 use Rattle.std.proofs.Common.{◌≡◌, ℕ, List, subst}
 use Rattle.std.specs.BTreeMap.{insert_entry}
-use Rattle.cc_graph.specs.Graph.{compare_names}
+use Rattle.cc_base.specs.Names.{compare_names}
 use Rattle.cc_replies.specs.ReplyTexts.{PutDone}
 use Rattle.capc.proofs.CommandFacts.{put_changes}
 use Rattle.capc.proofs.SessionReplies.{put_done, not_refused}

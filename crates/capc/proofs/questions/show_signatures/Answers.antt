@@ -1,6 +1,6 @@
 use Rattle.std.proofs.Common.{◌≡◌, List, map, sym, ap, ◌∙◌, subst, Ok, Err}
 use Rattle.cc_io.specs.Wholes.{WritesWhole}
-use Rattle.cc_mnf.specs.CoreModules.{device_names}
+use Rattle.cc_mnf.specs.ElaboratedModules.{device_names}
 use Rattle.cc_module.specs.Judgements.{checked_definition_of}
 use Rattle.cc_replies.specs.Requests.{ShowSignature, Ask, holding_under}
 use Rattle.cc_replies.specs.ReplyTexts.{Signatures, SignaturesRefused, reply_text}

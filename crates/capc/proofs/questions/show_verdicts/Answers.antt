@@ -1,7 +1,7 @@
 use Rattle.std.proofs.Common.{ap, ◌∙◌}
 use Rattle.std.proofs.lemmas.Result.{IfOk-weaker}
 use Rattle.cc_judge.specs.Kept.{named_verdicts}
-use Rattle.cc_mnf.specs.CoreModules.{device_names}
+use Rattle.cc_mnf.specs.ElaboratedModules.{device_names}
 use Rattle.cc_replies.specs.Requests.{CheckModules, Ask, holding_under}
 use Rattle.cc_replies.specs.ReplyTexts.{Verdicts, reply_text}
 use Rattle.capc.proofs.CommandFacts.{replied}

@@ -1,4 +1,4 @@
-use Rattle.cc_meta_runs.specs.LinkLaws.{HaveShapes}
+use Rattle.cc_meta_runs.specs.SafeRuns.{HaveShapes}
 use Rattle.cc_meta_runs.specs.SoundRuns.{HasShapesOfCells}
 use Rattle.cc_program.specs.declared.program.Program.{Program}
 use Rattle.cc_program.specs.Programs.{shapes_of, start_of}

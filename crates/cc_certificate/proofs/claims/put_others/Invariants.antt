@@ -1,6 +1,6 @@
 use Rattle.std.proofs.Common.{◌≡◌, ◌++◌, take}
 use Rattle.std.specs.String.{string_bytes}
-use Rattle.cc_certificate.specs.Certificates.{other_numbers}
+use Rattle.cc_certificate_text.specs.NodeTexts.{other_numbers}
 use Rattle.cc_certificate.proofs.claims.put_others.Given as goal
 
 abbrev pub invariant-loop-number : goal.invariant-loop-number

@@ -1,7 +1,7 @@
 use Rattle.std.proofs.Common.{rules}
 use Rattle.std.proofs.lemmas.Fn.{always_returns_same}
 use Rattle.std.specs.Map.{keys_of}
-use Rattle.cc_graph.specs.Graph.{compare_names}
+use Rattle.cc_base.specs.Names.{compare_names}
 use Rattle.cc_judge.proofs.Entries.{found_key, found_or_absent}
 use Rattle.cc_judge.proofs.names.place_of_verdict.Goals as goal
 

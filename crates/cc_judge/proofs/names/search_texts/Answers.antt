@@ -1,6 +1,6 @@
 use Rattle.std.proofs.Common.{rules}
 use Rattle.std.proofs.lemmas.Fn.{always_returns_same}
-use Rattle.cc_graph.specs.Graph.{compare_names}
+use Rattle.cc_base.specs.Names.{compare_names}
 use Rattle.cc_judge.proofs.Entries.{found_key}
 use Rattle.cc_judge.proofs.names.search_texts.Goals as goal
 

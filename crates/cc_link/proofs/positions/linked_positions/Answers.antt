@@ -7,7 +7,7 @@ use Rattle.cc_base.specs.declared.literal.Import.{Import}
 use Rattle.cc_meta_entries.specs.PresentEntries.{import_of}
 use Rattle.cc_parse.specs.Trees.{import_syntax}
 use Rattle.cc_link.specs.Linking.{module_in_program}
-use Rattle.cc_meta_modules.specs.ModuleLaws.{in_program}
+use Rattle.cc_meta_modules.specs.ModuleVerdicts.{in_program}
 use Rattle.cc_module.specs.Judgements.{checked_definition_of}
 use Rattle.cc_link.proofs.Placements.{device_placed, import_listed, own_listed, placed_none, placed_more}
 use Rattle.cc_meta_runs.specs.Links.{linked_position}

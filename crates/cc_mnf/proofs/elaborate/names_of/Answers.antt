@@ -1,5 +1,5 @@
 use Rattle.std.proofs.Common.{◌≡◌, ◌+◌, ◌++◌, drop, sym, ap, ◌∙◌}
-use Rattle.cc_mnf.specs.CoreModules.{device_names}
+use Rattle.cc_mnf.specs.ElaboratedModules.{device_names}
 use Rattle.cc_mnf.proofs.ModuleLoops.{drop_next, one_name_more}
 use Rattle.cc_mnf.proofs.elaborate.names_of.Goals as goal
 

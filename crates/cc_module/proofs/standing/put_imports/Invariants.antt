@@ -1,5 +1,5 @@
 use Rattle.std.proofs.Common.{◌≡◌, ◌++◌, map, take}
-use Rattle.cc_mnf.specs.ElaborationLaws.{import_names}
+use Rattle.cc_mnf.specs.ElaboratedModules.{import_names}
 use Rattle.cc_parse.specs.Trees.{import_syntax}
 use Rattle.cc_module.proofs.standing.put_imports.Given as goal
 

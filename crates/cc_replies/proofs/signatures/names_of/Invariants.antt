@@ -1,5 +1,5 @@
 use Rattle.std.proofs.Common.{◌≡◌, take}
-use Rattle.cc_mnf.specs.CoreModules.{device_names}
+use Rattle.cc_mnf.specs.ElaboratedModules.{device_names}
 use Rattle.cc_replies.proofs.signatures.names_of.Given as goal
 
 abbrev pub invariant-loop-device : goal.invariant-loop-device
