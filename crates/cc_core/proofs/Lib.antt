@@ -18,7 +18,7 @@ pub mod Levels
 pub mod Lookups
 pub mod Moving
 pub mod NodeCounts
-pub mod NothingFilled
+mod NothingFilled
 pub mod OccurrenceTests
 pub mod Opening
 pub mod ReadingAndWriting
