@@ -50,7 +50,30 @@ fn is_among(words: &[&str], text: &str) -> bool
 pub fn is_reserved(text: &str) -> bool
     ensures { result ≡ is_reserved (chars text.now) }
 {
-    is_among(&RESERVED_WORDS, text)
+    if text.len() > 8 {
+        return false;
+    }
+    match text.len() {
+        1 => false,
+        2 => is_among(&["if"], text),
+        3 => is_among(
+            &[
+                "def", "rec", "fun", "val", "box", "cap", "Int", "Str", "Any", "Box",
+            ],
+            text,
+        ),
+        4 => is_among(
+            &[
+                "then", "else", "exit", "true", "unit", "Unit", "Bool", "File", "Exit",
+            ],
+            text,
+        ),
+        5 => is_among(&["unbox", "false"], text),
+        6 => is_among(&["import", "repeat"], text),
+        7 => is_among(&["Console", "Counter"], text),
+        8 => is_among(&["boundary"], text),
+        _ => is_among(&RESERVED_WORDS, text),
+    }
 }
 
 /// Whether the text is a name: a character that may start an identifier, then characters that may continue one, and no

@@ -1,13 +1,14 @@
 -- What is done at the place of a word: bits set or cleared there, a word put there or taken out.
 use Rattle.std.proofs.Common.{◌≡◌, ℕ, zero, suc, ◌/◌, ◌<◌, ◌≤◌, List, [], ◌∷◌, length, get_or, set, inl, inr, refl}
-use Rattle.std.proofs.Common.{sym, ap, ◌∙◌, arith}
-use Rattle.std.specs.Prelude.{bit_or}
+use Rattle.std.proofs.Common.{◌++◌, true, sym, ap, ◌∙◌, arith}
+use Rattle.std.specs.Prelude.{bit_or, nat_eq}
 use Rattle.std.specs.List as edits
 use Rattle.std.proofs.lemmas.Nat.{or_comm}
-use Rattle.std.proofs.lemmas.Bool.{lt-ltb, le-ltb, eq-eqb, ne_eqb, cases_lt, cases_order}
+use Rattle.std.proofs.lemmas.List.Edits.{insert_end}
+use Rattle.std.proofs.lemmas.Bool.{lt-ltb, le-ltb, eq-eqb, ne_eqb, eqb-true, cases_lt, cases_order}
 use Rattle.cc_capture.specs.declared.words.Word.{Word}
 use Rattle.cc_capture.specs.Words.{IsBefore, IsSparse, place, joined, without}
-use Rattle.cc_capture.proofs.SparseWords.{IsBefore-trans, joined-left_end, joined-right_end, joined-less}
+use Rattle.cc_capture.proofs.SparseWords.{IsBefore-trans, place-le-length, joined-left_end, joined-right_end, joined-less}
 use Rattle.cc_capture.proofs.SparseWords.{joined-equal, joined-greater, cleared}
 
 -- a word joined with the one that has its index
@@ -167,3 +168,19 @@ get_or_any (y ∷ ys) (suc i) d e h = get_or_any ys i d e (omega arith)
 
 pub one_word : (ys : List Word) (i : ℕ) (d e : Word) → i < length ys → d ≡ get_or ys i d → e ≡ get_or ys i e → d ≡ e
 one_word ys i d e h p q = p ∙ get_or_any ys i d e h ∙ sym q
+
+-- a word past the last one stands at the end
+pub joined-pushed : (w : Word) (ys : List Word) → length ys ≤ place w.at ys → ys ++ w ∷ [] ≡ joined (w ∷ []) ys
+joined-pushed w ys past =
+    let at : place w.at ys ≡ length ys = omega (arith, past, place-le-length w.at ys) in
+    sym (insert_end ys w) ∙ ap (λ i. edits.insert ys i w) (sym at) ∙ joined-past w ys (place w.at ys) refl past
+
+pub joined-nothing_left : (xs ys : List Word) → nat_eq (length xs) 0 ≡ true → ys ≡ joined xs ys
+joined-nothing_left [] ys h = sym (joined-left_end ys)
+joined-nothing_left (x ∷ xs) ys h =
+    let e : length (x ∷ xs) ≡ 0 = eqb-true (length (x ∷ xs)) 0 h in absurd (omega arith)
+
+pub joined-nothing_right : (xs ys : List Word) → nat_eq (length ys) 0 ≡ true → xs ≡ joined xs ys
+joined-nothing_right xs [] h = sym (joined-right_end xs)
+joined-nothing_right xs (y ∷ ys) h =
+    let e : length (y ∷ ys) ≡ 0 = eqb-true (length (y ∷ ys)) 0 h in absurd (omega arith)

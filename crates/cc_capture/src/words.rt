@@ -109,7 +109,11 @@ fn join_word(items: &mut Vec<Word>, word: Word) -> Result<(), AllocError>
     ensures err { OnErr result (items.new.items ≡ items.old.items) }
 {
     let index = place(items.as_slice(), word.at);
-    if index < items.len() && items[index].at == word.at {
+    if index >= items.len() {
+        items.push(word)?;
+        return Ok(());
+    }
+    if items[index].at == word.at {
         items[index].bits |= word.bits;
         return Ok(());
     }
@@ -149,6 +153,12 @@ pub fn join(alloc: Global, left: &[Word], right: &[Word]) -> Result<Vec<Word>, A
     requires right_sparse { IsSparse right.now }
     ensures { IfOk result (λ v. v.items ≡ words.joined left.now right.now) }
 {
+    if left.is_empty() {
+        return Vec::from_slice(alloc, right);
+    }
+    if right.is_empty() {
+        return Vec::from_slice(alloc, left);
+    }
     let mut items = Vec::new(alloc);
     let mut at = 0;
     let mut other_at = 0;

@@ -18,6 +18,7 @@ pub mod Levels
 pub mod Lookups
 pub mod Moving
 pub mod NodeCounts
+mod NothingFilled
 pub mod OccurrenceTests
 pub mod Opening
 pub mod ReadingAndWriting

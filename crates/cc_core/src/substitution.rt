@@ -103,14 +103,20 @@ pub fn fill_type(alloc: Global, ty: &Ty, filling: &[CapSet]) -> Result<Ty, Alloc
 pub fn fill_note(alloc: Global, note: &Note, filling: &[CapSet]) -> Result<Note, AllocError>
     ensures { IfOk result (λ n. note_of n ≡ act_note (filling_in (filled_by filling.now)) 0 (note_of note.now)) }
 {
+    if filling.is_empty() {
+        return note.clone();
+    }
     acting::act_note(alloc, &Action::Fill(filling), 0, note)
 }
 
 /// The term with each hole filled by the set that the list has for its number, also in the types that are written in
-/// the term. A hole past the list stays, and so do the places.
+/// the term. A hole past the list stays, and so do the places. With an empty list it is the term itself, shared.
 pub fn fill_term(alloc: Global, node: &Rc<Node>, filling: &[CapSet]) -> Result<Rc<Node>, AllocError>
     ensures term { IfOk result (λ n. term_of n.value ≡ filled_term (filled_by filling.now) (term_of node.now.value)) }
     ensures places { IfOk result (λ n. places_of n.value ≡ places_of node.now.value) }
 {
+    if filling.is_empty() {
+        return node.clone();
+    }
     acting::act_node(alloc, &Action::Fill(filling), 0, node)
 }

@@ -10,10 +10,12 @@ use crate::words::word_text;
 use cc_base::name::Name;
 use std::alloc::{AllocError, Global};
 
-// So many are remembered at most, and one for so many bytes of a text.
-const GREATEST_COUNT: usize = 256;
+// So many are remembered of a text, and so many of a text with fewer bytes than the last number. Both are powers of two.
+const COUNT: usize = 256;
 
-const BYTES_EACH: usize = 16;
+const COUNT_OF_SHORT: usize = 32;
+
+const BYTES_OF_SHORT: usize = 512;
 
 // A name, which is no reserved word.
 #[derive(Drop)]
@@ -35,16 +37,13 @@ pub struct Known {
     places: Vec<Option<Spelling>>,
 }
 
-// The place of the letters among so many.
+// The place of the letters among so many, which is a power of two.
 fn place_of(letters: &str, count: usize) -> usize {
     let mut sum: usize = 0;
     for byte in letters.as_bytes() {
         sum = sum.wrapping_mul(31).wrapping_add(*byte as usize);
     }
-    match sum.checked_rem(count) {
-        Some(place) => place,
-        None => 0,
-    }
+    sum & count.wrapping_sub(1)
 }
 
 // The word, where it has these letters.
@@ -101,7 +100,11 @@ fn spelling_of(letters: &str, kind: &TokenKind) -> Result<Option<Spelling>, Allo
 impl Known {
     /// None was read of a text of so many bytes.
     pub fn new(alloc: Global, bytes: usize) -> Result<Known, AllocError> {
-        let count = (bytes / BYTES_EACH + 1).min(GREATEST_COUNT);
+        let count = if bytes < BYTES_OF_SHORT {
+            COUNT_OF_SHORT
+        } else {
+            COUNT
+        };
         let mut places = Vec::with_capacity(alloc, count)?;
         for _ in 0..count {
             places.push(None)?;

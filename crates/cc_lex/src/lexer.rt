@@ -16,7 +16,7 @@ use cc_base::place::Place;
 use std::alloc::{AllocError, Global};
 
 // Texts have more bytes than this for each token, mostly.
-const BYTES_A_TOKEN: usize = 3;
+const BYTES_A_TOKEN: usize = 2;
 
 fn next_place(place: Place, character: char) -> Result<Place, AllocError>
     ensures { IfOk result (λ next. next ≡ place_after place character) }

@@ -145,7 +145,7 @@ fn definition(alloc: Global, names: &mut Names, def: &Def) -> Result<CoreDef, St
 fn definitions(alloc: Global, names: &mut Names, defs: &[Def]) -> Result<Vec<CoreDef>, Stop>
     ensures { MeetsWithoutHoles definitions_of result (plain.elaborated_definitions names.old (map def_syntax defs.now)) }
 {
-    let mut definitions = Vec::new(alloc);
+    let mut definitions = Vec::with_capacity(alloc, defs.len())?;
     for def in defs {
         if names.contains(&def.name) {
             return Err(Stop::Refused(Code::E09, def.name_at));
@@ -170,7 +170,7 @@ fn copy_import(import: &Import) -> Result<Import, AllocError>
 fn copy_imports(alloc: Global, imports: &[Import]) -> Result<Vec<Import>, AllocError>
     ensures { IfOk result (λ copies. copies.items ≡ imports.now) }
 {
-    let mut copies = Vec::new(alloc);
+    let mut copies = Vec::with_capacity(alloc, imports.len())?;
     for import in imports {
         copies.push(copy_import(import)?)?;
     }

@@ -100,7 +100,7 @@ fn check_all(
     ensures { JudgesAll devices (context_of ctx) (map definition_of defs.now) result }
 {
     let mut globals = ctx;
-    let mut checked = Vec::new(alloc);
+    let mut checked = Vec::with_capacity(alloc, defs.len())?;
     let mut measures = Measures::new(alloc, devices, globals.len());
     let mut instances = Instances::new(alloc);
     for def in defs {

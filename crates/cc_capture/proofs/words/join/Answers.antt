@@ -1,9 +1,21 @@
 use Rattle.std.proofs.Common.{sym, ◌∙◌, arith, inl, inr, append_assoc}
 use Rattle.std.proofs.lemmas.List.{take_rest}
+use Rattle.std.proofs.lemmas.Result.{IfOk-weaker}
+use Rattle.cc_capture.proofs.WordEdits.{joined-nothing_left, joined-nothing_right}
 use Rattle.cc_capture.proofs.WordMerging.{joined-at_less, joined-at_equal, joined-at_greater, joined-ended}
 use Rattle.cc_capture.proofs.WordMerging.{joined_so_far, cmp-Less, cmp-Equal, cmp-Greater}
 use Rattle.cc_capture.proofs.words.join.Goals as goal
 use Rattle.cc_capture.proofs.words.join.Goals.{then-loop-at-test+else-other_at-right, else-loop-at-test}
+
+pub returns-then-is_empty : goal.returns-then-is_empty
+returns-then-is_empty c =
+    IfOk-weaker c.from_slice.result _ _ (λ v e. e ∙ joined-nothing_left c.args.left.now c.args.right.now (sym c.is_empty.ensures ∙ c.if-is_empty.true))
+    c.from_slice.ensures.items
+
+pub returns-then-is_empty-2 : goal.returns-then-is_empty-2
+returns-then-is_empty-2 c =
+    IfOk-weaker c.from_slice-then-is_empty-2.result _ _ (λ v e. e ∙ joined-nothing_right c.args.left.now c.args.right.now (sym c.is_empty-2.ensures ∙ c.if-is_empty-2.true))
+    c.from_slice-then-is_empty-2.ensures.items
 
 pub loop-at-preserved-in-Less : goal.loop-at-preserved-in-Less
 loop-at-preserved-in-Less c =

@@ -14,7 +14,7 @@ pub loop-def-init : goal.loop-def-init
 loop-def-init c =
     let g = context_of c.args.ctx in
     let all = map definition_of c.args.defs.now in (
-      subst (λ ds. StandsAt c.args.devices g all g all (map checked_definition_of ds)) (sym c.new-checked.ensures.items)
+      subst (λ ds. StandsAt c.args.devices g all g all (map checked_definition_of ds)) (sym c.in_ok-checked.ensures.items)
           (stands_at_start c.args.devices g all c.requires),
       all_unmeasured c.args.devices c.new-measures.result g c.new-measures.ensures.sizes c.new-measures.ensures.first
           (c.new-measures.ensures.before ∙ c.len.ensures ∙ sym (length-map c.args.ctx bind_of)),
@@ -22,7 +22,7 @@ loop-def-init c =
 
 pub returns-in_err-next : goal.returns-in_err-next
 returns-in_err-next c =
-    let error = err_from_is_err_and c.from_residual.result c.from_residual.ensures.1 in
+    let error = err_from_is_err_and c.from_residual-in_err-next.result c.from_residual-in_err-next.ensures.1 in
     rw (error.1, error.2)
     (checked_stops c.args.devices (context_of c.args.ctx) (map definition_of c.args.defs.now) (context_of c.loop-def.globals)
     c.args.defs.now c.loop-def.def-index c.def-item.result c.loop-def.checked.items c.in_err-next.field-0.0 c.loop-def-test.true
