@@ -13,51 +13,51 @@ use Rattle.cc_base.specs.declared.code.Code.TheVariants.{E30, E31, E32, E34}
 use Rattle.cc_base.specs.Names.{compare_names}
 use Rattle.cc_judge.specs.Judgements.{Judgement, verdicts_of, judgement_in, judgements}
 use Rattle.cc_meta_modules.specs.ModuleVerdicts.{CheckedDefinition, ModuleVerdict, IsAccepted, IsRefused}
-use Rattle.cc_meta_modules.specs.PresentTexts.{Texts, text_of}
-use Rattle.cc_replies.specs.Replies.{other_modules, put_reply, drop_reply, check_reply, definitions_reply, signature_reply, texts_after}
+use Rattle.cc_meta_modules.specs.PresentTexts.{Texts, text_of, others_present, longest_text, most_modules}
+use Rattle.cc_replies.specs.Replies.{put_reply, drop_reply, check_reply, definitions_reply, signature_reply, texts_after}
 use Rattle.cc_replies.specs.Requests.{PutText}
 use Rattle.cc_replies.specs.ReplyTexts.{Reply, PutDone, PutRefused, DropDone, DropRefused, Verdicts, Signatures, SignaturesRefused, is_refusal}
 use Rattle.cc_session.specs.declared.refusals.PutRefused.{PutRefused as PutRefusal}
 use Rattle.cc_session.specs.Signatures.{verdict_named, definitions_of, definitions_or, signature_of}
 
 module _ (texts : Texts) (name text : List ℕ) where
-  not_long : (65536 < length text → ⊥) → nat_lt 65536 (length text) ≡ false
-  not_long h = elim (nat_lt 65536 (length text)) as (λ t. nat_lt 65536 (length text) ≡ t → t ≡ false) [
+  not_long : (longest_text < length text → ⊥) → nat_lt longest_text (length text) ≡ false
+  not_long h = elim (nat_lt longest_text (length text)) as (λ t. nat_lt longest_text (length text) ≡ t → t ≡ false) [
     | true ↦ λ e. absurd (h (grind (arith, nat_tests)))
     | false ↦ λ e. refl
   ] refl
 
-  not_full : (256 ≤ other_modules texts name → ⊥) → nat_le 256 (other_modules texts name) ≡ false
-  not_full h = elim (nat_le 256 (other_modules texts name)) as (λ t. nat_le 256 (other_modules texts name) ≡ t → t ≡ false) [
+  not_full : (most_modules ≤ others_present name texts → ⊥) → nat_le most_modules (others_present name texts) ≡ false
+  not_full h = elim (nat_le most_modules (others_present name texts)) as (λ t. nat_le most_modules (others_present name texts) ≡ t → t ≡ false) [
     | true ↦ λ e. absurd (h (grind (arith, nat_tests)))
     | false ↦ λ e. refl
   ] refl
 
-  pub put_too_long : 65536 < length text → put_reply texts name text ≡ PutRefused name E30
+  pub put_too_long : longest_text < length text → put_reply texts name text ≡ PutRefused name E30
   put_too_long h =
-      let long : nat_lt 65536 (length text) ≡ true = grind (arith, nat_tests) in
-      ap (λ t. cond t (PutRefused name E30) (cond (nat_le 256 (other_modules texts name)) (PutRefused name E31) (PutDone name))) long
+      let long : nat_lt longest_text (length text) ≡ true = grind (arith, nat_tests) in
+      ap (λ t. cond t (PutRefused name E30) (cond (nat_le most_modules (others_present name texts)) (PutRefused name E31) (PutDone name))) long
 
-  pub put_too_many : length text ≤ 65536 → 256 ≤ other_modules texts name → put_reply texts name text ≡ PutRefused name E31
+  pub put_too_many : length text ≤ longest_text → most_modules ≤ others_present name texts → put_reply texts name text ≡ PutRefused name E31
   put_too_many h g =
-      let full : nat_le 256 (other_modules texts name) ≡ true = grind (arith, nat_tests) in
-      ap (λ t. cond t (PutRefused name E30) (cond (nat_le 256 (other_modules texts name)) (PutRefused name E31) (PutDone name))) (not_long (λ more. clash more))
+      let full : nat_le most_modules (others_present name texts) ≡ true = grind (arith, nat_tests) in
+      ap (λ t. cond t (PutRefused name E30) (cond (nat_le most_modules (others_present name texts)) (PutRefused name E31) (PutDone name))) (not_long (λ more. clash more))
       ∙ ap (λ t. cond t (PutRefused name E31) (PutDone name)) full
     where
-      clash : 65536 < length text → ⊥
+      clash : longest_text < length text → ⊥
       clash more = omega arith
 
-  pub put_fits : (65536 < length text → ⊥) → (256 ≤ other_modules texts name → ⊥) → put_reply texts name text ≡ PutDone name
+  pub put_fits : (longest_text < length text → ⊥) → (most_modules ≤ others_present name texts → ⊥) → put_reply texts name text ≡ PutDone name
   put_fits h g =
-      ap (λ t. cond t (PutRefused name E30) (cond (nat_le 256 (other_modules texts name)) (PutRefused name E31) (PutDone name))) (not_long h)
+      ap (λ t. cond t (PutRefused name E30) (cond (nat_le most_modules (others_present name texts)) (PutRefused name E31) (PutDone name))) (not_long h)
       ∙ ap (λ t. cond t (PutRefused name E31) (PutDone name)) (not_full g)
 
-  pub put_done : (key : List ℕ) → key ≡ name → (65536 < length text → ⊥) → (length text ≤ 65536 → 256 ≤ other_modules texts key → ⊥)
+  pub put_done : (key : List ℕ) → key ≡ name → (longest_text < length text → ⊥) → (length text ≤ longest_text → most_modules ≤ others_present key texts → ⊥)
       → put_reply texts name text ≡ PutDone name
-  put_done key same long full = put_fits long (λ more. full low (subst (λ n. 256 ≤ other_modules texts n) (sym same) more))
+  put_done key same long full = put_fits long (λ more. full low (subst (λ n. most_modules ≤ others_present n texts) (sym same) more))
     where
-      low : length text ≤ 65536
-      low = ⊎_elim (λ more. absurd (long more)) (λ less. less) (cases_lt 65536 (length text))
+      low : length text ≤ longest_text
+      low = ⊎_elim (λ more. absurd (long more)) (λ less. less) (cases_lt longest_text (length text))
 
   -- a refused put changes nothing
   pub put_after : (reply : Reply) → put_reply texts name text ≡ reply

@@ -1,6 +1,6 @@
 -- The verdicts of the present texts: of modules that import from each other. Nothing else decides them: neither what
 -- was present before, nor the order in which texts came.
-use Rattle.std.specs.Prelude.{◌≡◌, ℕ, List, [], ◌∷◌, map, Option, Some, None, if◌then◌else◌}
+use Rattle.std.specs.Prelude.{◌≡◌, ℕ, not, List, [], ◌∷◌, map, count_by, Option, Some, None, if◌then◌else◌}
 use Rattle.std.specs.List.Sorted.{IsStrictlySortedBy}
 use Rattle.std.specs.Map.{keys_of, lookup}
 use Rattle.std.specs.Option.{unwrap_or, is_some}
@@ -21,6 +21,18 @@ Texts = List (List ℕ × List ℕ)
 -- their names differ, and stand in order
 abbrev pub ArePresent : Texts → Type 0
 ArePresent texts = IsStrictlySortedBy compare_names (keys_of texts)
+
+-- a text has at most so many bytes
+abbrev pub longest_text : ℕ
+longest_text = 65536
+
+-- at most so many modules are present
+abbrev pub most_modules : ℕ
+most_modules = 256
+
+-- how many modules of other names are present
+abbrev pub others_present : List ℕ → Texts → ℕ
+others_present name texts = count_by (λ one. not (bytes_eq name one.0)) texts
 
 -- the text of the module, if it is present
 abbrev pub text_of : Texts → List ℕ → Option (List ℕ)

@@ -1,5 +1,5 @@
 -- What is answered to a command, where these modules are present.
-use Rattle.std.specs.Prelude.{◌≡◌, ℕ, not, nat_le, nat_lt, List, length, map, count_by, Result, Ok, Err, if◌then◌else◌}
+use Rattle.std.specs.Prelude.{◌≡◌, ℕ, nat_le, nat_lt, List, length, map, Result, Ok, Err, if◌then◌else◌}
 use Rattle.std.specs.BTreeMap.{insert_entry}
 use Rattle.std.specs.Map.{remove_entry}
 use Rattle.std.specs.Option.{is_some}
@@ -12,7 +12,7 @@ use Rattle.cc_base.specs.Names.{compare_names}
 use Rattle.cc_meta_checking.specs.AcceptedDefinitions.{accepted_derived}
 use Rattle.cc_meta_entries.specs.PresentEntries.{started_in}
 use Rattle.cc_meta_modules.specs.ModuleVerdicts.{ModuleVerdict, IsAccepted, IsRefused}
-use Rattle.cc_meta_modules.specs.PresentTexts.{Texts, text_of, AreVerdicts}
+use Rattle.cc_meta_modules.specs.PresentTexts.{Texts, text_of, AreVerdicts, others_present, longest_text, most_modules}
 use Rattle.cc_meta_modules.specs.StandingDefinitions.{Standing, standing_context, standing_names, standing_in}
 use Rattle.cc_policy.specs.declared.policy.Rule.{Rule}
 use Rattle.cc_replies.specs.ReplyTexts.{Reply, PutDone, PutRefused, DropDone, DropRefused, Verdicts, Signatures}
@@ -27,15 +27,11 @@ use Rattle.cc_replies.specs.Requests.{Request, PutText, DropModule, SetPolicy, V
 use Rattle.cc_replies.specs.RunReplies.{IsRunAnswer, first_unstarted, IsTasksAnswer}
 use Rattle.cc_sets.specs.DerivationSizes.{nodes}
 
--- how many modules of other names are present
-abbrev pub other_modules : Texts → List ℕ → ℕ
-other_modules texts name = count_by (λ one. not (bytes_eq name one.0)) texts
-
--- A text has at most 65,536 bytes, and at most 256 modules are present.
+-- the text is put unless it is too long, or no more modules may be present
 abbrev pub put_reply : Texts → List ℕ → List ℕ → Reply
 put_reply texts name text =
-    if nat_lt 65536 (length text) then PutRefused name E30
-    else (if nat_le 256 (other_modules texts name) then PutRefused name E31 else PutDone name)
+    if nat_lt longest_text (length text) then PutRefused name E30
+    else (if nat_le most_modules (others_present name texts) then PutRefused name E31 else PutDone name)
 
 -- a module that is removed is present
 abbrev pub drop_reply : Texts → List ℕ → Reply

@@ -27,7 +27,7 @@ use Rattle.cc_base.specs.Names.{compare_names}
 use Rattle.cc_judge.specs.Places.{text_at}
 use Rattle.cc_judge.proofs.TextPlaces.{text_of_place, place_of_key, distinct_keys}
 use Rattle.cc_meta_modules.specs.ModuleVerdicts.{CheckedDefinition, IsAccepted, IsRefused}
-use Rattle.cc_meta_modules.specs.PresentTexts.{Texts, ArePresent, text_of}
+use Rattle.cc_meta_modules.specs.PresentTexts.{Texts, ArePresent, text_of, most_modules}
 use Rattle.cc_module.specs.declared.judgement.ModuleVerdict.{ModuleVerdict}
 use Rattle.cc_module.specs.Judgements.{module_verdict_of}
 use Rattle.cc_session.specs.Sessions.{SessionState, IsSession}
@@ -66,7 +66,7 @@ new_session devices present last differ none no_verdicts no_grounds =
 
 -- with other texts, a session is not checked
 pub with_texts : (devices : List DeviceDecl) (present : Texts) (checked : Bool) (last : Last) (texts : Texts)
-    → IsSession (state devices present checked last) last → ArePresent texts → length texts ≤ 256
+    → IsSession (state devices present checked last) last → ArePresent texts → length texts ≤ most_modules
     → IsSession (state devices texts false last) last
 with_texts devices present checked last texts is sorted few =
     record {

@@ -1,12 +1,11 @@
 -- A session as contracts see it.
-use Rattle.std.specs.Prelude.{◌≡◌, ℕ, ◌≤◌, not, Bool, IsTrue, List, length, count_by}
-use Rattle.std.specs.Str.{bytes_eq}
+use Rattle.std.specs.Prelude.{◌≡◌, ◌≤◌, not, Bool, IsTrue, List, length}
 use Rattle.cc_base.specs.declared.device.DeviceDecl.{DeviceDecl}
 use Rattle.cc_judge.specs.declared.last.Last.{Last}
 use Rattle.cc_judge.specs.Judgements.{Judgement, AreCurrent}
 use Rattle.cc_judge.specs.Kept.{IsKept}
 use Rattle.cc_meta_modules.specs.ModuleLaws.{NamesOfDevicesDiffer}
-use Rattle.cc_meta_modules.specs.PresentTexts.{Texts, ArePresent}
+use Rattle.cc_meta_modules.specs.PresentTexts.{Texts, ArePresent, most_modules}
 
 -- A session: the devices, the present modules with their texts, whether it is checked, and the judgements of the last
 -- check that answered Ok, in order of name.
@@ -20,19 +19,15 @@ pub record SessionState : Type 0 where
 abbrev pub IsUpToDate : SessionState → Type 0
 IsUpToDate session = AreCurrent session.devices session.present session.last
 
--- What holds of every session, which keeps these judgements: the names of the devices differ; at most 256 modules are
+-- What holds of every session, which keeps these judgements: the names of the devices differ; not too many modules are
 -- present, in order of name; each verdict that is kept is deserved by what it was given for; and where the session is
 -- checked, they are those of the present modules.
 pub record IsSession (session : SessionState) (last : Last) : Type 0 where
   pub differ : NamesOfDevicesDiffer session.devices
   pub present : ArePresent session.present
-  pub few : length session.present ≤ 256
+  pub few : length session.present ≤ most_modules
   pub kept : IsKept session.devices last
   pub current : IsTrue session.checked → IsUpToDate session
-
--- how many modules of other names are present
-abbrev pub others_present : List ℕ → Texts → ℕ
-others_present name texts = count_by (λ one. not (bytes_eq name one.0)) texts
 
 -- the session with other texts, and not checked
 abbrev pub HasTexts : SessionState → Texts → SessionState → Type 0

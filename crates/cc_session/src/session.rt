@@ -12,12 +12,12 @@ ghost use Rattle.cc_judge.specs.Judgements.{stale_count, verdicts_of};
 ghost use Rattle.cc_judge.specs.Kept.{named_verdicts};
 ghost use Rattle.cc_meta_modules.specs.ModuleLaws.{NamesOfDevicesDiffer};
 ghost use Rattle.cc_meta_modules.specs.ModuleVerdicts as judged;
-ghost use Rattle.cc_meta_modules.specs.PresentTexts.{text_of, AreVerdicts};
+ghost use Rattle.cc_meta_modules.specs.PresentTexts.{text_of, others_present, longest_text, most_modules, AreVerdicts};
 ghost use Rattle.cc_meta_modules.specs.StandingDefinitions.{standing_in};
 ghost use Rattle.cc_module.specs.Judgements.{checked_definition_of};
 ghost use Rattle.cc_session.specs.EntryAnswers.{AnswersEntry};
 ghost use Rattle.cc_session.specs.LinkedModules.{AreLinked};
-ghost use Rattle.cc_session.specs.Sessions.{IsUpToDate, HasTexts, others_present};
+ghost use Rattle.cc_session.specs.Sessions.{IsUpToDate, HasTexts};
 ghost use Rattle.cc_session.specs.Signatures.{signature_of, definition_in};
 ghost use Rattle.cc_session.specs.StandingAnswers.{AnswersStanding};
 
@@ -102,8 +102,8 @@ impl Session {
     pub fn put(&mut self, name: Name, text: Vec<u8>) -> Result<(), PutRefused>
         ensures ok { OnOk result (HasTexts self.old (insert_entry compare_names self.old.present name text.items) self.new) }
         ensures err { OnErr result (self.new ≡ self.old) }
-        ensures too_long { IsErrOf result PutRefused.TooLong ↔ (65536 < length text.items) }
-        ensures too_many { IsErrOf result PutRefused.TooMany ↔ ((length text.items ≤ 65536) × (256 ≤ others_present name self.old.present)) }
+        ensures too_long { IsErrOf result PutRefused.TooLong ↔ (longest_text < length text.items) }
+        ensures too_many { IsErrOf result PutRefused.TooMany ↔ ((length text.items ≤ longest_text) × (most_modules ≤ others_present name self.old.present)) }
     {
         match put_text(self.alloc, &mut self.present, name, text) {
             Ok(()) => {

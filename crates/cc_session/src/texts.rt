@@ -6,15 +6,20 @@ ghost use Rattle.std.specs.List.{slice_get};
 ghost use Rattle.std.specs.Map.{keys_of, remove_entry};
 ghost use Rattle.std.specs.Str.{bytes_eq};
 ghost use Rattle.cc_base.specs.Names.{compare_names};
-ghost use Rattle.cc_meta_modules.specs.PresentTexts.{ArePresent, text_of};
+ghost use Rattle.cc_meta_modules.specs.PresentTexts.{ArePresent, text_of, others_present, longest_text, most_modules};
 ghost use Rattle.cc_judge.specs.Places.{IsGap};
-ghost use Rattle.cc_session.specs.Sessions.{others_present};
 
 use crate::refusals::{NoSuchModule, PutRefused};
 use cc_base::name::Name;
 use cc_judge::grounds::SharedText;
 use cc_judge::names::{place_of_text, search_texts};
 use std::alloc::{AllocError, Global};
+
+// A text has at most so many bytes.
+const LONGEST_TEXT: usize = 65536;
+
+// At most so many modules are present.
+const MOST_MODULES: usize = 256;
 
 // Puts the text in the place of the one that is there.
 fn replace_text(texts: &mut Vec<(Name, SharedText)>, at: usize, name: Name, text: SharedText)
@@ -47,10 +52,10 @@ fn insert_text(
     text: SharedText,
 ) -> Result<(), AllocError>
     requires present { ArePresent texts.old.items }
-    requires few { length texts.old.items ≤ 256 }
-    requires room { others_present name texts.old.items < 256 }
+    requires few { length texts.old.items ≤ most_modules }
+    requires room { others_present name texts.old.items < most_modules }
     ensures ok { OnOk result (texts.new.items ≡ insert_entry compare_names texts.old.items name text) }
-    ensures few { OnOk result (length texts.new.items ≤ 256) }
+    ensures few { OnOk result (length texts.new.items ≤ most_modules) }
     ensures err { OnErr result (texts.new.items ≡ texts.old.items) }
 {
     match search_texts(texts.as_slice(), &name) {
@@ -65,12 +70,12 @@ fn insert_text(
 // Whether so many modules of other names are present that no more fit.
 fn is_full(texts: &[(Name, SharedText)], name: &Name) -> bool
     requires present { ArePresent texts.now }
-    requires few { length texts.now ≤ 256 }
-    ensures { IsTrue result ↔ (256 ≤ others_present name.now texts.now) }
+    requires few { length texts.now ≤ most_modules }
+    ensures { IsTrue result ↔ (most_modules ≤ others_present name.now texts.now) }
 {
     match place_of_text(texts, name) {
         Some(_) => false,
-        None => texts.len() >= 256,
+        None => texts.len() >= MOST_MODULES,
     }
 }
 
@@ -82,14 +87,14 @@ pub(crate) fn put_text(
     text: Vec<u8>,
 ) -> Result<(), PutRefused>
     requires present { ArePresent texts.old.items }
-    requires few { length texts.old.items ≤ 256 }
+    requires few { length texts.old.items ≤ most_modules }
     ensures ok { OnOk result (texts.new.items ≡ insert_entry compare_names texts.old.items name text.items) }
-    ensures few { OnOk result (length texts.new.items ≤ 256) }
+    ensures few { OnOk result (length texts.new.items ≤ most_modules) }
     ensures err { OnErr result (texts.new.items ≡ texts.old.items) }
-    ensures too_long { IsErrOf result PutRefused.TooLong ↔ (65536 < length text.items) }
-    ensures too_many { IsErrOf result PutRefused.TooMany ↔ ((length text.items ≤ 65536) × (256 ≤ others_present name texts.old.items)) }
+    ensures too_long { IsErrOf result PutRefused.TooLong ↔ (longest_text < length text.items) }
+    ensures too_many { IsErrOf result PutRefused.TooMany ↔ ((length text.items ≤ longest_text) × (most_modules ≤ others_present name texts.old.items)) }
 {
-    if text.len() > 65536 {
+    if text.len() > LONGEST_TEXT {
         return Err(PutRefused::TooLong);
     }
     if is_full(texts.as_slice(), &name) {

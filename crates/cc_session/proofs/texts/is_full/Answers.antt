@@ -1,5 +1,6 @@
 use Rattle.std.proofs.Common.{arith, length}
 use Rattle.std.proofs.lemmas.Bool.{false≢true, leb-true, le-leb}
+use Rattle.cc_meta_modules.specs.PresentTexts.{most_modules}
 use Rattle.cc_session.proofs.TextChanges.{others_present_less, others_absent}
 use Rattle.cc_session.proofs.texts.is_full.Goals as goal
 
@@ -19,6 +20,6 @@ returns-in-Some c = (
 pub returns-in-None : goal.returns-in-None
 returns-in-None c =
     let all = others_absent c.args.texts.now c.args.name.now c.in-None.ensures in (
-      λ full. omega (arith, all, leb-true 256 (length c.args.texts.now) full),
-      λ full. le-leb 256 (length c.args.texts.now) (omega (arith, all, full)),
+      λ full. omega (arith, all, leb-true most_modules (length c.args.texts.now) full),
+      λ full. le-leb most_modules (length c.args.texts.now) (omega (arith, all, full)),
     )
