@@ -166,8 +166,46 @@ fn gathered_alone(alloc: Global, node: &Node) -> Result<Found, AllocError>
     })
 }
 
-// What is found for a term. The set of each part is found once. Calls of this are as deep as the term, so what is not
-// called again has a place of its own on the stack.
+// What is found for a let.
+#[inline(never)]
+#[cycle(gathering)]
+fn gathered_let(alloc: Global, node: &Node) -> Result<Found, AllocError>
+    ensures set { IfOk result (λ f. f.set ≡ captured_variables (term_of node.now)) }
+    ensures told { IfOk result (λ f. Tells f.captures (term_of node.now)) }
+{
+    match &node.form {
+        Form::Let(_, right, body) => {
+            let first = gathered(alloc, right)?;
+            let second = gathered(alloc, body)?;
+            let set = let_set(alloc, right, &first.set, &second.set)?;
+            let captures = beside(alloc, first.captures, second.captures)?;
+            Ok(Found { set, captures })
+        }
+        _ => gathered_alone(alloc, node),
+    }
+}
+
+// What is found for a choice.
+#[inline(never)]
+#[cycle(gathering)]
+fn gathered_choice(alloc: Global, node: &Node) -> Result<Found, AllocError>
+    ensures set { IfOk result (λ f. f.set ≡ captured_variables (term_of node.now)) }
+    ensures told { IfOk result (λ f. Tells f.captures (term_of node.now)) }
+{
+    match &node.form {
+        Form::If(_, test, positive, negative) => {
+            let first = gathered(alloc, positive)?;
+            let second = gathered(alloc, negative)?;
+            let set = choice_set(alloc, *test, &first.set, &second.set)?;
+            let captures = beside(alloc, first.captures, second.captures)?;
+            Ok(Found { set, captures })
+        }
+        _ => gathered_alone(alloc, node),
+    }
+}
+
+// What is found for a term. The set of each part is found once. Calls nest as deep as the term is high, so that each form
+// has a function of its own, with what it needs on the stack.
 #[cycle(gathering)]
 fn gathered(alloc: Global, node: &Node) -> Result<Found, AllocError>
     ensures set { IfOk result (λ f. f.set ≡ captured_variables (term_of node.now)) }
@@ -177,20 +215,8 @@ fn gathered(alloc: Global, node: &Node) -> Result<Found, AllocError>
         Form::Fun(_, body) => gathered_around(alloc, body),
         Form::TFun(_, body) => gathered_around(alloc, body),
         Form::Boundary(_, body) => gathered_around(alloc, body),
-        Form::Let(_, right, body) => {
-            let first = gathered(alloc, right)?;
-            let second = gathered(alloc, body)?;
-            let set = let_set(alloc, right, &first.set, &second.set)?;
-            let captures = beside(alloc, first.captures, second.captures)?;
-            Ok(Found { set, captures })
-        }
-        Form::If(_, test, positive, negative) => {
-            let first = gathered(alloc, positive)?;
-            let second = gathered(alloc, negative)?;
-            let set = choice_set(alloc, *test, &first.set, &second.set)?;
-            let captures = beside(alloc, first.captures, second.captures)?;
-            Ok(Found { set, captures })
-        }
+        Form::Let(_, _, _) => gathered_let(alloc, node),
+        Form::If(_, _, _, _) => gathered_choice(alloc, node),
         _ => gathered_alone(alloc, node),
     }
 }
