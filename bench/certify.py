@@ -175,8 +175,8 @@ shown('80,000 local names far apart', names_apart, 80000, always('bad node 1'), 
 shown('4 MiB of local names far apart', names_apart, 380000, always('bad node 1'), 500)
 shown('5,000 lets, each in the body of one', lets_in_bodies, 4999, always('valid Unit'), 300)
 shown('5,000 lets with their types', lets_with_types, 4999, always('valid Unit'), 300)
+shown('5,000 functions, each in the body of one', functions_in_bodies, 4999, always('valid Any'), 300)
 # What follows grows with the square of its size. The bars are about twice what was measured.
 shown('5,000 lets of the first variable', lets_of_the_first, 4999, always('valid Unit'), 300)
 shown('sets under 4,900 binders', sets_under_binders, 4900, always('valid Unit'), 300)
-shown('5,000 functions, each in the body of one', functions_in_bodies, 4999, always('valid Any'), 1200)
 sys.exit(1 if failed else 0)

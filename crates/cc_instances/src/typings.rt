@@ -15,10 +15,10 @@ ghost use Rattle.cc_instances.specs.Claimed.{instance_of};
 ghost use Rattle.cc_meta_validity.specs.Broken.{claims_of};
 ghost use Rattle.cc_meta_validity.specs.Rows as plain;
 
+use crate::captures::{KnownTerm, captured_by};
 use cc_base::literal::{Lit, Op, Operator};
 use cc_capture::{CapSet, Var};
 use cc_core::acting::{Action, act_note, read_variable};
-use cc_core::captured::cv;
 use cc_core::reading::{read_set, read_shape, read_type};
 use cc_core::same::same_type;
 use cc_core::{Ctx, Form, Node, Note, Shape, Ty};
@@ -71,30 +71,30 @@ fn application(
 }
 
 // What the term captures, as it is read among so many entries.
-fn captured(alloc: Global, node: &Node, entries: u32) -> Result<CapSet, AllocError>
-    ensures { IfOk result (λ s. s ≡ captured_variables (read_term entries (term_of node.now))) }
+fn captured(alloc: Global, term: &KnownTerm, entries: u32) -> Result<CapSet, AllocError>
+    ensures { IfOk result (λ s. s ≡ captured_variables (read_term entries (term_of term.now.node.value))) }
 {
-    let captured = cv(alloc, node)?;
+    let captured = captured_by(alloc, term)?;
     read_set(alloc, &captured, entries)
 }
 
 fn function(
     alloc: Global,
     ctx: &Ctx,
-    node: &Node,
+    term: &KnownTerm,
     takes: &Rc<Ty>,
     body: &Rc<Node>,
     entries: u32,
     premises: &Premises,
     ty: &Ty,
 ) -> Result<bool, AllocError>
-    requires { term_of node.now ≡ FunctionTerm (type_of takes.now.value).shape (type_of takes.now.value).set (term_of body.now.value) }
+    requires { term_of term.now.node.value ≡ FunctionTerm (type_of takes.now.value).shape (type_of takes.now.value).set (term_of body.now.value) }
     ensures { IfOk result (λ b. b ≡ plain.is_given (type_of ty.now) (plain.of_one (plain.function_given (context_of ctx.now) (read_type entries (type_of takes.now.value)).shape (read_type entries (type_of takes.now.value)).set (act_term (reading.reading entries) 1 (term_of body.now.value))) (claims_of (premises_of premises.now)))) }
 {
     match one_type(premises) {
         Some(gives) => {
             let taken = read_type(alloc, takes, entries)?;
-            let set = captured(alloc, node, entries)?;
+            let set = captured(alloc, term, entries)?;
             let result = given::function_given(alloc, ctx, taken, set, gives)?;
             Ok(is_given(ty, &result))
         }
@@ -105,20 +105,20 @@ fn function(
 fn type_function(
     alloc: Global,
     ctx: &Ctx,
-    node: &Node,
+    term: &KnownTerm,
     bound: &Rc<Shape>,
     body: &Rc<Node>,
     entries: u32,
     premises: &Premises,
     ty: &Ty,
 ) -> Result<bool, AllocError>
-    requires { term_of node.now ≡ TypeFunctionTerm (shape_of bound.now.value) (term_of body.now.value) }
+    requires { term_of term.now.node.value ≡ TypeFunctionTerm (shape_of bound.now.value) (term_of body.now.value) }
     ensures { IfOk result (λ b. b ≡ plain.is_given (type_of ty.now) (plain.of_one (plain.type_function_given (context_of ctx.now) (read_shape entries (shape_of bound.now.value)) (act_term (reading.reading entries) 1 (term_of body.now.value))) (claims_of (premises_of premises.now)))) }
 {
     match one_type(premises) {
         Some(gives) => {
             let limit = read_shape(alloc, bound, entries)?;
-            let set = captured(alloc, node, entries)?;
+            let set = captured(alloc, term, entries)?;
             let result = given::type_function_given(alloc, ctx, limit, set, gives)?;
             Ok(is_given(ty, &result))
         }
@@ -351,14 +351,15 @@ fn subsumption(ctx: &Ctx, premises: &Premises, ty: &Ty) -> Result<bool, AllocErr
 pub fn typing_instance(
     alloc: Global,
     ctx: &Ctx,
-    node: &Node,
+    term: &KnownTerm,
     entries: u32,
     rule: Rule,
     premises: &Premises,
     ty: &Ty,
 ) -> Result<bool, AllocError>
-    ensures { IfOk result (λ b. b ≡ instance_of (plain.typing_row (context_of ctx.now) (rule_of rule) (read_term entries (term_of node.now)) (type_of ty.now)) (claims_of (premises_of premises.now))) }
+    ensures { IfOk result (λ b. b ≡ instance_of (plain.typing_row (context_of ctx.now) (rule_of rule) (read_term entries (term_of term.now.node.value)) (type_of ty.now)) (claims_of (premises_of premises.now))) }
 {
+    let node = &term.node;
     match rule {
         Rule::Variable => match &node.form {
             Form::Var(name) => variable(alloc, ctx, read_variable(entries, 0, *name), ty),
@@ -370,13 +371,13 @@ pub fn typing_instance(
         },
         Rule::Function => match &node.form {
             Form::Fun(takes, body) => function(
-                alloc, ctx, node, takes, body, entries, premises, ty,
+                alloc, ctx, term, takes, body, entries, premises, ty,
             ),
             _ => Ok(false),
         },
         Rule::TypeFunction => match &node.form {
             Form::TFun(bound, body) => type_function(
-                alloc, ctx, node, bound, body, entries, premises, ty,
+                alloc, ctx, term, bound, body, entries, premises, ty,
             ),
             _ => Ok(false),
         },

@@ -12,7 +12,7 @@ use Rattle.cc_premise_places.specs.declared.places.Spots.TheVariants as lists
 -- the place
 abbrev pub place_of : Spot → Place
 place_of spots.Nowhere = Nowhere
-place_of (spots.TypeOf ctx node entries) = TypeOf (context_of ctx) (read_term entries (term_of node.value))
+place_of (spots.TypeOf ctx term entries) = TypeOf (context_of ctx) (read_term entries (term_of term.node.value))
 place_of (spots.Sets ctx) = SetsBelow (context_of ctx)
 place_of (spots.Shapes ctx) = ShapesBelow (context_of ctx)
 place_of (spots.Types ctx) = TypesBelow (context_of ctx)

@@ -1,6 +1,7 @@
 //! The places of nodes.
 
-use cc_core::{Ctx, Node};
+use cc_core::Ctx;
+use cc_instances::captures::KnownTerm;
 use std::rc::Rc;
 
 /// What is wanted at the place of a node, in the context of the place.
@@ -9,7 +10,7 @@ pub enum Spot {
     /// Nothing can be said of it.
     Nowhere,
     /// A type of the term as it is read among so many entries.
-    TypeOf(Ctx, Rc<Node>, u32),
+    TypeOf(Ctx, KnownTerm, u32),
     /// That a set is below another.
     Sets(Ctx),
     /// That a shape is below another.

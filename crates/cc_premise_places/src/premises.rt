@@ -11,6 +11,7 @@ ghost use Rattle.cc_core.specs.Substitution.{single, opened_term};
 ghost use Rattle.cc_core.specs.Traversal.{act_term};
 ghost use Rattle.cc_core.specs.Views.{shape_of, type_of, term_of, bind_of, context_of};
 ghost use Rattle.cc_derivation.specs.Views.{rule_of, premises_of};
+ghost use Rattle.cc_instances.specs.Captures.{body_in, parts_in};
 ghost use Rattle.cc_meta_validity.specs.Broken.{claims_of, are_as_many};
 ghost use Rattle.cc_meta_validity.specs.Rows as plain;
 ghost use Rattle.cc_premise_places.specs.Spots.{place_of, places_of, places_in};
@@ -24,6 +25,9 @@ use cc_core::substitution::instantiate_term;
 use cc_core::wellformed::wf_term;
 use cc_core::{Bind, Ctx, Form, Node, Note, Shape, Ty};
 use cc_derivation::{Claim, Premises, Rule};
+use cc_instances::captures::{
+    KnownTerm, body_of, first_of, same_term, second_of, unknown, unknown_beside,
+};
 use cc_instances::comparisons::{element_at, only_element};
 use std::alloc::{AllocError, Global};
 use std::rc::Rc;
@@ -71,19 +75,21 @@ fn entries_read(ctx: &Ctx, node: &Node) -> u32
 }
 
 // The place of the term as it is read among so many entries.
-fn typing_read(ctx: &Ctx, node: &Rc<Node>, entries: u32) -> Result<Spot, AllocError>
-    ensures { IfOk result (λ s. place_of s ≡ plain.TypeOf (context_of ctx.now) (read_term entries (term_of node.now.value))) }
+fn typing_read(ctx: &Ctx, term: &KnownTerm, entries: u32) -> Result<Spot, AllocError>
+    ensures { IfOk result (λ s. place_of s ≡ plain.TypeOf (context_of ctx.now) (read_term entries (term_of term.now.node.value))) }
 {
     let ctx = ctx.clone()?;
-    let node = node.clone()?;
-    Ok(Spot::TypeOf(ctx, node, entries))
+    let term = same_term(term)?;
+    Ok(Spot::TypeOf(ctx, term, entries))
 }
 
 /// The place of the term in the context. Fails only for want of memory.
-pub fn typing(ctx: &Ctx, node: &Rc<Node>) -> Result<Spot, AllocError>
+pub fn typing(alloc: Global, ctx: &Ctx, node: &Rc<Node>) -> Result<Spot, AllocError>
     ensures { IfOk result (λ s. place_of s ≡ plain.TypeOf (context_of ctx.now) (term_of node.now.value)) }
 {
-    typing_read(ctx, node, entries_read(ctx, node))
+    let entries = entries_read(ctx, node);
+    let term = unknown(alloc, node)?;
+    typing_read(ctx, &term, entries)
 }
 
 // The place of a comparison of sets.
@@ -119,7 +125,7 @@ fn types_under(alloc: Global, ctx: &Ctx, bind: Bind) -> Result<Spot, AllocError>
 fn operand(
     alloc: Global,
     ctx: &Ctx,
-    node: &Node,
+    term: &KnownTerm,
     variable: Var,
     entries: u32,
 ) -> Result<Spot, AllocError>
@@ -127,22 +133,24 @@ fn operand(
 {
     let name = Node {
         form: Form::Var(variable),
-        at: node.at,
-        first: node.first,
-        second: node.second,
+        at: term.node.at,
+        first: term.node.first,
+        second: term.node.second,
     };
     let ctx = ctx.clone()?;
-    Ok(Spot::TypeOf(ctx, Rc::new(alloc, name)?, entries))
+    let node = Rc::new(alloc, name)?;
+    let term = unknown_beside(alloc, term, &node)?;
+    Ok(Spot::TypeOf(ctx, term, entries))
 }
 
 // The place of a body under a binder of the entry, where all entries of the context are read: the binder's is read too,
 // so the body is shared.
-fn under_read(alloc: Global, ctx: &Ctx, bind: Bind, body: &Rc<Node>) -> Result<Spot, AllocError>
+fn under_read(alloc: Global, ctx: &Ctx, bind: Bind, body: &KnownTerm) -> Result<Spot, AllocError>
     ensures { IfOk result (λ s. (entries : ℕ) → entries ≡ length (context_of ctx.now)
-        → place_of s ≡ plain.under (context_of ctx.now) (bind_of bind) (act_term (reading entries) 1 (term_of body.now.value))) }
+        → place_of s ≡ plain.under (context_of ctx.now) (bind_of bind) (act_term (reading entries) 1 (term_of body.now.node.value))) }
 {
     let inner = ctx.push(alloc, bind)?;
-    let body = body.clone()?;
+    let body = same_term(body)?;
     let entries = entries_of(&inner);
     Ok(Spot::TypeOf(inner, body, entries))
 }
@@ -160,12 +168,13 @@ fn under_opened(
     alloc: Global,
     ctx: &Ctx,
     bind: Bind,
-    body: &Rc<Node>,
+    body: &KnownTerm,
     entries: u32,
 ) -> Result<Spot, AllocError>
-    ensures { IfOk result (λ s. place_of s ≡ plain.under (context_of ctx.now) (bind_of bind) (act_term (reading entries) 1 (term_of body.now.value))) }
+    ensures { IfOk result (λ s. place_of s ≡ plain.under (context_of ctx.now) (bind_of bind) (act_term (reading entries) 1 (term_of body.now.node.value))) }
 {
-    let body = opened(alloc, ctx, body, entries)?;
+    let read = opened(alloc, ctx, &body.node, entries)?;
+    let body = unknown(alloc, &read)?;
     let inner = ctx.push(alloc, bind)?;
     Ok(Spot::TypeOf(inner, body, 0))
 }
@@ -175,10 +184,10 @@ fn under(
     alloc: Global,
     ctx: &Ctx,
     bind: Bind,
-    body: &Rc<Node>,
+    body: &KnownTerm,
     entries: u32,
 ) -> Result<Spot, AllocError>
-    ensures { IfOk result (λ s. place_of s ≡ plain.under (context_of ctx.now) (bind_of bind) (act_term (reading entries) 1 (term_of body.now.value))) }
+    ensures { IfOk result (λ s. place_of s ≡ plain.under (context_of ctx.now) (bind_of bind) (act_term (reading entries) 1 (term_of body.now.node.value))) }
 {
     if entries == entries_of(ctx) {
         under_read(alloc, ctx, bind, body)
@@ -191,11 +200,11 @@ fn under(
 fn body_place(
     alloc: Global,
     ctx: &Ctx,
-    body: &Rc<Node>,
+    body: &KnownTerm,
     entries: u32,
     premises: &Premises,
 ) -> Result<Spot, AllocError>
-    ensures { IfOk result (λ s. place_of s ≡ plain.body_place (context_of ctx.now) (act_term (reading entries) 1 (term_of body.now.value)) (claims_of (premises_of premises.now))) }
+    ensures { IfOk result (λ s. place_of s ≡ plain.body_place (context_of ctx.now) (act_term (reading entries) 1 (term_of body.now.node.value)) (claims_of (premises_of premises.now))) }
 {
     match premises {
         Premises::End => Ok(Spot::Nowhere),
@@ -210,14 +219,17 @@ fn body_place(
 fn function(
     alloc: Global,
     ctx: &Ctx,
+    term: &KnownTerm,
     takes: &Rc<Ty>,
     body: &Rc<Node>,
     entries: u32,
 ) -> Result<Option<Spots>, AllocError>
+    requires { body_in (term_of term.now.node.value) ≡ Some (term_of body.now.value) }
     ensures { IfOk result (λ o. option_map places_of o ≡ Some (plain.under (context_of ctx.now) (entry_of (read_type entries (type_of takes.now.value))) (act_term (reading entries) 1 (term_of body.now.value)) ∷ [])) }
 {
     let taken = read_type(alloc, takes, entries)?;
-    let first = under(alloc, ctx, Bind::Var(taken), body, entries)?;
+    let body = body_of(alloc, term, body)?;
+    let first = under(alloc, ctx, Bind::Var(taken), &body, entries)?;
     let spots = one(alloc, first)?;
     Ok(Some(spots))
 }
@@ -226,14 +238,17 @@ fn function(
 fn type_function(
     alloc: Global,
     ctx: &Ctx,
+    term: &KnownTerm,
     bound: &Rc<Shape>,
     body: &Rc<Node>,
     entries: u32,
 ) -> Result<Option<Spots>, AllocError>
+    requires { body_in (term_of term.now.node.value) ≡ Some (term_of body.now.value) }
     ensures { IfOk result (λ o. option_map places_of o ≡ Some (plain.under (context_of ctx.now) (TypeEntry (read_shape entries (shape_of bound.now.value))) (act_term (reading entries) 1 (term_of body.now.value)) ∷ [])) }
 {
     let limit = read_shape(alloc, bound, entries)?;
-    let first = under(alloc, ctx, Bind::TVar(limit), body, entries)?;
+    let body = body_of(alloc, term, body)?;
+    let first = under(alloc, ctx, Bind::TVar(limit), &body, entries)?;
     let spots = one(alloc, first)?;
     Ok(Some(spots))
 }
@@ -242,17 +257,20 @@ fn type_function(
 fn boundary(
     alloc: Global,
     ctx: &Ctx,
+    term: &KnownTerm,
     gives: &Rc<Shape>,
     body: &Rc<Node>,
     entries: u32,
 ) -> Result<Option<Spots>, AllocError>
+    requires { body_in (term_of term.now.node.value) ≡ Some (term_of body.now.value) }
     ensures { IfOk result (λ o. option_map places_of o ≡ Some (plain.under (context_of ctx.now) (TermEntry (ExitShape (read_shape entries (shape_of gives.now.value))) (single Cap)) (act_term (reading entries) 1 (term_of body.now.value)) ∷ [])) }
 {
     let given = read_shape(alloc, gives, entries)?;
     let shape = Rc::new(alloc, Shape::Exit(given))?;
     let mut set = CapSet::new(alloc);
     set.insert(Elem::Cap)?;
-    let first = under(alloc, ctx, Bind::Var(Ty { shape, set }), body, entries)?;
+    let body = body_of(alloc, term, body)?;
+    let first = under(alloc, ctx, Bind::Var(Ty { shape, set }), &body, entries)?;
     let spots = one(alloc, first)?;
     Ok(Some(spots))
 }
@@ -261,13 +279,13 @@ fn boundary(
 fn operand_alone(
     alloc: Global,
     ctx: &Ctx,
-    node: &Node,
+    term: &KnownTerm,
     first: Var,
     entries: u32,
 ) -> Result<Option<Spots>, AllocError>
     ensures { IfOk result (λ o. option_map places_of o ≡ Some (plain.operand (context_of ctx.now) (read_variable entries 0 first) ∷ [])) }
 {
-    let first = operand(alloc, ctx, node, first, entries)?;
+    let first = operand(alloc, ctx, term, first, entries)?;
     let spots = one(alloc, first)?;
     Ok(Some(spots))
 }
@@ -276,15 +294,15 @@ fn operand_alone(
 fn operands(
     alloc: Global,
     ctx: &Ctx,
-    node: &Node,
+    term: &KnownTerm,
     first: Var,
     second: Var,
     entries: u32,
 ) -> Result<Option<Spots>, AllocError>
     ensures { IfOk result (λ o. option_map places_of o ≡ Some (plain.operand (context_of ctx.now) (read_variable entries 0 first) ∷ plain.operand (context_of ctx.now) (read_variable entries 0 second) ∷ [])) }
 {
-    let first = operand(alloc, ctx, node, first, entries)?;
-    let second = operand(alloc, ctx, node, second, entries)?;
+    let first = operand(alloc, ctx, term, first, entries)?;
+    let second = operand(alloc, ctx, term, second, entries)?;
     let spots = two(alloc, first, second)?;
     Ok(Some(spots))
 }
@@ -293,13 +311,13 @@ fn operands(
 fn type_application(
     alloc: Global,
     ctx: &Ctx,
-    node: &Node,
+    term: &KnownTerm,
     head: Var,
     entries: u32,
 ) -> Result<Option<Spots>, AllocError>
     ensures { IfOk result (λ o. option_map places_of o ≡ Some (plain.operand (context_of ctx.now) (read_variable entries 0 head) ∷ plain.ShapesBelow (context_of ctx.now) ∷ [])) }
 {
-    let first = operand(alloc, ctx, node, head, entries)?;
+    let first = operand(alloc, ctx, term, head, entries)?;
     let second = shapes(ctx)?;
     let spots = two(alloc, first, second)?;
     Ok(Some(spots))
@@ -309,15 +327,19 @@ fn type_application(
 fn named(
     alloc: Global,
     ctx: &Ctx,
+    term: &KnownTerm,
     right: &Rc<Node>,
     body: &Rc<Node>,
     entries: u32,
     premises: &Premises,
 ) -> Result<Option<Spots>, AllocError>
+    requires { parts_in (term_of term.now.node.value) ≡ Some (term_of right.now.value, term_of body.now.value) }
     ensures { IfOk result (λ o. option_map places_of o ≡ Some (plain.TypeOf (context_of ctx.now) (read_term entries (term_of right.now.value)) ∷ plain.body_place (context_of ctx.now) (act_term (reading entries) 1 (term_of body.now.value)) (claims_of (premises_of premises.now)) ∷ [])) }
 {
-    let first = typing_read(ctx, right, entries)?;
-    let second = body_place(alloc, ctx, body, entries, premises)?;
+    let own = first_of(alloc, term, right, body)?;
+    let inner = second_of(alloc, term, right, body)?;
+    let first = typing_read(ctx, &own, entries)?;
+    let second = body_place(alloc, ctx, &inner, entries, premises)?;
     let spots = two(alloc, first, second)?;
     Ok(Some(spots))
 }
@@ -326,17 +348,20 @@ fn named(
 fn choice(
     alloc: Global,
     ctx: &Ctx,
-    node: &Node,
+    term: &KnownTerm,
     test: Var,
     positive: &Rc<Node>,
     negative: &Rc<Node>,
     entries: u32,
 ) -> Result<Option<Spots>, AllocError>
+    requires { parts_in (term_of term.now.node.value) ≡ Some (term_of positive.now.value, term_of negative.now.value) }
     ensures { IfOk result (λ o. option_map places_of o ≡ Some (plain.operand (context_of ctx.now) (read_variable entries 0 test) ∷ plain.TypeOf (context_of ctx.now) (read_term entries (term_of positive.now.value)) ∷ plain.TypeOf (context_of ctx.now) (read_term entries (term_of negative.now.value)) ∷ [])) }
 {
-    let first = operand(alloc, ctx, node, test, entries)?;
-    let second = typing_read(ctx, positive, entries)?;
-    let third = typing_read(ctx, negative, entries)?;
+    let taken = first_of(alloc, term, positive, negative)?;
+    let other = second_of(alloc, term, positive, negative)?;
+    let first = operand(alloc, ctx, term, test, entries)?;
+    let second = typing_read(ctx, &taken, entries)?;
+    let third = typing_read(ctx, &other, entries)?;
     let spots = three(alloc, first, second, third)?;
     Ok(Some(spots))
 }
@@ -345,12 +370,12 @@ fn choice(
 fn subsumption(
     alloc: Global,
     ctx: &Ctx,
-    node: &Rc<Node>,
+    term: &KnownTerm,
     entries: u32,
 ) -> Result<Option<Spots>, AllocError>
-    ensures { IfOk result (λ o. option_map places_of o ≡ Some (plain.TypeOf (context_of ctx.now) (read_term entries (term_of node.now.value)) ∷ plain.TypesBelow (context_of ctx.now) ∷ [])) }
+    ensures { IfOk result (λ o. option_map places_of o ≡ Some (plain.TypeOf (context_of ctx.now) (read_term entries (term_of term.now.node.value)) ∷ plain.TypesBelow (context_of ctx.now) ∷ [])) }
 {
-    let first = typing_read(ctx, node, entries)?;
+    let first = typing_read(ctx, term, entries)?;
     let second = types(ctx)?;
     let spots = two(alloc, first, second)?;
     Ok(Some(spots))
@@ -361,13 +386,14 @@ fn subsumption(
 pub fn typing_places(
     alloc: Global,
     ctx: &Ctx,
-    node: &Rc<Node>,
+    term: &KnownTerm,
     entries: u32,
     rule: Rule,
     premises: &Premises,
 ) -> Result<Option<Spots>, AllocError>
-    ensures { IfOk result (λ o. (type : CapturingType) → option_map places_of o ≡ places_in (plain.typing_row (context_of ctx.now) (rule_of rule) (read_term entries (term_of node.now.value)) type) (claims_of (premises_of premises.now))) }
+    ensures { IfOk result (λ o. (type : CapturingType) → option_map places_of o ≡ places_in (plain.typing_row (context_of ctx.now) (rule_of rule) (read_term entries (term_of term.now.node.value)) type) (claims_of (premises_of premises.now))) }
 {
+    let node = &term.node;
     match rule {
         Rule::Variable => match &node.form {
             Form::Var(_) => Ok(Some(Spots::End)),
@@ -378,67 +404,67 @@ pub fn typing_places(
             _ => Ok(None),
         },
         Rule::Function => match &node.form {
-            Form::Fun(takes, body) => function(alloc, ctx, takes, body, entries),
+            Form::Fun(takes, body) => function(alloc, ctx, term, takes, body, entries),
             _ => Ok(None),
         },
         Rule::TypeFunction => match &node.form {
-            Form::TFun(bound, body) => type_function(alloc, ctx, bound, body, entries),
+            Form::TFun(bound, body) => type_function(alloc, ctx, term, bound, body, entries),
             _ => Ok(None),
         },
         Rule::Application => match &node.form {
-            Form::App(head, argument) => operands(alloc, ctx, node, *head, *argument, entries),
+            Form::App(head, argument) => operands(alloc, ctx, term, *head, *argument, entries),
             _ => Ok(None),
         },
         Rule::TypeApplication => match &node.form {
-            Form::TApp(head, _) => type_application(alloc, ctx, node, *head, entries),
+            Form::TApp(head, _) => type_application(alloc, ctx, term, *head, entries),
             _ => Ok(None),
         },
         Rule::Boxing => match &node.form {
-            Form::Boxed(content) => operand_alone(alloc, ctx, node, *content, entries),
+            Form::Boxed(content) => operand_alone(alloc, ctx, term, *content, entries),
             _ => Ok(None),
         },
         Rule::Unboxing => match &node.form {
             Form::Unbox(set, content) => match set {
-                Some(_) => operand_alone(alloc, ctx, node, *content, entries),
+                Some(_) => operand_alone(alloc, ctx, term, *content, entries),
                 None => Ok(None),
             },
             _ => Ok(None),
         },
         Rule::Let => match &node.form {
-            Form::Let(_, right, body) => named(alloc, ctx, right, body, entries, premises),
+            Form::Let(_, right, body) => named(alloc, ctx, term, right, body, entries, premises),
             _ => Ok(None),
         },
         Rule::Primitive => match &node.form {
-            Form::Prim(_, left, right) => operands(alloc, ctx, node, *left, *right, entries),
+            Form::Prim(_, left, right) => operands(alloc, ctx, term, *left, *right, entries),
             _ => Ok(None),
         },
         Rule::Choice => match &node.form {
             Form::If(note, test, positive, negative) => match note {
-                Note::Written(_) => choice(alloc, ctx, node, *test, positive, negative, entries),
+                Note::Written(_) => choice(alloc, ctx, term, *test, positive, negative, entries),
                 _ => Ok(None),
             },
             _ => Ok(None),
         },
         Rule::Repetition => match &node.form {
-            Form::Repeat(count, function) => operands(alloc, ctx, node, *count, *function, entries),
+            Form::Repeat(count, function) => operands(alloc, ctx, term, *count, *function, entries),
             _ => Ok(None),
         },
         Rule::Operation => match &node.form {
             Form::Operate(_, receiver, argument) => match argument {
-                Some(argument) => operands(alloc, ctx, node, *receiver, *argument, entries),
-                None => operand_alone(alloc, ctx, node, *receiver, entries),
+                Some(argument) => operands(alloc, ctx, term, *receiver, *argument, entries),
+                None => operand_alone(alloc, ctx, term, *receiver, entries),
             },
             _ => Ok(None),
         },
         Rule::Boundary => match &node.form {
-            Form::Boundary(gives, body) => boundary(alloc, ctx, gives, body, entries),
+            Form::Boundary(gives, body) => boundary(alloc, ctx, term, gives, body, entries),
             _ => Ok(None),
         },
         Rule::Exit => match &node.form {
-            Form::Leave(_, exit, value) => operands(alloc, ctx, node, *exit, *value, entries),
+            Form::Leave(_, exit, value) => operands(alloc, ctx, term, *exit, *value, entries),
             _ => Ok(None),
         },
-        Rule::Subsumption => subsumption(alloc, ctx, node, entries),
+        Rule::Subsumption => subsumption(alloc, ctx, term, entries),
         _ => Ok(None),
     }
 }
@@ -638,7 +664,7 @@ pub fn same_place(spot: &Spot) -> Result<Spot, AllocError>
 {
     match spot {
         Spot::Nowhere => Ok(Spot::Nowhere),
-        Spot::TypeOf(ctx, node, entries) => typing_read(ctx, node, *entries),
+        Spot::TypeOf(ctx, term, entries) => typing_read(ctx, term, *entries),
         Spot::Sets(ctx) => sets(ctx),
         Spot::Shapes(ctx) => shapes(ctx),
         Spot::Types(ctx) => types(ctx),

@@ -24,8 +24,8 @@ pub(crate) fn premise_places(
 {
     match spot {
         Spot::Nowhere => Ok(None),
-        Spot::TypeOf(ctx, node, entries) => match &der.claim {
-            Claim::Typed(_) => typing_places(alloc, ctx, node, *entries, der.rule, &der.premises),
+        Spot::TypeOf(ctx, term, entries) => match &der.claim {
+            Claim::Typed(_) => typing_places(alloc, ctx, term, *entries, der.rule, &der.premises),
             _ => Ok(None),
         },
         Spot::Sets(ctx) => match &der.claim {
@@ -49,11 +49,11 @@ pub(crate) fn is_instance(alloc: Global, spot: &Spot, der: &Der) -> Result<bool,
 {
     match spot {
         Spot::Nowhere => Ok(false),
-        Spot::TypeOf(ctx, node, entries) => match &der.claim {
+        Spot::TypeOf(ctx, term, entries) => match &der.claim {
             Claim::Typed(ty) => typing_instance(
                 alloc,
                 ctx,
-                node,
+                term,
                 *entries,
                 der.rule,
                 &der.premises,

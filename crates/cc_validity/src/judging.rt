@@ -28,7 +28,7 @@ fn first_broken(
     requires { nodes (der_of der.now.value) < 2 ^ 32 }
     ensures { IfOk result (λ o. o ≡ first_or (broken 0 (TypeOf (context_of ctx.now) (term_of term.now.value)) (der_of der.now.value)) None) }
 {
-    let spot = typing(ctx, term)?;
+    let spot = typing(alloc, ctx, term)?;
     least_broken(alloc, spot, der.clone()?)
 }
 

@@ -8,5 +8,5 @@ use Rattle.cc_instances.proofs.typings.captured.Goals as goal
 pub returns : goal.returns
 returns c =
     IfOk-weaker c.read_set.result _ _
-    (λ s h. h ∙ ap (read_set c.args.entries) c.in_ok-captured.ensures ∙ sym (captured_variables-read c.args.entries (term_of c.args.node.now)))
+    (λ s h. h ∙ ap (read_set c.args.entries) c.in_ok-captured.ensures ∙ sym (captured_variables-read c.args.entries (term_of c.args.term.now.node.value)))
     c.read_set.ensures

@@ -6,5 +6,5 @@ use Rattle.cc_premise_places.proofs.premises.under_read.Goals as goal
 pub returns : goal.returns
 returns c =
     λ entries all. under_read entries c.entries_of-entries.result (context_of c.args.ctx.now) (context_of c.in_ok-inner.inner) (bind_of c.args.bind)
-    (term_of c.args.body.now.value) (term_of c.in_ok-body.body.value) (ap context_of c.in_ok-inner.ensures) c.entries_of-entries.ensures
-    (ap term_of c.in_ok-body.ensures.cases) all
+    (term_of c.args.body.now.node.value) (term_of c.in_ok-body.body.node.value) (ap context_of c.in_ok-inner.ensures) c.entries_of-entries.ensures
+    c.in_ok-body.ensures all
