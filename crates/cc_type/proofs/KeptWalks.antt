@@ -311,7 +311,7 @@ variable_keeps at steps context v right found matched was is before after h ther
     (sym there) k)
 
 -- one level more
-read-any : (n : ℕ) (shape : Shape) → is_any (read_shape n shape) ≡ is_any shape
+pub read-any : (n : ℕ) (shape : Shape) → is_any (read_shape n shape) ≡ is_any shape
 read-any n (BaseShape base) = refl
 read-any n AnyShape = refl
 read-any n (TypeVariable v) = refl

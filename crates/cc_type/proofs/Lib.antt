@@ -6,6 +6,7 @@ pub mod DemandEnds
 pub mod EndedLists
 pub mod FilledAlike
 pub mod FormedParts
+pub mod FormsAlone
 pub mod FoundHoles
 pub mod Gathering
 pub mod GreatestEntries

@@ -34,7 +34,7 @@ use Rattle.cc_type.proofs.ComparedAgain.{TestsAgain, has_hole-renamed, settled-a
 use Rattle.cc_type.proofs.RepeatedDemands.{any_ended_has_none}
 use Rattle.cc_type.proofs.KeptWalks.{settled_goes}
 
-untrue : false ≡ true → ⊥
+pub untrue : false ≡ true → ⊥
 untrue e = cc
 
 -- the test is the same for what comes again
@@ -95,7 +95,7 @@ one_goes lost log at d l h =
           lost_goes log at d (l parts.0) parts.1
     ]
 
-all_go : (lost : Bool) (log : List Placed) (at : Place) (ds : List Demand) → (lost ≡ true → has_lost log ≡ true)
+pub all_go : (lost : Bool) (log : List Placed) (at : Place) (ds : List Demand) → (lost ≡ true → has_lost log ≡ true)
     → list_all (goes lost) ds ≡ true → keeping log (map (demand_at at) ds) ≡ log
 all_go lost log at [] l h = refl
 all_go lost log at (d ∷ ds) l h =

@@ -3,6 +3,7 @@ pub mod EndedDemands
 pub mod Ends
 pub mod FilledHoles
 pub mod FormedDemands
+pub mod FormsAlone
 pub mod Keeping
 pub mod KeptWalks
 pub mod KeepingExamples

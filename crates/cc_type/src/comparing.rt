@@ -8,6 +8,7 @@ ghost use Rattle.cc_subty.specs.Demands.{asked_of};
 ghost use Rattle.cc_type.specs.Logs.{Meets, after};
 ghost use Rattle.cc_type.specs.Rows.{comparing};
 
+use crate::forms::match_behind;
 use crate::known::Known;
 use crate::log::{Log, keep_below};
 use crate::stop::{Stop, refused};
@@ -18,7 +19,8 @@ use cc_core::same::same_shape;
 use cc_core::{Ctx, Shape, Ty};
 use std::alloc::Global;
 
-/// The left type has to be below the right one. Where the shapes are one the sets alone are compared.
+/// The left type has to be below the right one. Where the shapes are one the sets alone are compared, and so are they
+/// where the shapes match with nothing to be kept behind something lost.
 pub fn below(
     alloc: Global,
     ctx: &Ctx,
@@ -36,6 +38,10 @@ pub fn below(
         keep_below(alloc, ctx, &left.set, &right.set, at, log)?;
         return Ok(());
     }
+    if match_behind(&left.shape, &right.shape, log) {
+        keep_below(alloc, ctx, &left.set, &right.set, at, log)?;
+        return Ok(());
+    }
     log.known = Known::new(alloc, ctx.clone()?);
     if keep_types(alloc, ctx, left, right, at, log, u32::MAX)? {
         Ok(())
@@ -44,7 +50,8 @@ pub fn below(
     }
 }
 
-/// The left shape has to be below the right one, and sets do not count. Two that are one are not gone through.
+/// The left shape has to be below the right one, and sets do not count. Two that are one are not gone through, and of
+/// two that match with nothing to be kept behind something lost the forms alone are.
 pub(crate) fn against(
     alloc: Global,
     ctx: &Ctx,
@@ -59,6 +66,9 @@ pub(crate) fn against(
     ensures { Meets (λ u. u) result (asked_of log.new.demands) (after (asked_of log.old.demands) (plain.against comparing at (context_of ctx.now) (shape_of left.now) (shape_of right.now))) }
 {
     if same_shape(left, right) {
+        return Ok(());
+    }
+    if match_behind(left, right, log) {
         return Ok(());
     }
     log.known = Known::new(alloc, ctx.clone()?);

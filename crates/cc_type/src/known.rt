@@ -168,6 +168,9 @@ impl Known {
     pub fn ended(&self, left: &CapSet, right: &CapSet) -> Option<&EndedDemand>
         ensures { IfSome result (λ d. IsEndedIn (context_of self.now.base) left.now right.now d.now) }
     {
+        if self.sets.is_empty() {
+            return None;
+        }
         match self.sets.get(place_of(left, right)) {
             Some(known) => ends_if(known, left, right),
             None => None,

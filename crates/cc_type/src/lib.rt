@@ -6,6 +6,7 @@ pub mod contexts;
 mod demand_ends;
 mod ended;
 mod ends;
+mod forms;
 pub mod found;
 mod heads;
 pub mod infer;

@@ -8,6 +8,7 @@ use Rattle.cc_subty.specs.Demands.{asked_of}
 use Rattle.cc_type.specs.KeptWalks.{Keeps}
 use Rattle.cc_type.specs.Logs.{after}
 use Rattle.cc_type.specs.Rows.{comparing}
+use Rattle.cc_type.proofs.FormsAlone.{root_passes, shapes_behind}
 use Rattle.cc_type.proofs.KeptWalks.{matched_after, apart_after, refused_met, shapes_root}
 use Rattle.cc_type.proofs.OneShape.{one_shape}
 use Rattle.cc_type.proofs.WalkedParts.{shape_standing}
@@ -52,3 +53,13 @@ pub returns-then-same_shape : goal.returns-then-same_shape
 returns-then-same_shape c =
     one_shape c.args.at most_steps (context_of c.args.ctx.now) (shape_of c.args.left.now) (shape_of c.args.right.now)
     (asked_of c.args.log.now.demands) (λ e. omega (arith, e)) (sym c.same_shape.ensures ∙ c.if-same_shape.true)
+
+pub returns-then-match_behind : goal.returns-then-match_behind
+returns-then-match_behind c =
+    let g = context_of c.args.ctx.now in
+    let left = shape_of c.args.left.now in
+    let right = shape_of c.args.right.now in
+    shapes_behind c.args.at (comparison most_steps g left right) (asked_of c.args.log.now.demands)
+    (c.match_behind.ensures.lost c.if-match_behind.true)
+    (root_passes most_steps g left right c.requires.left c.requires.right
+    (c.match_behind.ensures.forms c.if-match_behind.true g))
