@@ -138,6 +138,9 @@ impl Known {
     pub fn matches(&self, variable: Var, right: &Shape, steps: u32, lost: bool) -> bool
         ensures { IsTrue result → IsTrue (is_remembered_as (context_of self.now.base) lost steps variable (shape_of right.now)) }
     {
+        if self.pairs.is_empty() {
+            return false;
+        }
         let last = self.last.get(&trace_of(variable, right)).copied();
         is_among(self.pairs.as_slice(), last, variable, right, steps, lost)
     }
