@@ -31,4 +31,5 @@ pub mod RememberedPairs
 pub mod RepeatedDemands
 pub mod SettledTests
 pub mod StandingTerms
+pub mod SubtypeAnswers
 pub mod WalkedParts

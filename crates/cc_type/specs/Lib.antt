@@ -1,4 +1,5 @@
 pub mod ComparedAgain
+pub mod Comparing
 pub mod EndedDemands
 pub mod Ends
 pub mod FilledHoles
@@ -16,3 +17,4 @@ pub mod Parts
 pub mod Rows
 pub mod Signatures
 pub mod Standing
+pub mod WholeLogs

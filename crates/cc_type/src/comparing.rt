@@ -43,7 +43,7 @@ pub fn below(
         return Ok(());
     }
     log.known = Known::new(alloc, ctx.clone()?);
-    if keep_types(alloc, ctx, left, right, at, log, u32::MAX)? {
+    if keep_types(alloc, ctx, left, right, at, log, u32::MAX, false)? {
         Ok(())
     } else {
         Err(refused(Code::E14, at))
@@ -72,7 +72,7 @@ pub(crate) fn against(
         return Ok(());
     }
     log.known = Known::new(alloc, ctx.clone()?);
-    if keep_shapes(alloc, ctx, left, right, at, log, u32::MAX)? {
+    if keep_shapes(alloc, ctx, left, right, at, log, u32::MAX, false)? {
         Ok(())
     } else {
         Err(refused(Code::E14, at))

@@ -7,7 +7,7 @@ ghost use Rattle.cc_core.specs.Shapes.{FunctionShape, BoxShape};
 ghost use Rattle.cc_core.specs.Views.{shape_of, type_of};
 ghost use Rattle.cc_sets.specs.Comparison.{comparison, type_comparison};
 ghost use Rattle.cc_sets.specs.Inference.{shape_in, type_in};
-ghost use Rattle.cc_subty.specs.Comparing.{most_steps};
+ghost use Rattle.cc_type.specs.Comparing.{most_steps};
 ghost use Rattle.cc_subty.specs.Demands.{asked_of};
 ghost use Rattle.cc_type.specs.FormsAlone.{forces_nothing};
 ghost use Rattle.cc_type.specs.Keeping.{has_lost};
@@ -16,7 +16,7 @@ ghost use Rattle.cc_type.specs.KeptWalks.{form_compared};
 use crate::log::{Log, has_hole};
 use cc_core::same::same_shape;
 use cc_core::{Shape, Ty};
-use cc_subty::walking::is_any;
+use cc_subty::parts::is_any;
 
 // The parameters from the right one to the left one, and the results.
 #[cycle(forms)]

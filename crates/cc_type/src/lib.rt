@@ -21,6 +21,7 @@ mod rows;
 mod sizes;
 mod steps;
 pub mod stop;
+pub mod subtyping;
 mod traces;
 mod walking;
 
@@ -30,3 +31,4 @@ pub use instances::Instances;
 pub use log::Log;
 pub use measures::{Measure, Measures};
 pub use stop::Stop;
+pub use subtyping::{SubtypeError, sub_shape, subtype};

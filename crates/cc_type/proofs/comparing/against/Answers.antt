@@ -3,7 +3,7 @@ use Rattle.cc_core.specs.Views.{shape_of, context_of}
 use Rattle.cc_sets.specs.Comparison.{comparison}
 use Rattle.cc_sets.specs.Inference as plain
 use Rattle.cc_sets.specs.Inference.{shape_in}
-use Rattle.cc_subty.specs.Comparing.{most_steps}
+use Rattle.cc_type.specs.Comparing.{most_steps}
 use Rattle.cc_subty.specs.Demands.{asked_of}
 use Rattle.cc_type.specs.KeptWalks.{Keeps}
 use Rattle.cc_type.specs.Logs.{after}
@@ -30,8 +30,8 @@ returns-then-branch c =
     let log = asked_of was.demands in
     let more = asked_of now.demands in
     matched_after c.args.at (comparison most_steps g left right) was.settled now.settled log more
-    (shapes_root c.args.at most_steps g left right true was.settled now.settled log more c.requires.left c.requires.right
-    (subst (λ m. Keeps c.args.at (comparison most_steps g (shape_in g left) (shape_in g right)) m was.settled
+    (shapes_root false c.args.at most_steps g left right true was.settled now.settled log more c.requires.left c.requires.right
+    (subst (λ m. Keeps false c.args.at (comparison most_steps g (shape_in g left) (shape_in g right)) m was.settled
     now.settled log more) c.if-branch.true c.in_ok-keep_shapes.ensures.kept))
 
 pub returns-else-branch : goal.returns-else-branch
@@ -45,8 +45,8 @@ returns-else-branch c =
     let more = asked_of now.demands in
     refused_met more c.refused.result c.args.at (after log (plain.against comparing c.args.at g left right)) c.refused.ensures
     (apart_after c.args.at (comparison most_steps g left right) was.settled now.settled log more
-    (shapes_root c.args.at most_steps g left right false was.settled now.settled log more c.requires.left c.requires.right
-    (subst (λ m. Keeps c.args.at (comparison most_steps g (shape_in g left) (shape_in g right)) m was.settled
+    (shapes_root false c.args.at most_steps g left right false was.settled now.settled log more c.requires.left c.requires.right
+    (subst (λ m. Keeps false c.args.at (comparison most_steps g (shape_in g left) (shape_in g right)) m was.settled
     now.settled log more) c.if-branch.false c.in_ok-keep_shapes.ensures.kept)))
 
 pub returns-then-same_shape : goal.returns-then-same_shape
