@@ -1,4 +1,4 @@
--- What the avoidance of a variable answers, and what stands for it on the way.
+-- What the avoidance of positions answers, and what stands for it on the way.
 use Rattle.std.specs.Prelude.{◌≡◌, ℕ, Bool, Option, Some, None}
 use Rattle.std.specs.Option.{option_map}
 use Rattle.std.specs.declared.result.Result.{Result}
@@ -11,12 +11,12 @@ use Rattle.cc_core.specs.declared.types.Ty.{Ty}
 use Rattle.cc_sets.specs.Avoidance.{Sign, Positive, Negative, avoided_type, unless_free}
 use Rattle.cc_avoid.specs.declared.avoiding.AvoidError.{AvoidError}
 use Rattle.cc_avoid.specs.declared.avoiding.AvoidError.TheVariants as errors
-use Rattle.cc_avoid.specs.declared.avoiding.Sign.{Sign as DeclaredSign}
-use Rattle.cc_avoid.specs.declared.avoiding.Sign.TheVariants as signs
-use Rattle.cc_avoid.specs.declared.avoiding.AvoidedShape.{AvoidedShape}
-use Rattle.cc_avoid.specs.declared.avoiding.AvoidedShape.TheVariants as shapes
-use Rattle.cc_avoid.specs.declared.avoiding.AvoidedType.{AvoidedType}
-use Rattle.cc_avoid.specs.declared.avoiding.AvoidedType.TheVariants as types
+use Rattle.cc_avoid.specs.declared.sign.Sign.{Sign as DeclaredSign}
+use Rattle.cc_avoid.specs.declared.sign.Sign.TheVariants as signs
+use Rattle.cc_avoid.specs.declared.walking.AvoidedShape.{AvoidedShape}
+use Rattle.cc_avoid.specs.declared.walking.AvoidedShape.TheVariants as shapes
+use Rattle.cc_avoid.specs.declared.walking.AvoidedType.{AvoidedType}
+use Rattle.cc_avoid.specs.declared.walking.AvoidedType.TheVariants as types
 
 -- the position is that of a variable of terms
 abbrev pub IsTermPosition : Context → ℕ → Type 0
@@ -53,7 +53,7 @@ given_function (Some takes) (Some gives) = Some (FunctionShape takes.shape takes
 given_function (Some takes) None = None
 given_function None gives = None
 
--- type functions, where the position is not free in the bound
+-- type functions, where no position is free in the bound
 abbrev pub given_type_function : Bool → Shape → Option CapturingType → Option Shape
 given_type_function free bound gives =
     unless_free free (option_map (λ type. TypeFunctionShape bound type.shape type.set) gives)

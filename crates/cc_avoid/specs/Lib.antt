@@ -1,1 +1,2 @@
+pub mod AvoidedTogether
 pub mod Avoiding

@@ -25,7 +25,7 @@ use Rattle.cc_meta_checking.proofs.FilledTyping.{fill_kinded}
 use Rattle.cc_meta_checking.proofs.FitDemands.{asked_is_fit}
 use Rattle.cc_meta_checking.proofs.LeastFillings.{globals_still}
 use Rattle.cc_meta_checking.proofs.ReadingKinds.{outermost}
-use Rattle.cc_subty.specs.Comparing.{most_steps}
+use Rattle.cc_type.specs.Comparing.{most_steps}
 use Rattle.cc_solve.specs.Solutions.{AsksOfHolesBelow, AreSolvable, CanBeJudged, filling_of}
 use Rattle.cc_type.specs.FilledHoles.{HasAskedHolesBelow, holes_of, HasCheckingHolesBelow}
 use Rattle.cc_type.specs.Keeping.{kept}

@@ -1,4 +1,3 @@
-pub mod AvoidedTogether
 pub mod CheckedLogs
 pub mod CheckedTypes
 pub mod JudgedDefinitions
@@ -6,5 +5,6 @@ pub mod JudgedResults
 pub mod LoggedSteps
 pub mod NothingFilled
 pub mod SignedAlong
+pub mod SignedTogether
 pub mod SignedTypes
 pub mod StandingDefinitions

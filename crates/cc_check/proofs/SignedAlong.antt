@@ -18,8 +18,9 @@ use Rattle.cc_type.specs.declared.measures.Measure.{Measure}
 use Rattle.cc_type.proofs.AvoidedGreatest.{signature_of_devices_alone}
 use Rattle.cc_type.proofs.GreatestEntries.{type_past}
 use Rattle.cc_type.proofs.GreatestPositions.{shape_greatest}
-use Rattle.cc_check.specs.SignedParts.{definitions_of, set_avoiding, names_any, shape_avoiding, type_avoiding}
-use Rattle.cc_check.proofs.AvoidedTogether.{signature_together}
+use Rattle.cc_avoid.specs.AvoidedTogether.{set_avoiding, names_any, shape_avoiding, type_avoiding}
+use Rattle.cc_check.specs.SignedParts.{definitions_of}
+use Rattle.cc_check.proofs.SignedTogether.{signature_together}
 
 same_some : {A : Type 0} (a b : A) → Some a ≡ Some b → a ≡ b
 same_some a b e = cc

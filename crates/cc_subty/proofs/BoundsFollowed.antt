@@ -1,14 +1,19 @@
 -- A type variable's bound stands in its place when a shape is exposed, and names earlier positions alone.
-use Rattle.std.proofs.Common.{◌≡◌, ℕ, suc, ◌<◌, [], Option, Some, None, sym, ap, ◌∙◌, arith}
+use Rattle.std.proofs.Common.{◌≡◌, ℕ, suc, ◌<◌, [], length, Option, Some, None, sym, ap, ◌∙◌, arith}
+use Rattle.cc_capture.specs.declared.var.Var.{Var}
 use Rattle.cc_capture.specs.declared.var.Var.TheVariants.{Bound, Free}
 use Rattle.cc_core.specs.Shapes.{Shape, BaseShape, AnyShape, TypeVariable, FunctionShape, TypeFunctionShape, BoxShape}
 use Rattle.cc_core.specs.Shapes.{ExitShape}
 use Rattle.cc_core.specs.Contexts.{Bind, TermEntry, TypeEntry, Context, lookup}
 use Rattle.cc_core.specs.WellFormed.{kinds_of, IsWellFormedShape, IsWellFormedContext}
-use Rattle.cc_core.specs.Occurrences.{Meets, positions_below}
+use Rattle.cc_core.specs.Occurrences.{Meets, positions_below, bound_within}
+use Rattle.cc_core.specs.Reading.{read_shape}
 use Rattle.cc_core.proofs.ContextEntries.{bound-well_formed, bound-positions_below}
-use Rattle.cc_core.proofs.KindFacts.{IsKinded-from}
-use Rattle.cc_core.proofs.SubcapturingContexts.{entry_of_type}
+use Rattle.cc_core.proofs.KindFacts.{IsKinded, IsKinded-from}
+use Rattle.cc_core.proofs.KindRespecting.{kinds-bound_within}
+use Rattle.cc_core.proofs.ReadingAndWriting.{read-still}
+use Rattle.cc_core.proofs.Sorts.{ShapeSort, HasKinds-meets}
+use Rattle.cc_core.proofs.SubcapturingContexts.{IsKindedContext, entry_kinded, entry_of_type}
 use Rattle.cc_sets.specs.Comparison.{bound_in, bound_of}
 use Rattle.cc_sets.specs.Exposing.{exposed}
 use Rattle.cc_subty.specs.Exposing.{shape_bound}
@@ -96,3 +101,16 @@ nothing_leads context shape (TypeFunctionShape b g e) leads none = sym
     (others_stay context (TypeFunctionShape b g e) (λ v x. cc)) ∙ leads.0
 nothing_leads context shape (BoxShape t c) leads none = sym (others_stay context (BoxShape t c) (λ v x. cc)) ∙ leads.0
 nothing_leads context shape (ExitShape g) leads none = sym (others_stay context (ExitShape g) (λ v x. cc)) ∙ leads.0
+
+-- a bound is well formed, so it stands as it is read
+pub entry_at : (context : Context) (v : Var) (bound : Shape) → IsKindedContext context → bound_of context v ≡ Some bound
+    → IsKinded (kinds_of context) [] bound
+entry_at context (Free position) bound formed there =
+    entry_kinded context position (TypeEntry bound) formed (bound_entry (lookup context position) bound there)
+entry_at context (Bound index) bound formed there = cc
+
+pub read_bound : (context : Context) (bound : Shape) → IsKinded (kinds_of context) [] bound
+    → read_shape (length context) bound ≡ bound
+read_bound context bound h =
+    read-still (length context) 0 bound (HasKinds-meets ShapeSort (kinds_of context) [] (bound_within 0)
+    (kinds-bound_within (kinds_of context) []) [] bound h)

@@ -1,3 +1,1 @@
-mod BoundsFollowed
-pub mod CallLemmas
-pub mod WalkAgreement
+pub mod BoundsFollowed

@@ -1,4 +1,3 @@
-pub mod Comparing
 pub mod Demands
 pub mod Exposing
-pub mod Walking
+pub mod Parts

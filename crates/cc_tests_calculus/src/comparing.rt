@@ -9,7 +9,9 @@ use cc_base::place::Place;
 use cc_core::same::same_shape;
 use cc_core::wellformed::{wf, wf_shape};
 use cc_core::{Base, CapSet, Ctx, Elem, Shape, Ty, Var};
-use cc_subty::{Demand, Demands, SubtypeError, expose, subtype};
+use cc_subty::{Demand, Demands, expose};
+use cc_type::comparing::below;
+use cc_type::{Log, Stop, SubtypeError, subtype};
 use std::alloc::{AllocError, Global};
 use std::rc::Rc;
 
@@ -128,8 +130,9 @@ fn nested_parameters_turn_round(rt: HostRuntime) -> Result<(), AllocError> {
     Ok(())
 }
 
-// How much the types ask, which is found so many times, or none where they are not well formed or do not match.
-fn asked_often(
+// How much is kept of what the types ask, which is found so many times, or none where they are not well formed or do not
+// match.
+fn kept_often(
     alloc: Global,
     ctx: &Ctx,
     left: &Ty,
@@ -138,35 +141,36 @@ fn asked_often(
 ) -> Result<Option<usize>, AllocError>
     requires { IsWellFormedContext (context_of ctx.now) }
 {
-    let mut asked = Some(0);
+    let mut kept = Some(0);
     if !wf(ctx, left) || !wf(ctx, right) {
         return Ok(None);
     }
     for _index in 0..times {
-        let mut demands = Demands::new(alloc);
-        match subtype(
+        let mut log = Log::new(alloc);
+        match below(
             alloc,
             ctx,
             left,
             right,
             Place { line: 1, col: 1 },
-            &mut demands,
+            &mut log,
         ) {
-            Ok(()) => asked = Some(demands.len()),
-            Err(SubtypeError::ShapeMismatch) => return Ok(None),
-            Err(SubtypeError::NoMemory) => return Err(AllocError),
+            Ok(()) => kept = Some(log.demands().len()),
+            Err(Stop::Refused(_)) => return Ok(None),
+            Err(Stop::NoMemory) => return Err(AllocError),
         }
     }
-    Ok(asked)
+    Ok(kept)
 }
 
-// Whether so many nested parameters, in a type of four times the size, ask for each of their sets, so many times.
+// Whether so many nested parameters, in a type of four times the size, are gone over so many times, where nothing needs
+// to be kept behind the first two sets, which no filling serves.
 fn parameters(alloc: Global, count: u32, times: u32) -> Result<bool, AllocError> {
     let ctx = context(alloc)?;
     let left = nested_parameters(alloc, count, ONE)?;
     let right = nested_parameters(alloc, count, OTHER)?;
-    match asked_often(alloc, &ctx, &left, &right, times)? {
-        Some(asked) => Ok(asked == 2 * count as usize + 1),
+    match kept_often(alloc, &ctx, &left, &right, times)? {
+        Some(kept) => Ok(kept == 1),
         None => Ok(false),
     }
 }

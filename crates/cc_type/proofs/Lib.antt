@@ -6,6 +6,7 @@ pub mod DemandEnds
 pub mod EndedLists
 pub mod FilledAlike
 pub mod FormedParts
+pub mod FormsAlone
 pub mod FoundHoles
 pub mod Gathering
 pub mod GreatestEntries
@@ -30,4 +31,5 @@ pub mod RememberedPairs
 pub mod RepeatedDemands
 pub mod SettledTests
 pub mod StandingTerms
+pub mod SubtypeAnswers
 pub mod WalkedParts

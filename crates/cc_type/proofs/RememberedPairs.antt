@@ -24,7 +24,7 @@ use Rattle.cc_sets.specs.Comparison.{Demand, Comparison, Unfinished, Mismatch, M
 use Rattle.cc_sets.specs.Comparison.{bound_compared, comparison}
 use Rattle.cc_sets.specs.Outcomes.{IsBelow, Placed}
 use Rattle.cc_sets.specs.Inference.{demand_at}
-use Rattle.cc_subty.proofs.WalkAgreement.{entry_at}
+use Rattle.cc_subty.proofs.BoundsFollowed.{entry_at}
 use Rattle.cc_type.specs.ComparedAgain.{told}
 use Rattle.cc_type.specs.Keeping.{has_hole, is_demand_settled, has_lost, ends_beyond}
 use Rattle.cc_type.specs.Keeping.{is_repeated, is_needless, with_one, keeping}
@@ -34,7 +34,7 @@ use Rattle.cc_type.proofs.ComparedAgain.{TestsAgain, has_hole-renamed, settled-a
 use Rattle.cc_type.proofs.RepeatedDemands.{any_ended_has_none}
 use Rattle.cc_type.proofs.KeptWalks.{settled_goes}
 
-untrue : false ≡ true → ⊥
+pub untrue : false ≡ true → ⊥
 untrue e = cc
 
 -- the test is the same for what comes again
@@ -95,7 +95,7 @@ one_goes lost log at d l h =
           lost_goes log at d (l parts.0) parts.1
     ]
 
-all_go : (lost : Bool) (log : List Placed) (at : Place) (ds : List Demand) → (lost ≡ true → has_lost log ≡ true)
+pub all_go : (lost : Bool) (log : List Placed) (at : Place) (ds : List Demand) → (lost ≡ true → has_lost log ≡ true)
     → list_all (goes lost) ds ≡ true → keeping log (map (demand_at at) ds) ≡ log
 all_go lost log at [] l h = refl
 all_go lost log at (d ∷ ds) l h =
@@ -120,7 +120,7 @@ go_all (d ∷ ds) h =
 
 told_keeps : (lost : Bool) (at : Place) (c : Comparison) (was is : Bool) (log : List Placed)
     → (lost ≡ true → has_lost log ≡ true) → (is ≡ true → (was ≡ true) × (lost ≡ false))
-    → is_told (told (goes lost) c) ≡ true → Keeps at c true was is log log
+    → is_told (told (goes lost) c) ≡ true → Keeps false at c true was is log log
 told_keeps lost at Unfinished was is log l w h = untrue h
 told_keeps lost at Mismatch was is log l w h = sym h
 told_keeps lost at (Matches ds) was is log l w h = (
@@ -135,7 +135,7 @@ pub remembered_keeps : (lost : Bool) (at : Place) (base g : Context) (v : Var) (
     → IsWellFormedContext g → StandsOn base g → bound_of g v ≡ Some bound
     → (lost ≡ true → has_lost log ≡ true) → (is ≡ true → (was ≡ true) × (lost ≡ false))
     → is_remembered_as base lost steps v right ≡ true
-    → Keeps at (comparison steps g (read_shape (length g) bound) (read_shape (length g) right)) true was is log log
+    → Keeps false at (comparison steps g (read_shape (length g) bound) (read_shape (length g) right)) true was is log log
 remembered_keeps lost at base g v bound right steps was is log formed on there l w h =
     let both = and_parts (is_well_formed_shape (kinds_of base) [] (TypeVariable v) && is_well_formed_shape (kinds_of base) [] right)
     (is_told (told (goes lost) (bound_compared (comparison steps) base (bound_of base v) right))) h in
@@ -155,7 +155,7 @@ remembers lost base g v bound right steps formed on there named shape h =
     (subst (λ o. is_told o ≡ true) (told_alike lost base g v bound right steps formed on there named shape) h)
 
 settled_told : (at : Place) (c : Comparison) (was is : Bool) (before after : List Placed) → is ≡ true
-    → Keeps at c true was is before after → is_told (told (goes false) c) ≡ true
+    → Keeps false at c true was is before after → is_told (told (goes false) c) ≡ true
 settled_told at Unfinished was is before after e k = absurd k
 settled_told at Mismatch was is before after e k = sym k
 settled_told at (Matches ds) was is before after e k = go_all ds (k.2 e).1
@@ -164,7 +164,7 @@ pub remembers_settled : (at : Place) (base g : Context) (v : Var) (bound right :
     (before after : List Placed)
     → IsWellFormedContext g → StandsOn base g → bound_of g v ≡ Some bound
     → IsWellFormedShape base (TypeVariable v) → IsWellFormedShape base right → is ≡ true
-    → Keeps at (comparison steps g (read_shape (length g) bound) (read_shape (length g) right)) true was is before after
+    → Keeps false at (comparison steps g (read_shape (length g) bound) (read_shape (length g) right)) true was is before after
     → is_remembered_as base false steps v right ≡ true
 remembers_settled at base g v bound right steps was is before after formed on there named shape e k =
     remembers false base g v bound right steps formed on there named shape
@@ -217,7 +217,7 @@ needless_go at log (d ∷ ds) h =
     and_from (goes true d) (list_all (goes true) ds) (needless_goes log d h.0) (needless_go at log ds h.1)
 
 lost_told : (at : Place) (c : Comparison) (was is : Bool) (before after : List Placed) → length after ≡ length before
-    → Keeps at c true was is before after → is_told (told (goes true) c) ≡ true
+    → Keeps false at c true was is before after → is_told (told (goes true) c) ≡ true
 lost_told at Unfinished was is before after e k = absurd k
 lost_told at Mismatch was is before after e k = sym k
 lost_told at (Matches ds) was is before after e k =
@@ -227,7 +227,7 @@ pub remembers_lost : (at : Place) (base g : Context) (v : Var) (bound right : Sh
     (before after : List Placed)
     → IsWellFormedContext g → StandsOn base g → bound_of g v ≡ Some bound
     → IsWellFormedShape base (TypeVariable v) → IsWellFormedShape base right → length after ≡ length before
-    → Keeps at (comparison steps g (read_shape (length g) bound) (read_shape (length g) right)) true was is before after
+    → Keeps false at (comparison steps g (read_shape (length g) bound) (read_shape (length g) right)) true was is before after
     → is_remembered_as base true steps v right ≡ true
 remembers_lost at base g v bound right steps was is before after formed on there named shape e k =
     remembers true base g v bound right steps formed on there named shape
@@ -236,14 +236,14 @@ remembers_lost at base g v bound right steps was is before after formed on there
 -- more steps
 pub more_keep : (at : Place) (few many : ℕ) (g : Context) (l r : Shape) (matched was is : Bool)
     (before after : List Placed) → few ≤ many
-    → Keeps at (comparison few g l r) matched was is before after → Keeps at (comparison many g l r) matched was is before after
+    → Keeps false at (comparison few g l r) matched was is before after → Keeps false at (comparison many g l r) matched was is before after
 more_keep at few many g l r matched was is before after h k =
-    subst (λ c. Keeps at c matched was is before after)
-    (sym (comparison_more g l r few many h (λ none. subst (λ c. Keeps at c matched was is before after) none k))) k
+    subst (λ c. Keeps false at c matched was is before after)
+    (sym (comparison_more g l r few many h (λ none. subst (λ c. Keeps false at c matched was is before after) none k))) k
 
 -- what is said afterwards where it was first taken for so
 pub anew_keeps : (at : Place) (c : Comparison) (matched was is all : Bool) (before after : List Placed)
-    → all ≡ (was && is) → Keeps at c matched true is before after → Keeps at c matched was all before after
+    → all ≡ (was && is) → Keeps false at c matched true is before after → Keeps false at c matched was all before after
 anew_keeps at Unfinished matched was is all before after e k = absurd k
 anew_keeps at Mismatch matched was is all before after e k = k
 anew_keeps at (Matches ds) matched was is all before after e k = (

@@ -18,7 +18,7 @@ use Rattle.cc_core.proofs.Sorts.{ShapeSort, TypeSort}
 use Rattle.cc_core.proofs.SubcapturingContexts.{IsKindedContext-from}
 use Rattle.cc_sets.specs.Outcomes.{Placed, Outcome, NoAnswer, Refused, Found}
 use Rattle.cc_sets.specs.Inference.{Result, Named, named_by, type_in, shape_in, below, exit_entry, inferred}
-use Rattle.cc_subty.specs.Comparing.{most_steps}
+use Rattle.cc_type.specs.Comparing.{most_steps}
 use Rattle.cc_base.specs.declared.place.Place.{Place}
 use Rattle.cc_meta_checking.proofs.Findings.{Finds}
 use Rattle.cc_meta_checking.proofs.FoundFindings.{asked_of, found_finds}

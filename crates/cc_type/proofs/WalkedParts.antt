@@ -16,7 +16,7 @@ use Rattle.cc_core.proofs.WellFormedness.{well_formed-bound_within}
 use Rattle.cc_meta_typing.proofs.FormedContexts.{opened_kinded}
 use Rattle.cc_sets.specs.Comparison.{bound_of}
 use Rattle.cc_sets.specs.Inference.{shape_in, type_in}
-use Rattle.cc_subty.proofs.WalkAgreement.{entry_at, read_bound}
+use Rattle.cc_subty.proofs.BoundsFollowed.{entry_at, read_bound}
 use Rattle.cc_type.proofs.FormedParts.{with_term, with_type}
 
 -- at the root nothing is read otherwise than it stands

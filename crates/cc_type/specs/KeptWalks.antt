@@ -20,13 +20,19 @@ use Rattle.cc_type.specs.ComparedAgain.{told}
 use Rattle.cc_type.specs.Keeping.{has_hole, is_demand_settled, is_repeated, keeping}
 use Rattle.cc_type.specs.declared.pairs.Pair.{Pair}
 
--- What is kept of a comparison that ends: the two do not match, or they do, and what they demand is kept behind the
--- log. Where it is said afterwards that all was settled, it was so before, and each of the demands is settled.
-abbrev pub Keeps : Place → Comparison → Bool → Bool → Bool → List Placed → List Placed → Type 0
-Keeps at Unfinished matched was is before after = ⊥
-Keeps at Mismatch matched was is before after = matched ≡ false
-Keeps at (Matches demands) matched was is before after =
-    (matched ≡ true) × (after ≡ keeping before (map (demand_at at) demands))
+-- The list with all that is asked then behind it: the whole of it, or what is not needless.
+abbrev pub put : Bool → List Placed → List Placed → List Placed
+put true before more = before ++ more
+put false before more = keeping before more
+
+-- What is kept of a comparison that ends, by whether the whole is kept: the two do not match, or they do, and what they
+-- demand is kept behind the log. Where it is said afterwards that all was settled, it was so before, and each of the
+-- demands is settled.
+abbrev pub Keeps : Bool → Place → Comparison → Bool → Bool → Bool → List Placed → List Placed → Type 0
+Keeps whole at Unfinished matched was is before after = ⊥
+Keeps whole at Mismatch matched was is before after = matched ≡ false
+Keeps whole at (Matches demands) matched was is before after =
+    (matched ≡ true) × (after ≡ put whole before (map (demand_at at) demands))
     × (is ≡ true → (was ≡ true) × (list_all is_demand_settled demands ≡ true))
 
 -- the comparison of two shapes, read in the context, by their forms alone where they are not one

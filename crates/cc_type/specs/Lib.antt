@@ -1,8 +1,10 @@
 pub mod ComparedAgain
+pub mod Comparing
 pub mod EndedDemands
 pub mod Ends
 pub mod FilledHoles
 pub mod FormedDemands
+pub mod FormsAlone
 pub mod Keeping
 pub mod KeptWalks
 pub mod KeepingExamples
@@ -15,3 +17,4 @@ pub mod Parts
 pub mod Rows
 pub mod Signatures
 pub mod Standing
+pub mod WholeLogs

@@ -26,7 +26,7 @@ use Rattle.cc_sets.specs.Inference.{variable_type, Function, TypeFunction, funct
 use Rattle.cc_sets.specs.Inference.{exit_head, device_head, demand_at, below, against, capless, completed_set, Named}
 use Rattle.cc_sets.specs.Inference.{named_by, left_behind, Ways, limited, tested, function_found, type_function_found}
 use Rattle.cc_sets.specs.Inference.{choice_found, exit_entry}
-use Rattle.cc_subty.specs.Comparing.{most_steps}
+use Rattle.cc_type.specs.Comparing.{most_steps}
 use Rattle.cc_type.specs.Keeping.{with_one}
 use Rattle.cc_type.specs.Logs.{Logged, Lost, Stopped, Got, after, followed, plainly}
 

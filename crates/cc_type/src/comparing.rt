@@ -8,6 +8,7 @@ ghost use Rattle.cc_subty.specs.Demands.{asked_of};
 ghost use Rattle.cc_type.specs.Logs.{Meets, after};
 ghost use Rattle.cc_type.specs.Rows.{comparing};
 
+use crate::forms::match_behind;
 use crate::known::Known;
 use crate::log::{Log, keep_below};
 use crate::stop::{Stop, refused};
@@ -18,7 +19,8 @@ use cc_core::same::same_shape;
 use cc_core::{Ctx, Shape, Ty};
 use std::alloc::Global;
 
-/// The left type has to be below the right one. Where the shapes are one the sets alone are compared.
+/// The left type has to be below the right one. Where the shapes are one the sets alone are compared, and so are they
+/// where the shapes match with nothing to be kept behind something lost.
 pub fn below(
     alloc: Global,
     ctx: &Ctx,
@@ -36,15 +38,20 @@ pub fn below(
         keep_below(alloc, ctx, &left.set, &right.set, at, log)?;
         return Ok(());
     }
+    if match_behind(&left.shape, &right.shape, log) {
+        keep_below(alloc, ctx, &left.set, &right.set, at, log)?;
+        return Ok(());
+    }
     log.known = Known::new(alloc, ctx.clone()?);
-    if keep_types(alloc, ctx, left, right, at, log, u32::MAX)? {
+    if keep_types(alloc, ctx, left, right, at, log, u32::MAX, false)? {
         Ok(())
     } else {
         Err(refused(Code::E14, at))
     }
 }
 
-/// The left shape has to be below the right one, and sets do not count. Two that are one are not gone through.
+/// The left shape has to be below the right one, and sets do not count. Two that are one are not gone through, and of
+/// two that match with nothing to be kept behind something lost the forms alone are.
 pub(crate) fn against(
     alloc: Global,
     ctx: &Ctx,
@@ -61,8 +68,11 @@ pub(crate) fn against(
     if same_shape(left, right) {
         return Ok(());
     }
+    if match_behind(left, right, log) {
+        return Ok(());
+    }
     log.known = Known::new(alloc, ctx.clone()?);
-    if keep_shapes(alloc, ctx, left, right, at, log, u32::MAX)? {
+    if keep_shapes(alloc, ctx, left, right, at, log, u32::MAX, false)? {
         Ok(())
     } else {
         Err(refused(Code::E14, at))

@@ -138,6 +138,9 @@ impl Known {
     pub fn matches(&self, variable: Var, right: &Shape, steps: u32, lost: bool) -> bool
         ensures { IsTrue result → IsTrue (is_remembered_as (context_of self.now.base) lost steps variable (shape_of right.now)) }
     {
+        if self.pairs.is_empty() {
+            return false;
+        }
         let last = self.last.get(&trace_of(variable, right)).copied();
         is_among(self.pairs.as_slice(), last, variable, right, steps, lost)
     }
@@ -168,6 +171,9 @@ impl Known {
     pub fn ended(&self, left: &CapSet, right: &CapSet) -> Option<&EndedDemand>
         ensures { IfSome result (λ d. IsEndedIn (context_of self.now.base) left.now right.now d.now) }
     {
+        if self.sets.is_empty() {
+            return None;
+        }
         match self.sets.get(place_of(left, right)) {
             Some(known) => ends_if(known, left, right),
             None => None,

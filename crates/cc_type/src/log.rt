@@ -42,6 +42,8 @@ pub struct Log {
     lost: bool,
     // For the tests of a demand: they are clear between two tests.
     marks: Marks,
+    // All that a comparison demanded, where that is asked for.
+    pub(crate) whole: Demands,
     // What is kept without a hole on its right side, by its ends.
     ended: HashSet<EndedDemand>,
     // What was last found to be settled.
@@ -64,6 +66,7 @@ impl Log {
             demands: Demands::new(alloc),
             lost: false,
             marks: Marks::new(alloc),
+            whole: Demands::new(alloc),
             ended: HashSet::new(alloc),
             known: Known::new(alloc, Ctx::new()),
             settled: false,

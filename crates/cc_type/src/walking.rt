@@ -1,8 +1,9 @@
 //! One walk over two types keeps what their comparison demands, as it is found. Nothing is opened: what stands under a
 //! binder is read in the context where it stands, and only where that is another set and in what is kept is it built.
-//! What matched with demands that need not be kept is remembered, and not gone through again.
+//! What matched with demands that need not be kept is remembered, and not gone through again. The same walk gives all
+//! that is demanded, where that is asked for.
 
-ghost use Rattle.std.specs.Prelude.{◌≡◌, ◌<◌, true, length, IfOk, OnOk, Some, IsTrue};
+ghost use Rattle.std.specs.Prelude.{◌≡◌, ◌<◌, true, false, ◌&&◌, [], ◌∷◌, ◌++◌, length, IfOk, OnOk, Some, IsTrue};
 ghost use Rattle.std.specs.Option.{unwrap_or};
 ghost use Rattle.cc_core.specs.Comparison.{same_shape};
 ghost use Rattle.cc_core.specs.Reading as reading;
@@ -14,7 +15,8 @@ ghost use Rattle.cc_sets.specs.Comparison.{comparison, demanded};
 ghost use Rattle.cc_sets.specs.Inference.{demand_at, shape_in, type_in};
 ghost use Rattle.cc_subty.specs.Demands.{asked_of};
 ghost use Rattle.cc_type.specs.Keeping.{with_one, is_demand_settled};
-ghost use Rattle.cc_type.specs.KeptWalks.{Keeps, StandsOn, IsKnownAgain, form_compared, variable_compared};
+ghost use Rattle.cc_type.specs.KeptWalks.{put, Keeps, StandsOn, IsKnownAgain, form_compared, variable_compared};
+ghost use Rattle.cc_type.specs.WholeLogs.{listed};
 
 use crate::demand_ends::ended;
 use crate::log::{Log, has_hole, keep_below};
@@ -22,11 +24,12 @@ use crate::steps::entries;
 use cc_base::place::Place;
 use cc_capture::{CapSet, Var};
 use cc_core::acting::read_variable;
-use cc_core::reading::read_if_other;
+use cc_core::reading::{read_if_other, read_set};
 use cc_core::wellformed::{wf_set, wf_shape};
 use cc_core::{Ctx, Shape, Ty};
+use cc_subty::Demand;
 use cc_subty::exposing::bound_of;
-use cc_subty::walking::{is_any, is_variable, same_read, under_bound, under_parameter};
+use cc_subty::parts::{is_any, is_variable, same_read, under_bound, under_parameter};
 use std::alloc::{AllocError, Global};
 use std::rc::Rc;
 
@@ -160,6 +163,75 @@ fn keep_sets(
     keep_read_sets(alloc, ctx, left, right, at, log)
 }
 
+// Demands that the left set is below the right one, where both are read in the context.
+fn demand_sets(
+    alloc: Global,
+    ctx: &Ctx,
+    left: &CapSet,
+    right: &CapSet,
+    at: Place,
+    log: &mut Log,
+) -> Result<(), AllocError>
+    ensures kept { OnOk result (asked_of log.new.whole ≡ asked_of log.old.whole ++ (demand_at at (demanded (context_of ctx.now) (reading.read_set (length (context_of ctx.now)) left.now) (reading.read_set (length (context_of ctx.now)) right.now)) ∷ [])) }
+    ensures before { OnOk result (log.new.settled ≡ true → log.old.settled ≡ true) }
+    ensures settled { OnOk result (log.new.settled ≡ true → is_demand_settled (demanded (context_of ctx.now) (reading.read_set (length (context_of ctx.now)) left.now) (reading.read_set (length (context_of ctx.now)) right.now)) ≡ true) }
+    ensures base { log.new.known.base ≡ log.old.known.base }
+{
+    let left = read_set(alloc, left, entries(ctx))?;
+    let right = read_set(alloc, right, entries(ctx))?;
+    let ctx = ctx.clone()?;
+    log.settled = false;
+    log.whole.push(Demand::Sub {
+        ctx,
+        left,
+        right,
+        at,
+    })
+}
+
+// Keeps the whole of what is demanded of two sets, or else what is not needless.
+fn ask_sets(
+    alloc: Global,
+    ctx: &Ctx,
+    left: &CapSet,
+    right: &CapSet,
+    at: Place,
+    log: &mut Log,
+    whole: bool,
+) -> Result<(), AllocError>
+    requires context { IsWellFormedContext (context_of ctx.now) }
+    requires left { IsWellFormedSet (context_of ctx.now) (reading.read_set (length (context_of ctx.now)) left.now) }
+    requires right { IsWellFormedSet (context_of ctx.now) (reading.read_set (length (context_of ctx.now)) right.now) }
+    requires base { StandsOn (context_of log.old.known.base) (context_of ctx.now) }
+    ensures kept { OnOk result (listed whole log.new ≡ put whole (listed whole log.old) (demand_at at (demanded (context_of ctx.now) (reading.read_set (length (context_of ctx.now)) left.now) (reading.read_set (length (context_of ctx.now)) right.now)) ∷ [])) }
+    ensures before { OnOk result (log.new.settled ≡ true → log.old.settled ≡ true) }
+    ensures settled { OnOk result (log.new.settled ≡ true → is_demand_settled (demanded (context_of ctx.now) (reading.read_set (length (context_of ctx.now)) left.now) (reading.read_set (length (context_of ctx.now)) right.now)) ≡ true) }
+    ensures base { log.new.known.base ≡ log.old.known.base }
+{
+    if whole {
+        demand_sets(alloc, ctx, left, right, at, log)
+    } else {
+        keep_sets(alloc, ctx, left, right, at, log)
+    }
+}
+
+// Whether the shapes are one, read in the context, where the whole of what they demand is kept.
+fn are_one(
+    alloc: Global,
+    ctx: &Ctx,
+    left: &Shape,
+    right: &Shape,
+    whole: bool,
+) -> Result<bool, AllocError>
+    ensures { IfOk result (λ b. b ≡ (whole && same_shape (shape_in (context_of ctx.now) (shape_of left.now)) (shape_in (context_of ctx.now) (shape_of right.now)))) }
+{
+    if whole {
+        keep_itself(alloc, ctx, left, right)
+    } else {
+        Ok(false)
+    }
+}
+
 // Goes over the bound of the variable and the shape, and remembers that they match where nothing has to be kept.
 #[cycle(walk)]
 fn keep_new(
@@ -178,13 +250,13 @@ fn keep_new(
     requires there { plain.bound_of (context_of ctx.now) variable ≡ Some (shape_of bound.now) }
     requires named { IsWellFormedShape (context_of log.old.known.base) (TypeVariable variable) }
     requires shape { IsWellFormedShape (context_of log.old.known.base) (shape_of right.now) }
-    ensures kept { IfOk result (λ m. Keeps at (comparison steps (context_of ctx.now) (shape_in (context_of ctx.now) (shape_of bound.now)) (shape_in (context_of ctx.now) (shape_of right.now))) m log.old.settled log.new.settled (asked_of log.old.demands) (asked_of log.new.demands)) }
+    ensures kept { IfOk result (λ m. Keeps false at (comparison steps (context_of ctx.now) (shape_in (context_of ctx.now) (shape_of bound.now)) (shape_in (context_of ctx.now) (shape_of right.now))) m log.old.settled log.new.settled (asked_of log.old.demands) (asked_of log.new.demands)) }
     ensures base { log.new.known.base ≡ log.old.known.base }
 {
     let settled = log.settled;
     let count = log.demands.len();
     log.settled = true;
-    let matched = keep_shapes(alloc, ctx, bound, right, at, log, steps)?;
+    let matched = keep_shapes(alloc, ctx, bound, right, at, log, steps, false)?;
     if !matched {
         return Ok(false);
     }
@@ -214,18 +286,18 @@ fn keep_bound(
     requires right { IsWellFormedShape (context_of ctx.now) (shape_in (context_of ctx.now) (shape_of right.now)) }
     requires base { StandsOn (context_of log.old.known.base) (context_of ctx.now) }
     requires there { plain.bound_of (context_of ctx.now) variable ≡ Some (shape_of bound.now) }
-    ensures kept { IfOk result (λ m. Keeps at (comparison steps (context_of ctx.now) (shape_in (context_of ctx.now) (shape_of bound.now)) (shape_in (context_of ctx.now) (shape_of right.now))) m log.old.settled log.new.settled (asked_of log.old.demands) (asked_of log.new.demands)) }
+    ensures kept { IfOk result (λ m. Keeps false at (comparison steps (context_of ctx.now) (shape_in (context_of ctx.now) (shape_of bound.now)) (shape_in (context_of ctx.now) (shape_of right.now))) m log.old.settled log.new.settled (asked_of log.old.demands) (asked_of log.new.demands)) }
     ensures base { log.new.known.base ≡ log.old.known.base }
 {
     if steps <= FEWER {
-        return keep_shapes(alloc, ctx, bound, right, at, log, steps);
+        return keep_shapes(alloc, ctx, bound, right, at, log, steps, false);
     }
     let name = Shape::TVar(variable);
     if !wf_shape(&log.known.base, &name) {
-        return keep_shapes(alloc, ctx, bound, right, at, log, steps);
+        return keep_shapes(alloc, ctx, bound, right, at, log, steps, false);
     }
     if !wf_shape(&log.known.base, right) {
-        return keep_shapes(alloc, ctx, bound, right, at, log, steps);
+        return keep_shapes(alloc, ctx, bound, right, at, log, steps, false);
     }
     if log.known.matches(variable, right, steps, false) {
         return Ok(true);
@@ -237,6 +309,33 @@ fn keep_bound(
     keep_new(alloc, ctx, variable, bound, right, at, log, steps - FEWER)
 }
 
+// The same, where the whole of what is demanded is kept or not.
+#[cycle(walk)]
+fn walk_bound(
+    alloc: Global,
+    ctx: &Ctx,
+    variable: Var,
+    bound: &Shape,
+    right: &Shape,
+    at: Place,
+    log: &mut Log,
+    steps: u32,
+    whole: bool,
+) -> Result<bool, AllocError>
+    requires context { IsWellFormedContext (context_of ctx.now) }
+    requires right { IsWellFormedShape (context_of ctx.now) (shape_in (context_of ctx.now) (shape_of right.now)) }
+    requires base { StandsOn (context_of log.old.known.base) (context_of ctx.now) }
+    requires there { plain.bound_of (context_of ctx.now) variable ≡ Some (shape_of bound.now) }
+    ensures kept { IfOk result (λ m. Keeps whole at (comparison steps (context_of ctx.now) (shape_in (context_of ctx.now) (shape_of bound.now)) (shape_in (context_of ctx.now) (shape_of right.now))) m log.old.settled log.new.settled (listed whole log.old) (listed whole log.new)) }
+    ensures base { log.new.known.base ≡ log.old.known.base }
+{
+    if whole {
+        keep_shapes(alloc, ctx, bound, right, at, log, steps, whole)
+    } else {
+        keep_bound(alloc, ctx, variable, bound, right, at, log, steps)
+    }
+}
+
 #[cycle(walk)]
 fn keep_variable(
     alloc: Global,
@@ -246,18 +345,19 @@ fn keep_variable(
     at: Place,
     log: &mut Log,
     steps: u32,
+    whole: bool,
 ) -> Result<bool, AllocError>
     requires context { IsWellFormedContext (context_of ctx.now) }
     requires right { IsWellFormedShape (context_of ctx.now) (shape_in (context_of ctx.now) (shape_of right.now)) }
     requires base { StandsOn (context_of log.old.known.base) (context_of ctx.now) }
-    ensures kept { IfOk result (λ m. Keeps at (variable_compared steps (context_of ctx.now) variable (shape_of right.now)) m log.old.settled log.new.settled (asked_of log.old.demands) (asked_of log.new.demands)) }
+    ensures kept { IfOk result (λ m. Keeps whole at (variable_compared steps (context_of ctx.now) variable (shape_of right.now)) m log.old.settled log.new.settled (listed whole log.old) (listed whole log.new)) }
     ensures base { log.new.known.base ≡ log.old.known.base }
 {
     if is_variable(entries(ctx), variable, right) {
         return Ok(true);
     }
     match bound_of(ctx, variable) {
-        Some(bound) => keep_bound(alloc, ctx, variable, bound, right, at, log, steps),
+        Some(bound) => walk_bound(alloc, ctx, variable, bound, right, at, log, steps, whole),
         None => Ok(false),
     }
 }
@@ -274,6 +374,7 @@ fn keep_functions(
     at: Place,
     log: &mut Log,
     steps: u32,
+    whole: bool,
 ) -> Result<bool, AllocError>
     requires context { IsWellFormedContext (context_of ctx.now) }
     requires left { let t = type_of takes.now in let g = type_of gives.now in
@@ -281,15 +382,17 @@ fn keep_functions(
     requires right { let t = type_of others.now in let g = type_of other_gives.now in
         IsWellFormedShape (context_of ctx.now) (shape_in (context_of ctx.now) (FunctionShape t.shape t.set g.shape g.set)) }
     requires base { StandsOn (context_of log.old.known.base) (context_of ctx.now) }
+    requires apart { let t = type_of takes.now in let g = type_of gives.now in let t' = type_of others.now in let g' = type_of other_gives.now in
+        whole ≡ true → same_shape (shape_in (context_of ctx.now) (FunctionShape t.shape t.set g.shape g.set)) (shape_in (context_of ctx.now) (FunctionShape t'.shape t'.set g'.shape g'.set)) ≡ false }
     ensures kept { let t = type_of takes.now in let g = type_of gives.now in let t' = type_of others.now in let g' = type_of other_gives.now in
-        IfOk result (λ m. Keeps at (form_compared steps (context_of ctx.now) (FunctionShape t.shape t.set g.shape g.set) (FunctionShape t'.shape t'.set g'.shape g'.set)) m log.old.settled log.new.settled (asked_of log.old.demands) (asked_of log.new.demands)) }
+        IfOk result (λ m. Keeps whole at (form_compared steps (context_of ctx.now) (FunctionShape t.shape t.set g.shape g.set) (FunctionShape t'.shape t'.set g'.shape g'.set)) m log.old.settled log.new.settled (listed whole log.old) (listed whole log.new)) }
     ensures base { log.new.known.base ≡ log.old.known.base }
 {
-    if !keep_types(alloc, ctx, others, takes, at, log, steps)? {
+    if !keep_types(alloc, ctx, others, takes, at, log, steps, whole)? {
         return Ok(false);
     }
     let under = under_parameter(alloc, ctx, others)?;
-    keep_types(alloc, &under, gives, other_gives, at, log, steps)
+    keep_types(alloc, &under, gives, other_gives, at, log, steps, whole)
 }
 
 #[cycle(walk)]
@@ -303,6 +406,7 @@ fn keep_type_functions(
     at: Place,
     log: &mut Log,
     steps: u32,
+    whole: bool,
 ) -> Result<bool, AllocError>
     requires context { IsWellFormedContext (context_of ctx.now) }
     requires left { let g = type_of gives.now in
@@ -310,15 +414,17 @@ fn keep_type_functions(
     requires right { let g = type_of other_gives.now in
         IsWellFormedShape (context_of ctx.now) (shape_in (context_of ctx.now) (TypeFunctionShape (shape_of other.now.value) g.shape g.set)) }
     requires base { StandsOn (context_of log.old.known.base) (context_of ctx.now) }
+    requires apart { let g = type_of gives.now in let g' = type_of other_gives.now in
+        whole ≡ true → same_shape (shape_in (context_of ctx.now) (TypeFunctionShape (shape_of bound.now.value) g.shape g.set)) (shape_in (context_of ctx.now) (TypeFunctionShape (shape_of other.now.value) g'.shape g'.set)) ≡ false }
     ensures kept { let g = type_of gives.now in let g' = type_of other_gives.now in
-        IfOk result (λ m. Keeps at (form_compared steps (context_of ctx.now) (TypeFunctionShape (shape_of bound.now.value) g.shape g.set) (TypeFunctionShape (shape_of other.now.value) g'.shape g'.set)) m log.old.settled log.new.settled (asked_of log.old.demands) (asked_of log.new.demands)) }
+        IfOk result (λ m. Keeps whole at (form_compared steps (context_of ctx.now) (TypeFunctionShape (shape_of bound.now.value) g.shape g.set) (TypeFunctionShape (shape_of other.now.value) g'.shape g'.set)) m log.old.settled log.new.settled (listed whole log.old) (listed whole log.new)) }
     ensures base { log.new.known.base ≡ log.old.known.base }
 {
     if !same_read(alloc, bound, other, entries(ctx), 0)? {
         return Ok(false);
     }
     let under = under_bound(alloc, ctx, bound)?;
-    keep_types(alloc, &under, gives, other_gives, at, log, steps)
+    keep_types(alloc, &under, gives, other_gives, at, log, steps, whole)
 }
 
 #[cycle(walk)]
@@ -330,16 +436,19 @@ fn keep_boxes(
     at: Place,
     log: &mut Log,
     steps: u32,
+    whole: bool,
 ) -> Result<bool, AllocError>
     requires context { IsWellFormedContext (context_of ctx.now) }
     requires left { IsWellFormedType (context_of ctx.now) (type_in (context_of ctx.now) (type_of content.now)) }
     requires right { IsWellFormedType (context_of ctx.now) (type_in (context_of ctx.now) (type_of other.now)) }
     requires base { StandsOn (context_of log.old.known.base) (context_of ctx.now) }
+    requires apart { let t = type_of content.now in let t' = type_of other.now in
+        whole ≡ true → same_shape (shape_in (context_of ctx.now) (BoxShape t.shape t.set)) (shape_in (context_of ctx.now) (BoxShape t'.shape t'.set)) ≡ false }
     ensures kept { let t = type_of content.now in let t' = type_of other.now in
-        IfOk result (λ m. Keeps at (form_compared steps (context_of ctx.now) (BoxShape t.shape t.set) (BoxShape t'.shape t'.set)) m log.old.settled log.new.settled (asked_of log.old.demands) (asked_of log.new.demands)) }
+        IfOk result (λ m. Keeps whole at (form_compared steps (context_of ctx.now) (BoxShape t.shape t.set) (BoxShape t'.shape t'.set)) m log.old.settled log.new.settled (listed whole log.old) (listed whole log.new)) }
     ensures base { log.new.known.base ≡ log.old.known.base }
 {
-    keep_types(alloc, ctx, content, other, at, log, steps)
+    keep_types(alloc, ctx, content, other, at, log, steps, whole)
 }
 
 // Two shapes, of which the left one matches no other but Any, which the right one is not.
@@ -359,12 +468,14 @@ fn keep_form(
     at: Place,
     log: &mut Log,
     steps: u32,
+    whole: bool,
 ) -> Result<bool, AllocError>
     requires context { IsWellFormedContext (context_of ctx.now) }
     requires left { IsWellFormedShape (context_of ctx.now) (shape_in (context_of ctx.now) (shape_of left.now)) }
     requires right { IsWellFormedShape (context_of ctx.now) (shape_in (context_of ctx.now) (shape_of right.now)) }
     requires base { StandsOn (context_of log.old.known.base) (context_of ctx.now) }
-    ensures kept { IfOk result (λ m. Keeps at (form_compared steps (context_of ctx.now) (shape_of left.now) (shape_of right.now)) m log.old.settled log.new.settled (asked_of log.old.demands) (asked_of log.new.demands)) }
+    requires apart { whole ≡ true → same_shape (shape_in (context_of ctx.now) (shape_of left.now)) (shape_in (context_of ctx.now) (shape_of right.now)) ≡ false }
+    ensures kept { IfOk result (λ m. Keeps whole at (form_compared steps (context_of ctx.now) (shape_of left.now) (shape_of right.now)) m log.old.settled log.new.settled (listed whole log.old) (listed whole log.new)) }
     ensures base { log.new.known.base ≡ log.old.known.base }
 {
     match left {
@@ -372,7 +483,7 @@ fn keep_form(
         Shape::Any => keep_itself(alloc, ctx, left, right),
         Shape::TVar(variable) => {
             let variable = read_variable(entries(ctx), 0, *variable);
-            keep_variable(alloc, ctx, variable, right, at, log, steps)
+            keep_variable(alloc, ctx, variable, right, at, log, steps, whole)
         }
         Shape::Fun(takes, gives) => match right {
             Shape::Fun(others, other_gives) => keep_functions(
@@ -385,6 +496,7 @@ fn keep_form(
                 at,
                 log,
                 steps,
+                whole,
             ),
             _ => Ok(false),
         },
@@ -399,11 +511,12 @@ fn keep_form(
                 at,
                 log,
                 steps,
+                whole,
             ),
             _ => Ok(false),
         },
         Shape::Boxed(content) => match right {
-            Shape::Boxed(other) => keep_boxes(alloc, ctx, content, other, at, log, steps),
+            Shape::Boxed(other) => keep_boxes(alloc, ctx, content, other, at, log, steps, whole),
             _ => Ok(false),
         },
         Shape::Exit(_) => keep_itself(alloc, ctx, left, right),
@@ -411,7 +524,7 @@ fn keep_form(
 }
 
 /// Goes over two shapes, read in the context, in so many levels at most, and answers whether they match. What their
-/// comparison demands is kept at the place behind the log, unless that is needless.
+/// comparison demands is kept at the place: the whole of it, or else behind the log what is not needless.
 ///
 /// Fails for want of memory, as which too many levels count.
 #[cycle(walk)]
@@ -423,12 +536,13 @@ pub(crate) fn keep_shapes(
     at: Place,
     log: &mut Log,
     steps: u32,
+    whole: bool,
 ) -> Result<bool, AllocError>
     requires context { IsWellFormedContext (context_of ctx.now) }
     requires left { IsWellFormedShape (context_of ctx.now) (shape_in (context_of ctx.now) (shape_of left.now)) }
     requires right { IsWellFormedShape (context_of ctx.now) (shape_in (context_of ctx.now) (shape_of right.now)) }
     requires base { StandsOn (context_of log.old.known.base) (context_of ctx.now) }
-    ensures kept { IfOk result (λ m. Keeps at (comparison steps (context_of ctx.now) (shape_in (context_of ctx.now) (shape_of left.now)) (shape_in (context_of ctx.now) (shape_of right.now))) m log.old.settled log.new.settled (asked_of log.old.demands) (asked_of log.new.demands)) }
+    ensures kept { IfOk result (λ m. Keeps whole at (comparison steps (context_of ctx.now) (shape_in (context_of ctx.now) (shape_of left.now)) (shape_in (context_of ctx.now) (shape_of right.now))) m log.old.settled log.new.settled (listed whole log.old) (listed whole log.new)) }
     ensures base { log.new.known.base ≡ log.old.known.base }
 {
     if steps == 0 {
@@ -437,7 +551,10 @@ pub(crate) fn keep_shapes(
     if is_any(right) {
         return Ok(true);
     }
-    keep_form(alloc, ctx, left, right, at, log, steps - 1)
+    if are_one(alloc, ctx, left, right, whole)? {
+        return Ok(true);
+    }
+    keep_form(alloc, ctx, left, right, at, log, steps - 1, whole)
 }
 
 /// Goes over two types, as `keep_shapes` does over shapes. That the left set is below the right one is demanded first.
@@ -450,14 +567,15 @@ pub(crate) fn keep_types(
     at: Place,
     log: &mut Log,
     steps: u32,
+    whole: bool,
 ) -> Result<bool, AllocError>
     requires context { IsWellFormedContext (context_of ctx.now) }
     requires left { IsWellFormedType (context_of ctx.now) (type_in (context_of ctx.now) (type_of left.now)) }
     requires right { IsWellFormedType (context_of ctx.now) (type_in (context_of ctx.now) (type_of right.now)) }
     requires base { StandsOn (context_of log.old.known.base) (context_of ctx.now) }
-    ensures kept { IfOk result (λ m. Keeps at (plain.type_comparison steps (context_of ctx.now) (type_in (context_of ctx.now) (type_of left.now)) (type_in (context_of ctx.now) (type_of right.now))) m log.old.settled log.new.settled (asked_of log.old.demands) (asked_of log.new.demands)) }
+    ensures kept { IfOk result (λ m. Keeps whole at (plain.type_comparison steps (context_of ctx.now) (type_in (context_of ctx.now) (type_of left.now)) (type_in (context_of ctx.now) (type_of right.now))) m log.old.settled log.new.settled (listed whole log.old) (listed whole log.new)) }
     ensures base { log.new.known.base ≡ log.old.known.base }
 {
-    keep_sets(alloc, ctx, &left.set, &right.set, at, log)?;
-    keep_shapes(alloc, ctx, &left.shape, &right.shape, at, log, steps)
+    ask_sets(alloc, ctx, &left.set, &right.set, at, log, whole)?;
+    keep_shapes(alloc, ctx, &left.shape, &right.shape, at, log, steps, whole)
 }

@@ -1,6 +1,6 @@
 use Rattle.std.proofs.Common.{sym, ◌∙◌}
 use Rattle.cc_core.specs.Views.{type_of, context_of}
-use Rattle.cc_check.proofs.AvoidedTogether.{signature_together}
+use Rattle.cc_check.proofs.SignedTogether.{signature_together}
 use Rattle.cc_check.proofs.signature.signature.Goals as goal
 
 pub returns : goal.returns

@@ -1,7 +1,7 @@
 use Rattle.std.proofs.Common.{sym, ◌∙◌}
 use Rattle.cc_core.specs.Views.{context_of}
-use Rattle.cc_check.specs.SignedParts.{sign_of}
-use Rattle.cc_check.proofs.AvoidedTogether.{greatest_avoided, greatest_left}
+use Rattle.cc_avoid.specs.Avoiding.{sign_of}
+use Rattle.cc_check.proofs.SignedTogether.{greatest_avoided, greatest_left}
 use Rattle.cc_check.proofs.signing.avoid_each.Goals as goal
 
 pub loop-position-preserved : goal.loop-position-preserved

@@ -1,7 +1,9 @@
 use Rattle.std.proofs.Common.{◌≡◌}
 use Rattle.cc_core.specs.Views.{context_of}
 use Rattle.cc_type.specs.Signatures.{greatest_in_set, height_of}
-use Rattle.cc_check.specs.SignedParts.{definitions_of, set_avoiding, sign_of}
+use Rattle.cc_avoid.specs.AvoidedTogether.{set_avoiding}
+use Rattle.cc_avoid.specs.Avoiding.{sign_of}
+use Rattle.cc_check.specs.SignedParts.{definitions_of}
 use Rattle.cc_check.proofs.signing.avoid_each.Given as goal
 
 -- what is left stands for the same

@@ -1,14 +1,16 @@
 use Rattle.std.proofs.Common.{true, false, subst, sym, ap, ◌∙◌, arith}
 use Rattle.cc_core.specs.Comparison.{same_shape}
 use Rattle.cc_core.specs.Views.{shape_of, type_of, context_of}
-use Rattle.cc_sets.specs.Comparison.{type_comparison}
+use Rattle.cc_sets.specs.Comparison.{demanded, comparison, type_comparison}
 use Rattle.cc_sets.specs.Inference as plain
-use Rattle.cc_sets.specs.Inference.{type_in}
-use Rattle.cc_subty.specs.Comparing.{most_steps}
+use Rattle.cc_sets.specs.Inference.{shape_in, type_in}
+use Rattle.cc_type.specs.Comparing.{most_steps}
 use Rattle.cc_subty.specs.Demands.{asked_of}
+use Rattle.cc_type.specs.FormsAlone.{forces_nothing}
 use Rattle.cc_type.specs.KeptWalks.{Keeps}
 use Rattle.cc_type.specs.Logs.{Got, after}
 use Rattle.cc_type.specs.Rows.{comparing}
+use Rattle.cc_type.proofs.FormsAlone.{formed_shape, root_passes, types_behind}
 use Rattle.cc_type.proofs.KeptWalks.{matched_after, apart_after, refused_met, types_root}
 use Rattle.cc_type.proofs.OneShape.{formed_set, sets_alone}
 use Rattle.cc_type.proofs.WalkedParts.{type_standing}
@@ -30,8 +32,8 @@ returns-then-branch c =
     let log = asked_of was.demands in
     let more = asked_of now.demands in
     matched_after c.args.at (type_comparison most_steps g left right) was.settled now.settled log more
-    (types_root c.args.at most_steps g left right true was.settled now.settled log more c.requires.left c.requires.right
-    (subst (λ m. Keeps c.args.at (type_comparison most_steps g (type_in g left) (type_in g right)) m was.settled
+    (types_root false c.args.at most_steps g left right true was.settled now.settled log more c.requires.left c.requires.right
+    (subst (λ m. Keeps false c.args.at (type_comparison most_steps g (type_in g left) (type_in g right)) m was.settled
     now.settled log more) c.if-branch.true c.in_ok-keep_types.ensures.kept))
 
 pub returns-else-branch : goal.returns-else-branch
@@ -45,8 +47,8 @@ returns-else-branch c =
     let more = asked_of now.demands in
     refused_met more c.refused.result c.args.at (after log (plain.below comparing c.args.at g left right)) c.refused.ensures
     (apart_after c.args.at (type_comparison most_steps g left right) was.settled now.settled log more
-    (types_root c.args.at most_steps g left right false was.settled now.settled log more c.requires.left c.requires.right
-    (subst (λ m. Keeps c.args.at (type_comparison most_steps g (type_in g left) (type_in g right)) m was.settled
+    (types_root false c.args.at most_steps g left right false was.settled now.settled log more c.requires.left c.requires.right
+    (subst (λ m. Keeps false c.args.at (type_comparison most_steps g (type_in g left) (type_in g right)) m was.settled
     now.settled log more) c.if-branch.false c.in_ok-keep_types.ensures.kept)))
 
 pub keep_below-requires-clause-left : goal.keep_below-requires-clause-left
@@ -59,3 +61,17 @@ returns-then-same_shape c =
     ((λ i. same_shape (shape_of (sym c.deref.ensures i)) (shape_of (sym c.deref-2.ensures i)))
     ∙ sym c.same_shape.ensures ∙ c.if-same_shape.true)
     ∙ ap (Got tt) (sym c.in_ok-keep_below.ensures.kept)
+
+pub returns-then-match_behind : goal.returns-then-match_behind
+returns-then-match_behind c =
+    let g = context_of c.args.ctx.now in
+    let left = type_of c.args.left.now in
+    let right = type_of c.args.right.now in
+    types_behind c.args.at (demanded g left.set right.set) (comparison most_steps g left.shape right.shape)
+    (asked_of c.args.log.now.demands) (c.match_behind.ensures.lost c.if-match_behind.true)
+    (root_passes most_steps g left.shape right.shape (formed_shape g left c.requires.left)
+    (formed_shape g right c.requires.right)
+    ((λ i. forces_nothing (comparison most_steps g (shape_in g (shape_of (sym c.deref-3.ensures i)))
+    (shape_in g (shape_of (sym c.deref-4.ensures i)))))
+    ∙ c.match_behind.ensures.forms c.if-match_behind.true g))
+    ∙ ap (Got tt) (sym c.in_ok-keep_below-2.ensures.kept)

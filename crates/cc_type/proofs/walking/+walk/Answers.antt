@@ -1,4 +1,5 @@
 use Rattle.std.proofs.Common.{◌≡◌, ◌-◌, length, true, false, Some, refl, sym, ap, ◌∙◌, subst, arith}
+use Rattle.std.proofs.lemmas.Bool.{and_parts}
 use Rattle.std.proofs.lemmas.List.{length-map}
 use Rattle.std.proofs.lemmas.Result.{IfOk-weaker}
 use Rattle.cc_core.specs.Comparison.{same_shape}
@@ -8,9 +9,10 @@ use Rattle.cc_core.specs.Views.{shape_of, type_of, context_of}
 use Rattle.cc_sets.specs.Comparison.{comparison, type_comparison}
 use Rattle.cc_sets.specs.Inference.{shape_in, type_in}
 use Rattle.cc_subty.specs.Demands.{demand_of, asked_of}
-use Rattle.cc_subty.specs.Walking.{is_variable}
+use Rattle.cc_subty.specs.Parts.{is_variable}
 use Rattle.cc_type.specs.KeptWalks.{Keeps, is_remembered_as}
-use Rattle.cc_type.proofs.KeptWalks.{step_keeps, any_keeps, functions_kept, functions_parted, boxes_kept, variable_keeps}
+use Rattle.cc_type.specs.WholeLogs.{listed}
+use Rattle.cc_type.proofs.KeptWalks.{step_keeps, any_keeps, same_keeps, functions_kept, functions_parted, boxes_kept, variable_keeps}
 use Rattle.cc_type.proofs.KeptWalks.{type_functions_kept, type_functions_parted}
 use Rattle.cc_type.proofs.KnownSets.{stands_same, stands_deeper}
 use Rattle.cc_type.proofs.RememberedPairs.{remembered_keeps, remembers_settled, remembers_lost, more_keep}
@@ -89,8 +91,8 @@ keep_boxes-returns-clause-kept t c =
     let after = c.keep_types.new.log in
     IfOk-weaker c.keep_types.result _ _
     (λ m k.
-    boxes_kept c.args.at c.args.steps (context_of c.args.ctx.now) (type_of c.args.content.now) (type_of c.args.other.now) m
-    log.settled after.settled (asked_of log.demands) (asked_of after.demands) k)
+    boxes_kept c.args.whole c.args.at c.args.steps (context_of c.args.ctx.now) (type_of c.args.content.now) (type_of c.args.other.now) m
+    log.settled after.settled (listed c.args.whole log) (listed c.args.whole after) c.requires.apart k)
     c.keep_types.ensures.kept
 
 pub keep_functions-returns-then-not-branch-clause-kept : goal.keep_functions-returns-then-not-branch-clause-kept
@@ -100,10 +102,10 @@ keep_functions-returns-then-not-branch-clause-kept t c =
     let after = c.keep_types.new.log in
     let takes = type_of c.args.takes.now in
     let others = type_of c.args.others.now in
-    functions_parted c.args.at c.args.steps g takes (type_of c.args.gives.now) others (type_of c.args.other_gives.now)
-    log.settled after.settled (asked_of log.demands) (asked_of after.demands)
-    (subst (λ m. Keeps c.args.at (type_comparison c.args.steps g (type_in g others) (type_in g takes)) m log.settled
-    after.settled (asked_of log.demands) (asked_of after.demands)) c.if-not-branch.true c.in_ok-keep_types.ensures.kept)
+    functions_parted c.args.whole c.args.at c.args.steps g takes (type_of c.args.gives.now) others (type_of c.args.other_gives.now)
+    log.settled after.settled (listed c.args.whole log) (listed c.args.whole after) c.requires.apart
+    (subst (λ m. Keeps c.args.whole c.args.at (type_comparison c.args.steps g (type_in g others) (type_in g takes)) m log.settled
+    after.settled (listed c.args.whole log) (listed c.args.whole after)) c.if-not-branch.true c.in_ok-keep_types.ensures.kept)
 
 pub keep_functions-keep_types-requires-2 : goal.keep_functions-keep_types-requires-2
 keep_functions-keep_types-requires-2 t c =
@@ -138,13 +140,13 @@ keep_functions-returns-clause-kept t c =
     let takes = type_of c.args.takes.now in
     let others = type_of c.args.others.now in
     let first =
-    subst (λ m. Keeps c.args.at (type_comparison c.args.steps g (type_in g others) (type_in g takes)) m log.settled
-    mid.settled (asked_of log.demands) (asked_of mid.demands)) c.if-not-branch.false c.in_ok-keep_types.ensures.kept in
+    subst (λ m. Keeps c.args.whole c.args.at (type_comparison c.args.steps g (type_in g others) (type_in g takes)) m log.settled
+    mid.settled (listed c.args.whole log) (listed c.args.whole mid)) c.if-not-branch.false c.in_ok-keep_types.ensures.kept in
     IfOk-weaker c.keep_types-2.result _ _
     (λ m k.
-    functions_kept c.args.at c.args.steps g under takes (type_of c.args.gives.now) others (type_of c.args.other_gives.now) m
-    log.settled mid.settled after.settled (asked_of log.demands) (asked_of mid.demands) (asked_of after.demands)
-    c.in_ok-under.ensures first k)
+    functions_kept c.args.whole c.args.at c.args.steps g under takes (type_of c.args.gives.now) others (type_of c.args.other_gives.now) m
+    log.settled mid.settled after.settled (listed c.args.whole log) (listed c.args.whole mid) (listed c.args.whole after)
+    c.requires.apart c.in_ok-under.ensures first k)
     c.keep_types-2.ensures.kept
 
 pub keep_new-keep_shapes-requires : goal.keep_new-keep_shapes-requires
@@ -168,7 +170,7 @@ keep_new-remember-requires t c =
     let bound = shape_of c.args.bound.now in
     let right = shape_of c.args.right.now in
     let kept =
-    subst (λ m. Keeps c.args.at (comparison c.args.steps g (shape_in g bound) (shape_in g right)) m true after.settled
+    subst (λ m. Keeps false c.args.at (comparison c.args.steps g (shape_in g bound) (shape_in g right)) m true after.settled
     (asked_of log.demands) (asked_of after.demands)) c.if-not-matched.false c.in_ok-matched.ensures.kept in
     subst (λ b. is_remembered_as (context_of b) false c.args.steps c.args.variable right ≡ true)
     (sym c.keep_shapes.ensures.base)
@@ -184,7 +186,7 @@ keep_new-remember-requires-then-len-count t c =
     let bound = shape_of c.args.bound.now in
     let right = shape_of c.args.right.now in
     let kept =
-    subst (λ m. Keeps c.args.at (comparison c.args.steps g (shape_in g bound) (shape_in g right)) m true after.settled
+    subst (λ m. Keeps false c.args.at (comparison c.args.steps g (shape_in g bound) (shape_in g right)) m true after.settled
     (asked_of log.demands) (asked_of after.demands)) c.if-not-matched.false c.in_ok-matched.ensures.kept in
     let same : length (asked_of after.demands) ≡ length (asked_of log.demands) =
     length-map after.demands demand_of ∙ sym c.len.ensures ∙ c.if-len-count.true ∙ c.len-count.ensures
@@ -197,8 +199,8 @@ keep_new-remember-requires-then-len-count t c =
 
 pub keep_shapes-returns-then-is_any-clause-kept : goal.keep_shapes-returns-then-is_any-clause-kept
 keep_shapes-returns-then-is_any-clause-kept t c =
-    any_keeps c.args.at c.args.steps (context_of c.args.ctx.now) (shape_of c.args.left.now) (shape_of c.args.right.now)
-    c.args.log.now.settled (asked_of c.args.log.now.demands) c.if-steps-eq0.false (sym c.is_any.ensures ∙ c.if-is_any.true)
+    any_keeps c.args.whole c.args.at c.args.steps (context_of c.args.ctx.now) (shape_of c.args.left.now) (shape_of c.args.right.now)
+    c.args.log.now.settled (listed c.args.whole c.args.log.now) c.if-steps-eq0.false (sym c.is_any.ensures ∙ c.if-is_any.true)
 
 pub keep_shapes-returns-clause-kept : goal.keep_shapes-returns-clause-kept
 keep_shapes-returns-clause-kept t c =
@@ -206,17 +208,25 @@ keep_shapes-returns-clause-kept t c =
     let after = c.keep_form.new.log in
     IfOk-weaker c.keep_form.result _ _
     (λ m k.
-    step_keeps c.args.at c.args.steps (context_of c.args.ctx.now) (shape_of c.args.left.now) (shape_of c.args.right.now) m
-    log.settled after.settled (asked_of log.demands) (asked_of after.demands) c.if-steps-eq0.false
+    step_keeps c.args.whole c.args.at c.args.steps (context_of c.args.ctx.now) (shape_of c.args.left.now) (shape_of c.args.right.now) m
+    log.settled after.settled (listed c.args.whole log) (listed c.args.whole after) c.if-steps-eq0.false
     (sym c.is_any.ensures ∙ c.if-is_any.false) k)
     c.keep_form.ensures.kept
+
+pub keep_shapes-returns-then-branch-clause-kept : goal.keep_shapes-returns-then-branch-clause-kept
+keep_shapes-returns-then-branch-clause-kept t c =
+    let g = context_of c.args.ctx.now in
+    let both = and_parts c.args.whole (same_shape (shape_in g (shape_of c.args.left.now)) (shape_in g (shape_of c.args.right.now)))
+    (sym c.in_ok-are_one.ensures ∙ c.if-branch.true) in
+    same_keeps c.args.whole c.args.at c.args.steps g (shape_of c.args.left.now) (shape_of c.args.right.now)
+    c.args.log.now.settled (listed c.args.whole c.args.log.now) c.if-steps-eq0.false both.1
 
 pub keep_type_functions-returns-then-not-branch-clause-kept :
     goal.keep_type_functions-returns-then-not-branch-clause-kept
 keep_type_functions-returns-then-not-branch-clause-kept t c =
-    type_functions_parted c.args.at c.args.steps (context_of c.args.ctx.now) (shape_of c.args.bound.now.value)
+    type_functions_parted c.args.whole c.args.at c.args.steps (context_of c.args.ctx.now) (shape_of c.args.bound.now.value)
     (shape_of c.args.other.now.value) (type_of c.args.gives.now) (type_of c.args.other_gives.now) c.args.log.now.settled
-    (asked_of c.args.log.now.demands)
+    (listed c.args.whole c.args.log.now)
     (sym (λ i. same_shape (read_shape (c.entries.ensures i) (shape_of (c.deref.ensures i)))
     (read_shape (c.entries.ensures i) (shape_of (c.deref-2.ensures i))))
     ∙ sym c.in_ok-same_read.ensures ∙ c.if-not-branch.true)
@@ -255,25 +265,38 @@ keep_type_functions-returns-clause-kept t c =
     ∙ sym c.in_ok-same_read.ensures ∙ c.if-not-branch.false in
     IfOk-weaker c.keep_types.result _ _
     (λ m k.
-    type_functions_kept c.args.at c.args.steps g under (shape_of c.args.bound.now.value) (shape_of c.args.other.now.value)
-    (type_of c.args.gives.now) (type_of c.args.other_gives.now) m log.settled after.settled (asked_of log.demands)
-    (asked_of after.demands) c.in_ok-under.ensures same k)
+    type_functions_kept c.args.whole c.args.at c.args.steps g under (shape_of c.args.bound.now.value) (shape_of c.args.other.now.value)
+    (type_of c.args.gives.now) (type_of c.args.other_gives.now) m log.settled after.settled (listed c.args.whole log)
+    (listed c.args.whole after) c.requires.apart c.in_ok-under.ensures same k)
     c.keep_types.ensures.kept
 
 pub keep_variable-returns-in-Some-clause-kept : goal.keep_variable-returns-in-Some-clause-kept
 keep_variable-returns-in-Some-clause-kept t c =
     let g = context_of c.args.ctx.now in
     let log = c.args.log.now in
-    let after = c.keep_bound.new.log in
+    let after = c.walk_bound.new.log in
     let bound = shape_of c.deref.result.now in
     let right = shape_of c.args.right.now in
     let there = sym c.in-Some.ensures ∙ ap (λ s. Some (shape_of s)) (sym c.deref.ensures) in
-    IfOk-weaker c.keep_bound.result _ _
+    IfOk-weaker c.walk_bound.result _ _
     (λ m k.
-    variable_keeps c.args.at c.args.steps g c.args.variable right (Some bound) m log.settled after.settled
-    (asked_of log.demands) (asked_of after.demands)
+    variable_keeps c.args.whole c.args.at c.args.steps g c.args.variable right (Some bound) m log.settled after.settled
+    (listed c.args.whole log) (listed c.args.whole after)
     (subst (λ n. is_variable n c.args.variable right ≡ false) c.entries.ensures
     (sym c.is_variable.ensures ∙ c.if-is_variable.false)) there
-    (subst (λ b. Keeps c.args.at (comparison c.args.steps g b (shape_in g right)) m log.settled after.settled
-    (asked_of log.demands) (asked_of after.demands)) (bound_read g c.args.variable bound c.requires.context there) k))
-    c.keep_bound.ensures.kept
+    (subst (λ b. Keeps c.args.whole c.args.at (comparison c.args.steps g b (shape_in g right)) m log.settled after.settled
+    (listed c.args.whole log) (listed c.args.whole after)) (bound_read g c.args.variable bound c.requires.context there) k))
+    c.walk_bound.ensures.kept
+
+pub walk_bound-keep_shapes-requires : goal.walk_bound-keep_shapes-requires
+walk_bound-keep_shapes-requires t c =
+    let g = context_of c.args.ctx.now in (
+      omega arith,
+      (
+        c.requires.context,
+        (
+          bound_part g c.args.variable (shape_of c.args.bound.now) c.requires.context c.requires.there,
+          (c.requires.right, c.requires.base),
+        ),
+      ),
+    )

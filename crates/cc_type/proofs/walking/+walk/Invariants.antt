@@ -13,8 +13,11 @@ decreases-keep_new l = 8 * l.steps + 1
 abbrev pub decreases-keep_bound : goal.decreases-keep_bound
 decreases-keep_bound l = 8 * l.steps + 2
 
+abbrev pub decreases-walk_bound : goal.decreases-walk_bound
+decreases-walk_bound l = 8 * l.steps + 3
+
 abbrev pub decreases-keep_variable : goal.decreases-keep_variable
-decreases-keep_variable l = 8 * l.steps + 3
+decreases-keep_variable l = 8 * l.steps + 4
 
 abbrev pub decreases-keep_boxes : goal.decreases-keep_boxes
 decreases-keep_boxes l = 8 * l.steps + 2
@@ -26,4 +29,4 @@ abbrev pub decreases-keep_functions : goal.decreases-keep_functions
 decreases-keep_functions l = 8 * l.steps + 2
 
 abbrev pub decreases-keep_form : goal.decreases-keep_form
-decreases-keep_form l = 8 * l.steps + 4
+decreases-keep_form l = 8 * l.steps + 5

@@ -1,7 +1,7 @@
 use Rattle.std.proofs.Common.{sym, ◌∙◌}
 use Rattle.cc_avoid.specs.Avoiding.{sign_of}
 use Rattle.cc_avoid.proofs.AvoidingAnswers.{set_kept}
-use Rattle.cc_avoid.proofs.avoiding.avoid_in_set.Goals as goal
+use Rattle.cc_avoid.proofs.positions.avoid_position.Goals as goal
 
 pub returns-then-not-contains : goal.returns-then-not-contains
 returns-then-not-contains c =

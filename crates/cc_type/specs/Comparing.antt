@@ -1,11 +1,11 @@
 -- What a comparison in the program answers, and what it then asks.
-use Rattle.std.specs.Prelude.{◌≡◌, ◌↔◌, ℕ, List, ◌++◌, map, Option, Some, None, Result, Ok, Err}
+use Rattle.std.specs.Prelude.{◌≡◌, ◌↔◌, ℕ, List, [], ◌++◌, map, Option, Some, None, Result, Ok, Err}
 use Rattle.cc_base.specs.declared.place.Place.{Place}
 use Rattle.cc_sets.specs.Comparison.{Demand, Comparison, Unfinished, Mismatch, Matches, AllHold}
 use Rattle.cc_sets.specs.Outcomes.{Placed}
 use Rattle.cc_sets.specs.Inference.{demand_at}
-use Rattle.cc_subty.specs.declared.comparing.SubtypeError.{SubtypeError}
-use Rattle.cc_subty.specs.declared.comparing.SubtypeError.TheVariants.{NoMemory, ShapeMismatch}
+use Rattle.cc_type.specs.declared.subtyping.SubtypeError.{SubtypeError}
+use Rattle.cc_type.specs.declared.subtyping.SubtypeError.TheVariants.{NoMemory, ShapeMismatch}
 use Rattle.cc_subty.specs.declared.demands.Demand.{Demand as DeclaredDemand}
 use Rattle.cc_subty.specs.Demands.{asked_of}
 
@@ -37,3 +37,17 @@ abbrev pub IsNoMatch : Result (Unit {0}) SubtypeError → Type 0
 IsNoMatch (Ok done) = ⊥
 IsNoMatch (Err ShapeMismatch) = Unit {0}
 IsNoMatch (Err NoMemory) = ⊥
+
+-- What is found of a comparison that begins with nothing asked: what it demands, at the place, or that there is no match.
+abbrev pub Demanded : Place → Comparison → Option (List DeclaredDemand) → Type 0
+Demanded at comparison (Some found) = asked_after at [] comparison ≡ Some (asked_of found)
+Demanded at comparison None = comparison ≡ Mismatch
+
+-- What is answered for that: what was found is asked behind what was asked before, and where nothing was nothing is.
+abbrev pub HandsOn :
+    Option (List DeclaredDemand) → List DeclaredDemand → List DeclaredDemand → Result (Unit {0}) SubtypeError → Type 0
+HandsOn (Some found) before after (Ok done) = after ≡ before ++ found
+HandsOn None before after (Ok done) = ⊥
+HandsOn (Some found) before after (Err ShapeMismatch) = ⊥
+HandsOn None before after (Err ShapeMismatch) = after ≡ before
+HandsOn found before after (Err NoMemory) = Unit {0}

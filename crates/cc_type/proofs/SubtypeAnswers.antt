@@ -1,67 +1,34 @@
 -- What the calls of the comparison answer, in the words of its contract.
-use Rattle.std.proofs.Common.{◌≡◌, ℕ, Bool, map, List, [], ◌∷◌, ◌++◌, length, Some, Ok, Err, Result, IfOk, refl, sym}
+use Rattle.std.proofs.Common.{◌≡◌, ℕ, Bool, true, map, List, [], ◌∷◌, ◌++◌, Option, Some, None, Ok, Err, Result, IfOk, refl, sym}
 use Rattle.std.proofs.Common.{ap, ◌∙◌, subst}
+use Rattle.std.proofs.lemmas.List.{map-append}
 use Rattle.cc_base.specs.declared.place.Place.{Place}
 use Rattle.cc_core.specs.Shapes.{Shape, CapturingType}
 use Rattle.cc_core.specs.Contexts.{Context}
 use Rattle.cc_core.specs.Subtyping.{Subtypes, SubtypesType}
-use Rattle.cc_core.specs.WellFormed.{kinds_of, IsWellFormedShape, IsWellFormedType, IsWellFormedContext}
-use Rattle.cc_core.specs.Reading.{read_shape, read_type}
-use Rattle.cc_core.specs.Comparison.{same_shape, same_type}
-use Rattle.cc_core.proofs.KindFacts.{IsKinded-from, IsKindedType-from}
-use Rattle.cc_core.proofs.ReadingAndWriting.{read-still, read_type-still}
-use Rattle.cc_core.proofs.Sorts.{ShapeSort, TypeSort}
-use Rattle.cc_core.proofs.WellFormedness.{well_formed-bound_within}
-use Rattle.cc_core.proofs.SubcapturingContexts.{IsKindedContext-from}
 use Rattle.cc_sets.specs.Comparison.{Demand, demanded, Comparison, Unfinished, Mismatch, Matches, comparison}
 use Rattle.cc_sets.specs.Comparison.{type_comparison, and_then, AllHold}
 use Rattle.cc_sets.specs.Outcomes.{Placed}
 use Rattle.cc_sets.specs.Inference.{demand_at}
 use Rattle.cc_meta_typing.proofs.ComparisonLemmas.{demands_unique, then_parts, mismatch_not_below, subtyping_compares}
 use Rattle.cc_meta_typing.proofs.ComparisonLemmas.{subtyping_of_types_compares}
-use Rattle.cc_subty.specs.declared.comparing.SubtypeError.{SubtypeError}
-use Rattle.cc_subty.specs.declared.comparing.SubtypeError.TheVariants.{NoMemory, ShapeMismatch}
+use Rattle.cc_type.specs.declared.subtyping.SubtypeError.{SubtypeError}
+use Rattle.cc_type.specs.declared.subtyping.SubtypeError.TheVariants.{NoMemory, ShapeMismatch}
 use Rattle.cc_subty.specs.declared.demands.Demand.{Demand as DeclaredDemand}
-use Rattle.cc_subty.specs.Demands.{asked_of}
-use Rattle.cc_subty.specs.Comparing.{most_steps, asked_after, Compares, AsksWhat, IsNoMatch}
-use Rattle.cc_subty.specs.Walking.{Walk, Unended, Apart, Alongside, HandsOn, walked, type_walked}
-use Rattle.cc_subty.proofs.WalkAgreement.{Puts, listing_puts, listed_after, Agrees, agrees_as, some_inside}
-use Rattle.cc_subty.proofs.WalkAgreement.{types_agree, walk_agrees}
+use Rattle.cc_subty.specs.Demands.{demand_of, asked_of}
+use Rattle.cc_type.specs.Comparing.{most_steps, asked_after, Compares, AsksWhat, IsNoMatch, Demanded, HandsOn}
+use Rattle.cc_type.specs.KeptWalks.{Keeps}
 
--- at the root nothing is read otherwise than it stands
-pub shapes_walked : (puts : Puts) (steps : ℕ) (context : Context) (left right : Shape) (asked : List Placed)
-    → IsWellFormedContext context → IsWellFormedShape context left → IsWellFormedShape context right
-    → Agrees puts (same_shape left right) (comparison steps context left right) asked
-    (walked puts.asking steps context left right asked)
-shapes_walked puts steps context left right asked formed l r =
-    let n = length context in
-    let p = read-still n 0 left (well_formed-bound_within ShapeSort context left l) in
-    let q = read-still n 0 right (well_formed-bound_within ShapeSort context right r) in
-    agrees_as puts (same_shape (read_shape n left) (read_shape n right)) (same_shape left right)
-    (comparison steps context (read_shape n left) (read_shape n right)) (comparison steps context left right) asked
-    (walked puts.asking steps context left right asked)
-    (λ i. same_shape (p i) (q i)) (λ i. comparison steps context (p i) (q i))
-    (walk_agrees puts steps context left right asked (IsKindedContext-from context formed)
-    (IsKinded-from (kinds_of context) [] (read_shape n left) (subst (IsWellFormedShape context) (sym p) l))
-    (IsKinded-from (kinds_of context) [] (read_shape n right) (subst (IsWellFormedShape context) (sym q) r)))
+some_inside : {A : Type 0} (a b : A) → Some a ≡ Some b → a ≡ b
+some_inside a b e = cc
 
-pub types_walked_so : (puts : Puts) (steps : ℕ) (context : Context) (left right : CapturingType)
-    (asked : List Placed)
-    → IsWellFormedContext context → IsWellFormedType context left → IsWellFormedType context right
-    → Agrees puts (same_type left right) (type_comparison steps context left right) asked
-    (type_walked puts.asking steps context left right asked)
-types_walked_so puts steps context left right asked formed l r =
-    let n = length context in
-    let p = read_type-still n 0 left (well_formed-bound_within TypeSort context left l) in
-    let q = read_type-still n 0 right (well_formed-bound_within TypeSort context right r) in
-    agrees_as puts (same_type (read_type n left) (read_type n right)) (same_type left right)
-    (type_comparison steps context (read_type n left) (read_type n right))
-    (type_comparison steps context left right) asked (type_walked puts.asking steps context left right asked)
-    (λ i. same_type (p i) (q i)) (λ i. type_comparison steps context (p i) (q i))
-    (types_agree puts (comparison steps) (walked puts.asking steps) (walk_agrees puts steps) context left right asked
-    (IsKindedContext-from context formed)
-    (IsKindedType-from (kinds_of context) [] (read_type n left) (subst (IsWellFormedType context) (sym p) l)).0
-    (IsKindedType-from (kinds_of context) [] (read_type n right) (subst (IsWellFormedType context) (sym q) r)).0)
+-- what a walk that keeps the whole comes to
+pub whole_demanded : (at : Place) (c : Comparison) (was is : Bool) (before more : List DeclaredDemand) → before ≡ []
+    → Keeps true at c true was is (asked_of before) (asked_of more) → Demanded at c (Some more)
+whole_demanded at Unfinished was is before more none k = absurd k
+whole_demanded at Mismatch was is before more none k = cc
+whole_demanded at (Matches ds) was is before more none k =
+    ap (λ b. Some (asked_of b ++ map (demand_at at) ds)) (sym none) ∙ ap Some (sym k.1)
 
 -- what is handed on is what the comparison comes to
 after_found : (at : Place) (c : Comparison) (before asked : List Placed) → asked_after at [] c ≡ Some asked
@@ -70,17 +37,16 @@ after_found at Unfinished before asked e = cc
 after_found at Mismatch before asked e = cc
 after_found at (Matches ds) before asked e = ap (λ x. Some (before ++ x)) (some_inside (map (demand_at at) ds) asked e)
 
-pub handed_compares : (at : Place) (same : Bool) (c : Comparison) (w : Walk) (before after : List DeclaredDemand)
-    (result : Result (Unit {0}) SubtypeError)
-    → Agrees (listing_puts at) same c [] w → HandsOn w before after result → Compares at c before after result
-handed_compares at same c (Alongside one asked) before after (Ok done) h k = after_found at c
-    (asked_of before) asked (sym (listed_after at [] c) ∙ h.1) ∙ ap Some (sym k)
-handed_compares at same c Apart before after (Ok done) h k = absurd k
-handed_compares at same c Unended before after (Ok done) h k = absurd k
-handed_compares at same c Apart before after (Err ShapeMismatch) h k = (h.1, k)
-handed_compares at same c (Alongside one asked) before after (Err ShapeMismatch) h k = absurd k
-handed_compares at same c Unended before after (Err ShapeMismatch) h k = absurd k
-handed_compares at same c w before after (Err NoMemory) h k = tt
+pub handed_compares : (at : Place) (c : Comparison) (found : Option (List DeclaredDemand))
+    (before after : List DeclaredDemand) (result : Result (Unit {0}) SubtypeError)
+    → Demanded at c found → HandsOn found before after result → Compares at c before after result
+handed_compares at c (Some found) before after (Ok done) h k =
+    after_found at c (asked_of before) (asked_of found) h
+    ∙ ap Some (sym (ap asked_of k ∙ map-append demand_of before found))
+handed_compares at c None before after (Ok done) h k = absurd k
+handed_compares at c (Some found) before after (Err ShapeMismatch) h k = absurd k
+handed_compares at c None before after (Err ShapeMismatch) h k = (h, k)
+handed_compares at c found before after (Err NoMemory) h k = tt
 
 -- and what that says of subtyping
 after_parts : (at : Place) (c : Comparison) (before after : List Placed) → asked_after at before c ≡ Some after
