@@ -23,7 +23,7 @@ PATH = re.compile(r"^[\w.-]+(?:/[\w.-]+)*/?$")
 ENDINGS = (".antt", ".rt", ".md", ".sh", ".py", ".job", ".cert", ".edit", ".txt", ".c")
 # what is built, and what is in many crates
 BUILT = re.compile(r"(?:^|/)out/")
-OF_MANY = ("src/", "specs/", "proofs/", "must-fail/", "src/laws.rt", "Answers.antt", "Invariants.antt")
+OF_MANY = ("src/", "specs/", "proofs/", "must-fail/", "Answers.antt", "Invariants.antt")
 PLACEHOLDER = re.compile(r"(?:^|/)[A-Z_]{2,}(?:[/.]|$)")
 failures = []
 

@@ -28,7 +28,7 @@ NAME = r"[^\s(){}\[\],;.]+"
 # functions of which a law says, of each value, that they give it exactly where a relation holds of it: the function, the law
 # with the file that has both, and the file whose function has the law as its contract
 DETERMINED = {
-    ("crates/cc_meta_modules/specs/Readings.antt", "reading_of_text"): ("ATextHasOneReading", "crates/cc_meta_modules/src/module_laws.rt"),
+    ("crates/cc_verdicts/specs/Readings.antt", "reading_of_text"): ("ATextHasOneReading", "crates/cc_verdicts/src/module_laws.rt"),
 }
 OPENERS = r"(?:(?:pattern|opaque|abbrev|unfoldable|pub|data|record|mutual)\b ?)+"
 

@@ -9,8 +9,8 @@ use Rattle.cc_io.specs.declared.whole.WriteAll.TheVariants as errors
 use Rattle.cc_io.specs.Wholes.{WritesWhole}
 use Rattle.cc_job.specs.declared.job.Command.{Command}
 use Rattle.cc_judge.specs.Judgements.{Judgement}
-use Rattle.cc_meta_modules.specs.ModuleLaws.{NamesOfDevicesDiffer}
-use Rattle.cc_meta_modules.specs.PresentTexts.{Texts, ArePresent}
+use Rattle.cc_verdicts.specs.ModuleLaws.{NamesOfDevicesDiffer}
+use Rattle.cc_verdicts.specs.PresentTexts.{Texts, ArePresent}
 use Rattle.cc_mnf.specs.ElaboratedModules.{device_names}
 use Rattle.cc_replies.proofs.OutputLaws.{outputs_exist}
 use Rattle.cc_replies.proofs.PresentAfter.{texts_stay_present}

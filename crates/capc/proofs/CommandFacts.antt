@@ -10,10 +10,10 @@ use Rattle.cc_io.specs.declared.whole.WriteAll.{WriteAll}
 use Rattle.cc_io.specs.declared.whole.WriteAll.TheVariants as errors
 use Rattle.cc_io.specs.Wholes.{WritesWhole}
 use Rattle.cc_judge.specs.Judgements.{Judgement, judgements, stale_count, AreCurrent}
-use Rattle.cc_meta_modules.proofs.PresentLaws.{present_verdicts_exist}
-use Rattle.cc_meta_modules.specs.ModuleLaws.{NamesOfDevicesDiffer}
-use Rattle.cc_meta_modules.specs.ModuleVerdicts.{ModuleVerdict}
-use Rattle.cc_meta_modules.specs.PresentTexts.{Texts, ArePresent, AreVerdicts}
+use Rattle.cc_verdicts.proofs.PresentLaws.{present_verdicts_exist}
+use Rattle.cc_verdicts.specs.ModuleLaws.{NamesOfDevicesDiffer}
+use Rattle.cc_verdicts.specs.ModuleVerdicts.{ModuleVerdict}
+use Rattle.cc_verdicts.specs.PresentTexts.{Texts, ArePresent, AreVerdicts}
 use Rattle.cc_mnf.specs.ElaboratedModules.{device_names}
 use Rattle.cc_replies.proofs.ReplyLaws.{replies_exist}
 use Rattle.cc_replies.specs.Replies.{Replies, put_reply, texts_after}

@@ -7,10 +7,10 @@ use Rattle.std.proofs.lemmas.Bool.{cases_Bool}
 use Rattle.std.proofs.lemmas.List.{append-nil, length-map, length-reverse, reverse-append}
 use Rattle.std.proofs.lemmas.Slice.Eq.{bytes_eq-Decides}
 use Rattle.cc_core.specs.Programs.{Definition, Module}
-use Rattle.cc_meta_entries.specs.PresentEntries.{CheckedModule, program_module}
-use Rattle.cc_meta_modules.specs.ModuleVerdicts.{CheckedDefinition, in_program}
-use Rattle.cc_meta_runs.specs.Links.{count_definitions, position_among, position_in}
-use Rattle.cc_module_links.specs.Laws.{AreNumbered, modules_turned}
+use Rattle.cc_entry_laws.specs.PresentEntries.{CheckedModule, program_module}
+use Rattle.cc_verdicts.specs.ModuleVerdicts.{CheckedDefinition, in_program}
+use Rattle.cc_runs.specs.Links.{count_definitions, position_among, position_in}
+use Rattle.cc_link.specs.ModuleLinkLaws.{AreNumbered, modules_turned}
 use Rattle.capc.specs.Explaining.{names_in, definition_names}
 use Rattle.capc.proofs.ExplainingFacts.{first_part, second_part}
 

@@ -15,17 +15,17 @@ use Rattle.cc_explain.specs.Targets as numbered_targets
 use Rattle.cc_explain.specs.declared.target.Target.{Target as NumberedTarget}
 use Rattle.cc_explain.specs.declared.target.Target.TheVariants as numbers
 use Rattle.cc_graph.specs.Graph.{IsOrder}
-use Rattle.cc_meta_entries.specs.LinkOrders.{is_reached, is_accepted, is_accepted_module}
-use Rattle.cc_meta_entries.specs.PresentEntries.{CheckedModule, present_module}
-use Rattle.cc_meta_links.proofs.Linked.{elements_are_linked}
-use Rattle.cc_meta_links.proofs.Reached.{stands_in}
-use Rattle.cc_meta_links.specs.PresentLinks.{Target, DefinitionOf, DeviceAt, Universal, element_of, entry_in}
-use Rattle.cc_meta_modules.specs.ModuleLaws.{NamesOfDevicesDiffer}
-use Rattle.cc_meta_modules.specs.ModuleVerdicts.{ModuleVerdict}
-use Rattle.cc_meta_modules.specs.PresentTexts.{Texts, ArePresent, text_of, graph_of, AreVerdicts}
-use Rattle.cc_meta_modules.specs.StandingDefinitions.{Standing, standing_in}
-use Rattle.cc_module_links.specs.Laws.{numbered}
-use Rattle.cc_module_links.specs.ModuleLinks.{links_in}
+use Rattle.cc_entry_laws.specs.LinkOrders.{is_reached, is_accepted, is_accepted_module}
+use Rattle.cc_entry_laws.specs.PresentEntries.{CheckedModule, present_module}
+use Rattle.cc_entry_laws.proofs.Linked.{elements_are_linked}
+use Rattle.cc_entry_laws.proofs.Reached.{stands_in}
+use Rattle.cc_entry_laws.specs.PresentLinks.{Target, DefinitionOf, DeviceAt, Universal, element_of, entry_in}
+use Rattle.cc_verdicts.specs.ModuleLaws.{NamesOfDevicesDiffer}
+use Rattle.cc_verdicts.specs.ModuleVerdicts.{ModuleVerdict}
+use Rattle.cc_verdicts.specs.PresentTexts.{Texts, ArePresent, text_of, graph_of, AreVerdicts}
+use Rattle.cc_verdicts.specs.StandingDefinitions.{Standing, standing_in}
+use Rattle.cc_link.specs.ModuleLinkLaws.{numbered}
+use Rattle.cc_link.specs.ModuleLinks.{links_in}
 use Rattle.cc_replies.proofs.ExplainLaws.{same_target, same_target-true, same_target-itself}
 use Rattle.cc_replies.proofs.FirstChains.{first_chains_are_one, first_chains_exist}
 use Rattle.cc_replies.specs.ExplainReplies.{Explains, AreExplained}

@@ -6,12 +6,12 @@ use Rattle.cc_base.specs.declared.device.DeviceDecl.{DeviceDecl}
 use Rattle.cc_capture.proofs.Membership.{Member-list}
 use Rattle.cc_capture.specs.Sets.{Member}
 use Rattle.cc_capture.specs.declared.var.Elem.{Elem}
-use Rattle.cc_meta_links.proofs.Linked.{elements_are_linked}
-use Rattle.cc_meta_links.specs.PresentLinks.{Target, DefinitionOf, element_of, entry_in}
-use Rattle.cc_meta_modules.specs.ModuleLaws.{NamesOfDevicesDiffer}
-use Rattle.cc_meta_modules.specs.ModuleVerdicts.{ModuleVerdict}
-use Rattle.cc_meta_modules.specs.PresentTexts.{ArePresent, AreVerdicts}
-use Rattle.cc_meta_modules.specs.StandingDefinitions.{Standing, standing_in}
+use Rattle.cc_entry_laws.proofs.Linked.{elements_are_linked}
+use Rattle.cc_entry_laws.specs.PresentLinks.{Target, DefinitionOf, element_of, entry_in}
+use Rattle.cc_verdicts.specs.ModuleLaws.{NamesOfDevicesDiffer}
+use Rattle.cc_verdicts.specs.ModuleVerdicts.{ModuleVerdict}
+use Rattle.cc_verdicts.specs.PresentTexts.{ArePresent, AreVerdicts}
+use Rattle.cc_verdicts.specs.StandingDefinitions.{Standing, standing_in}
 use Rattle.cc_replies.specs.ExplainReplies.{Explains, AreExplained, IsExplainAnswer}
 use Rattle.cc_replies.specs.ReplyTexts.{Explanation, Explained}
 use Rattle.cc_replies.specs.Requests.{JobState}

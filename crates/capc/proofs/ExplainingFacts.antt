@@ -7,11 +7,11 @@ use Rattle.std.proofs.lemmas.List.{append-nil}
 use Rattle.std.proofs.lemmas.Simd.{map-map}
 use Rattle.std.proofs.lemmas.Slice.Eq.{bytes_eq-Decides}
 use Rattle.cc_capture.specs.declared.var.Elem.{Elem}
-use Rattle.cc_entry.specs.declared.modules.EntryModule.{EntryModule}
-use Rattle.cc_entry.specs.Modules.{module_of}
+use Rattle.cc_session.specs.declared.modules.EntryModule.{EntryModule}
+use Rattle.cc_session.specs.Modules.{module_of}
 use Rattle.cc_explain.specs.Entries.{Entries}
-use Rattle.cc_meta_entries.specs.PresentEntries.{CheckedModule}
-use Rattle.cc_meta_modules.specs.ModuleVerdicts.{CheckedDefinition}
+use Rattle.cc_entry_laws.specs.PresentEntries.{CheckedModule}
+use Rattle.cc_verdicts.specs.ModuleVerdicts.{CheckedDefinition}
 use Rattle.cc_module.specs.declared.judgement.CheckedDef.{CheckedDef}
 use Rattle.cc_module.specs.Judgements.{checked_definition_of}
 use Rattle.cc_replies.specs.declared.chains.FoundChain.{FoundChain}

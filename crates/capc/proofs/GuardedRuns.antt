@@ -7,15 +7,15 @@ use Rattle.cc_base.specs.declared.code.Code.TheVariants.{E32, E33, E34, E35, E37
 use Rattle.cc_base.specs.declared.device.DeviceDecl.{DeviceDecl}
 use Rattle.cc_device.specs.Declarations.{declared_devices}
 use Rattle.cc_device.specs.Events.{Event, Operated}
-use Rattle.cc_meta_entries.specs.PresentEntries.{CheckedEntry, program_entry, takes_unit, started_or, started_by, started_in, IsEntryOf}
-use Rattle.cc_meta_files.specs.PresentFiles.{IsPresentEntry}
-use Rattle.cc_meta_modules.specs.ModuleLaws.{NamesOfDevicesDiffer}
-use Rattle.cc_meta_modules.specs.ModuleVerdicts.{CheckedDefinition, ModuleVerdict, IsAccepted, IsRefused}
-use Rattle.cc_meta_modules.specs.PresentTexts.{Texts, ArePresent, text_of, definition_named, AreVerdicts}
-use Rattle.cc_meta_runs.specs.Interleavings.{state_of}
-use Rattle.cc_meta_runs.specs.Links.{program_start}
-use Rattle.cc_meta_runs.specs.Runs.{Run, Ending, none}
-use Rattle.cc_meta_runs.specs.SafeRuns.{IsListed, IsAmong, RunsSafely}
+use Rattle.cc_entry_laws.specs.PresentEntries.{CheckedEntry, program_entry, takes_unit, started_or, started_by, started_in, IsEntryOf}
+use Rattle.cc_entry_laws.specs.PresentFiles.{IsPresentEntry}
+use Rattle.cc_verdicts.specs.ModuleLaws.{NamesOfDevicesDiffer}
+use Rattle.cc_verdicts.specs.ModuleVerdicts.{CheckedDefinition, ModuleVerdict, IsAccepted, IsRefused}
+use Rattle.cc_verdicts.specs.PresentTexts.{Texts, ArePresent, text_of, definition_named, AreVerdicts}
+use Rattle.cc_runs.specs.Interleavings.{state_of}
+use Rattle.cc_runs.specs.Links.{program_start}
+use Rattle.cc_runs.specs.Runs.{Run, Ending, none}
+use Rattle.cc_runs.specs.SafeRuns.{IsListed, IsAmong, RunsSafely}
 use Rattle.cc_mnf.specs.ElaboratedModules.{device_names}
 use Rattle.cc_policy.specs.declared.policy.Rule.{Rule}
 use Rattle.cc_replies.proofs.PolicyLaws.{permission_is_tested}

@@ -20,29 +20,29 @@ use Rattle.cc_explain.specs.declared.target.Target.{Target as NumberedTarget}
 use Rattle.cc_explain.specs.declared.target.Target.TheVariants as numbers
 use Rattle.cc_graph.specs.Graph.{IsOrder, imported as imported_from}
 use Rattle.cc_grammar.specs.Syntax.{ImportSyntax}
-use Rattle.cc_meta_entries.proofs.AcceptedModules.{reach_accepted, linked_orders}
-use Rattle.cc_meta_entries.proofs.EntryLinks.{AllPresent, imports_are_there, of_each}
-use Rattle.cc_meta_entries.proofs.EntryModules.{IsModule, accepted_module, all_turned, its_imports}
-use Rattle.cc_meta_entries.proofs.EntryNames.{ordered_distinct}
-use Rattle.cc_meta_entries.proofs.LinkedModules.{linked_modules}
-use Rattle.cc_meta_entries.proofs.PlainEntries.{present_module as plain_module}
-use Rattle.cc_meta_entries.specs.LinkOrders.{is_reached, is_accepted_module, are_linked_in_order}
-use Rattle.cc_meta_entries.specs.PresentEntries.{CheckedModule, import_of, program_module, definitions_of, present_module}
-use Rattle.cc_meta_links.proofs.Positions.{from_given}
-use Rattle.cc_meta_links.proofs.Reached.{StandsIn, found_in}
-use Rattle.cc_meta_links.specs.PresentLinks.{Target, DefinitionOf, DeviceAt, Universal, device_targets, with_imports, with_names, earlier_targets, standing_targets, target_of, standing_entry, entry_or_none, entry_in}
-use Rattle.cc_meta_modules.proofs.Asking.{map-reverse}
-use Rattle.cc_meta_modules.proofs.Schedules.{lookup_graph}
-use Rattle.cc_meta_modules.specs.ModuleLaws.{NamesOfDevicesDiffer}
-use Rattle.cc_meta_modules.specs.ModuleVerdicts.{CheckedDefinition, ModuleVerdict, IsAccepted}
-use Rattle.cc_meta_modules.specs.PresentTexts.{Texts, ArePresent, text_of, graph_of, findings_for, AreVerdicts}
-use Rattle.cc_meta_modules.specs.Readings.{imports_of}
-use Rattle.cc_meta_modules.specs.StandingDefinitions.{Standing, standing_in}
-use Rattle.cc_meta_runs.proofs.Links.{definition_found}
-use Rattle.cc_meta_runs.specs.Links.{count_definitions, position_in}
-use Rattle.cc_module_links.proofs.NumberedEntries.{entries_are_numbered}
-use Rattle.cc_module_links.specs.Laws.{numbered, AreNumbered, modules_turned}
-use Rattle.cc_module_links.specs.ModuleLinks.{links_in}
+use Rattle.cc_entry_laws.proofs.AcceptedModules.{reach_accepted, linked_orders}
+use Rattle.cc_entry_laws.proofs.EntryLinks.{AllPresent, imports_are_there, of_each}
+use Rattle.cc_entry_laws.proofs.EntryModules.{IsModule, accepted_module, all_turned, its_imports}
+use Rattle.cc_entry_laws.proofs.EntryNames.{ordered_distinct}
+use Rattle.cc_entry_laws.proofs.LinkedModules.{linked_modules}
+use Rattle.cc_entry_laws.proofs.PlainEntries.{present_module as plain_module}
+use Rattle.cc_entry_laws.specs.LinkOrders.{is_reached, is_accepted_module, are_linked_in_order}
+use Rattle.cc_entry_laws.specs.PresentEntries.{CheckedModule, import_of, program_module, definitions_of, present_module}
+use Rattle.cc_entry_laws.proofs.Positions.{from_given}
+use Rattle.cc_entry_laws.proofs.Reached.{StandsIn, found_in}
+use Rattle.cc_entry_laws.specs.PresentLinks.{Target, DefinitionOf, DeviceAt, Universal, device_targets, with_imports, with_names, earlier_targets, standing_targets, target_of, standing_entry, entry_or_none, entry_in}
+use Rattle.cc_verdicts.proofs.Asking.{map-reverse}
+use Rattle.cc_verdicts.proofs.Schedules.{lookup_graph}
+use Rattle.cc_verdicts.specs.ModuleLaws.{NamesOfDevicesDiffer}
+use Rattle.cc_verdicts.specs.ModuleVerdicts.{CheckedDefinition, ModuleVerdict, IsAccepted}
+use Rattle.cc_verdicts.specs.PresentTexts.{Texts, ArePresent, text_of, graph_of, findings_for, AreVerdicts}
+use Rattle.cc_verdicts.specs.Readings.{imports_of}
+use Rattle.cc_verdicts.specs.StandingDefinitions.{Standing, standing_in}
+use Rattle.cc_runs.proofs.Links.{definition_found}
+use Rattle.cc_runs.specs.Links.{count_definitions, position_in}
+use Rattle.cc_link.proofs.NumberedEntries.{entries_are_numbered}
+use Rattle.cc_link.specs.ModuleLinkLaws.{numbered, AreNumbered, modules_turned}
+use Rattle.cc_link.specs.ModuleLinks.{links_in}
 use Rattle.capc.proofs.DefinitionNumbers.{PlacedAmong, PlacedIn, found_in_modules, HaveDifferentNames, placed_is_found, before_numbered}
 use Rattle.capc.proofs.RecursiveTypes.{own_set_is_over_devices}
 

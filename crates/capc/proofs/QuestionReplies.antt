@@ -5,20 +5,20 @@ use Rattle.std.proofs.lemmas.Result.{IfOk-weaker}
 use Rattle.cc_base.specs.declared.code.Code.{Code}
 use Rattle.cc_base.specs.declared.code.Code.TheVariants.{E36}
 use Rattle.cc_base.specs.declared.device.DeviceDecl.{DeviceDecl}
-use Rattle.cc_certificate.specs.DefinitionCertificates.{definition_certificate_lines}
+use Rattle.cc_certificate_writing.specs.DefinitionCertificates.{definition_certificate_lines}
 use Rattle.cc_core.specs.Contexts.{Context}
-use Rattle.cc_entry.specs.declared.entry.Entry.{Entry as DeclaredEntry}
-use Rattle.cc_entry.specs.Entries.{entry_of}
+use Rattle.cc_session.specs.declared.entry.Entry.{Entry as DeclaredEntry}
+use Rattle.cc_session.specs.Entries.{entry_of}
 use Rattle.cc_io.specs.declared.whole.WriteAll.{WriteAll}
 use Rattle.cc_io.specs.Wholes.{WritesWhole}
-use Rattle.cc_meta_entries.specs.PresentEntries.{started_in}
-use Rattle.cc_meta_modules.specs.ModuleVerdicts.{ModuleVerdict}
-use Rattle.cc_meta_modules.specs.PresentTexts.{Texts, AreVerdicts}
-use Rattle.cc_meta_modules.specs.StandingDefinitions.{Standing, standing_context, standing_names, standing_in}
+use Rattle.cc_entry_laws.specs.PresentEntries.{started_in}
+use Rattle.cc_verdicts.specs.ModuleVerdicts.{ModuleVerdict}
+use Rattle.cc_verdicts.specs.PresentTexts.{Texts, AreVerdicts}
+use Rattle.cc_verdicts.specs.StandingDefinitions.{Standing, standing_context, standing_names, standing_in}
 use Rattle.cc_mnf.specs.ElaboratedModules.{device_names}
 use Rattle.cc_replies.specs.DerivationTexts.{shown_derivation}
 use Rattle.cc_replies.specs.Replies.{Replies, derivation_size, derivation_told, derivation_reply}
-use Rattle.cc_meta_entries.specs.PresentEntries.{CheckedEntry}
+use Rattle.cc_entry_laws.specs.PresentEntries.{CheckedEntry}
 use Rattle.cc_replies.specs.ReplyTexts.{Reply, RunRefused, TasksRefused, Audited, AuditRefused, GuardRefused, ReplayRefused, Explained, ExplainRefused, Derived, DerivationRefused, reply_text, is_refusal, is_unfinished}
 use Rattle.cc_policy.specs.declared.policy.Rule.{Rule}
 use Rattle.cc_replies.specs.PolicyReplies.{decisions, audit_told, guard_told}
@@ -26,7 +26,7 @@ use Rattle.cc_replies.specs.ExplainReplies.{IsExplainAnswer}
 use Rattle.cc_replies.specs.ReplayReplies.{replay_told}
 use Rattle.cc_replies.specs.Requests.{Request, ShowDerivation, RunDefinition, RunTasks, AuditDefinition, GuardDefinition, ExplainDefinition, ReplayDefinition, Ask, holding_under}
 use Rattle.cc_replies.specs.RunReplies.{declared_run, run_told, tasks_told, first_unstarted, HaveEntries, IsEntryAnswer, IsTasksAnswer}
-use Rattle.cc_sets.specs.Verdicts.{Accepted}
+use Rattle.cc_checking.specs.Verdicts.{Accepted}
 use Rattle.cc_session.specs.EntryAnswers.{IsAnswered}
 use Rattle.capc.specs.Carried.{IsReplied}
 use Rattle.capc.specs.Explaining.{TellsExplanations}

@@ -10,20 +10,20 @@ use Rattle.cc_core.specs.Shapes.{CapturingType}
 use Rattle.cc_core.specs.Substitution.{filled_type}
 use Rattle.cc_core.specs.Terms.{Note, Absent, Written, Own}
 use Rattle.cc_mnf.specs.ElaboratedModules.{CoreDefinition}
-use Rattle.cc_meta_checking.proofs.CheckedDefinitions.{accepted_parts, accepted_sound}
-use Rattle.cc_meta_checking.proofs.FoundFindings.{then_came, finds_came}
-use Rattle.cc_meta_checking.proofs.LeastFillings.{filled-still}
-use Rattle.cc_meta_links.proofs.Reached.{StandsIn, globals_of, checked_there, signed_over}
-use Rattle.cc_meta_modules.proofs.JudgedDefinitions.{after_parts, accepted_parts as definitions_parts}
-use Rattle.cc_meta_modules.specs.ModuleLaws.{NamesOfDevicesDiffer}
-use Rattle.cc_meta_modules.specs.ModuleVerdicts.{Finding, CheckedDefinition, ModuleVerdict, IsAccepted, declared_context, with_findings, to_be_checked, checked_as, AreJudged, no_more, refused_first, accepted_first, HasModuleVerdict, is_no_module, import_is_missing, is_not_elaborated, is_judged}
-use Rattle.cc_meta_modules.specs.PresentTexts.{Texts, ArePresent, AreVerdicts, findings_for}
-use Rattle.cc_meta_modules.specs.StandingDefinitions.{Standing}
-use Rattle.cc_sets.specs.Fillings.{Filling}
-use Rattle.cc_sets.specs.Inference.{limited}
-use Rattle.cc_sets.specs.Outcomes.{Placed, Found}
-use Rattle.cc_sets.specs.Verdicts.{Definition, Checking, Accepted, recursive_checked, plain_checked, signature_under}
-use Rattle.cc_sets.specs.Verdicts as definitions
+use Rattle.cc_checking_laws.proofs.CheckedDefinitions.{accepted_parts, accepted_sound}
+use Rattle.cc_checking_laws.proofs.FoundFindings.{then_came, finds_came}
+use Rattle.cc_checking_laws.proofs.LeastFillings.{filled-still}
+use Rattle.cc_entry_laws.proofs.Reached.{StandsIn, globals_of, checked_there, signed_over}
+use Rattle.cc_verdicts.proofs.JudgedDefinitions.{after_parts, accepted_parts as definitions_parts}
+use Rattle.cc_verdicts.specs.ModuleLaws.{NamesOfDevicesDiffer}
+use Rattle.cc_verdicts.specs.ModuleVerdicts.{Finding, CheckedDefinition, ModuleVerdict, IsAccepted, declared_context, with_findings, to_be_checked, checked_as, AreJudged, no_more, refused_first, accepted_first, HasModuleVerdict, is_no_module, import_is_missing, is_not_elaborated, is_judged}
+use Rattle.cc_verdicts.specs.PresentTexts.{Texts, ArePresent, AreVerdicts, findings_for}
+use Rattle.cc_verdicts.specs.StandingDefinitions.{Standing}
+use Rattle.cc_checking.specs.Fillings.{Filling}
+use Rattle.cc_checking.specs.Inference.{limited}
+use Rattle.cc_checking.specs.Outcomes.{Placed, Found}
+use Rattle.cc_checking.specs.Verdicts.{Definition, Checking, Accepted, recursive_checked, plain_checked, signature_under}
+use Rattle.cc_checking.specs.Verdicts as definitions
 
 same_type : (a b : CapturingType) → Some a ≡ Some b → a ≡ b
 same_type a b e = cc

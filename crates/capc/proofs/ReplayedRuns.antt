@@ -18,26 +18,26 @@ use Rattle.cc_device.specs.Declarations.{declared_state, declared_devices}
 use Rattle.cc_device.specs.Events.{Event}
 use Rattle.cc_job.specs.Jobs.{Item, Declares, Commands, IsKind, AreItems, IsJob}
 use Rattle.cc_job.specs.declared.job.Job.{Job}
-use Rattle.cc_meta_certificates.specs.DefinitionLaws.{HasWrittenLiterals}
-use Rattle.cc_meta_entries.proofs.AcceptedEntries.{present_entries, reached_test}
-use Rattle.cc_meta_entries.proofs.AcceptedModules.{reach_accepted}
-use Rattle.cc_meta_entries.proofs.EntryModules.{IsModule, accepted_module, all_turned, all_over}
-use Rattle.cc_meta_entries.proofs.StartedDefinitions.{starting_module}
-use Rattle.cc_meta_entries.specs.LinkOrders.{is_accepted_module}
-use Rattle.cc_meta_entries.specs.PresentEntries.{CheckedModule, CheckedEntry, definitions_of, present_module, program_module, program_entry, started_in, IsEntryOf}
-use Rattle.cc_meta_files.proofs.SoundFiles.{present_files_are_sound}
-use Rattle.cc_meta_limits.proofs.CertifiedModules.{literals_of_definitions_written}
-use Rattle.cc_meta_limits.proofs.JobDevices.{job_devices_named}
-use Rattle.cc_meta_limits.proofs.LineFeeds.{names_of_one_line, literals_of_one_line}
-use Rattle.cc_meta_limits.specs.ModuleCertificates.{AreNamed}
-use Rattle.cc_meta_modules.specs.ModuleLaws.{NamesOfDevicesDiffer}
-use Rattle.cc_meta_modules.specs.ModuleVerdicts.{CheckedDefinition, ModuleVerdict, IsAccepted, in_program}
-use Rattle.cc_meta_modules.specs.PresentTexts.{Texts, ArePresent, graph_of, findings_for, AreVerdicts}
-use Rattle.cc_meta_runs.proofs.LinkedPrograms.{program_starts}
-use Rattle.cc_meta_runs.specs.Interleavings.{state_of}
-use Rattle.cc_meta_runs.specs.Links.{linked_cell, linked_position, device_cells, linked_store, program_start}
-use Rattle.cc_meta_runs.specs.Runs.{Ending}
-use Rattle.cc_meta_runs.specs.SoundRuns.{IsSoundState}
+use Rattle.cc_certificate_laws.specs.DefinitionLaws.{HasWrittenLiterals}
+use Rattle.cc_entry_laws.proofs.AcceptedEntries.{present_entries, reached_test}
+use Rattle.cc_entry_laws.proofs.AcceptedModules.{reach_accepted}
+use Rattle.cc_entry_laws.proofs.EntryModules.{IsModule, accepted_module, all_turned, all_over}
+use Rattle.cc_entry_laws.proofs.StartedDefinitions.{starting_module}
+use Rattle.cc_entry_laws.specs.LinkOrders.{is_accepted_module}
+use Rattle.cc_entry_laws.specs.PresentEntries.{CheckedModule, CheckedEntry, definitions_of, present_module, program_module, program_entry, started_in, IsEntryOf}
+use Rattle.cc_entry_laws.proofs.SoundFiles.{present_files_are_sound}
+use Rattle.cc_certificate_laws.proofs.CertifiedModules.{literals_of_definitions_written}
+use Rattle.cc_certificate_laws.proofs.JobDevices.{job_devices_named}
+use Rattle.cc_certificate_laws.proofs.LineFeeds.{names_of_one_line, literals_of_one_line}
+use Rattle.cc_certificate_laws.specs.ModuleCertificates.{AreNamed}
+use Rattle.cc_verdicts.specs.ModuleLaws.{NamesOfDevicesDiffer}
+use Rattle.cc_verdicts.specs.ModuleVerdicts.{CheckedDefinition, ModuleVerdict, IsAccepted, in_program}
+use Rattle.cc_verdicts.specs.PresentTexts.{Texts, ArePresent, graph_of, findings_for, AreVerdicts}
+use Rattle.cc_runs.proofs.LinkedPrograms.{program_starts}
+use Rattle.cc_runs.specs.Interleavings.{state_of}
+use Rattle.cc_runs.specs.Links.{linked_cell, linked_position, device_cells, linked_store, program_start}
+use Rattle.cc_runs.specs.Runs.{Ending}
+use Rattle.cc_runs.specs.SoundRuns.{IsSoundState}
 use Rattle.cc_mnf.specs.ElaboratedModules.{device_names}
 use Rattle.cc_replay.proofs.LineSteps.{acted_literals}
 use Rattle.cc_replay.proofs.SafeTraces.{agreeing_traces_are_safe, agreeing_traces_keep_the_authority}

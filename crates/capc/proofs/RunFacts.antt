@@ -6,18 +6,18 @@ use Rattle.cc_base.specs.declared.device.DeviceDecl.{DeviceDecl}
 use Rattle.cc_base.specs.declared.literal.Base.{Base}
 use Rattle.cc_device.specs.Declarations.{declared_devices}
 use Rattle.cc_device.specs.Devices.{Devices}
-use Rattle.cc_entry.specs.declared.entry.Entry.{Entry as DeclaredEntry}
-use Rattle.cc_entry.specs.Entries.{entry_of}
+use Rattle.cc_session.specs.declared.entry.Entry.{Entry as DeclaredEntry}
+use Rattle.cc_session.specs.Entries.{entry_of}
 use Rattle.cc_machine.proofs.StandingLemmas.{fits_back}
-use Rattle.cc_meta_entries.specs.PresentEntries.{program_entry}
-use Rattle.cc_meta_runs.specs.Alike.{erased_configuration}
-use Rattle.cc_meta_runs.specs.Interleavings.{Report, interleave, report_of}
-use Rattle.cc_meta_runs.specs.SafeRuns.{HaveShapes}
-use Rattle.cc_meta_runs.specs.Links.{program_start}
-use Rattle.cc_meta_runs.specs.Machine.{Configuration}
-use Rattle.cc_meta_runs.specs.SoundRuns.{HasShapesOfCells}
-use Rattle.cc_program.specs.declared.program.Program.{Program}
-use Rattle.cc_program.specs.Programs.{shapes_of, start_of}
+use Rattle.cc_entry_laws.specs.PresentEntries.{program_entry}
+use Rattle.cc_runs.specs.Alike.{erased_configuration}
+use Rattle.cc_runs.specs.Interleavings.{Report, interleave, report_of}
+use Rattle.cc_runs.specs.SafeRuns.{HaveShapes}
+use Rattle.cc_runs.specs.Links.{program_start}
+use Rattle.cc_runs.specs.Machine.{Configuration}
+use Rattle.cc_runs.specs.SoundRuns.{HasShapesOfCells}
+use Rattle.cc_machine.specs.declared.program.Program.{Program}
+use Rattle.cc_machine.specs.Programs.{shapes_of, start_of}
 use Rattle.cc_replies.specs.ReplyTexts.{TasksRan}
 use Rattle.cc_replies.specs.RunReplies.{tasks_told}
 use Rattle.cc_tasks.specs.Reports.{world_in}

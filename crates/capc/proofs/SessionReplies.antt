@@ -12,13 +12,13 @@ use Rattle.cc_base.specs.declared.code.Code.{Code}
 use Rattle.cc_base.specs.declared.code.Code.TheVariants.{E30, E31, E32, E34}
 use Rattle.cc_base.specs.Names.{compare_names}
 use Rattle.cc_judge.specs.Judgements.{Judgement, verdicts_of, judgement_in, judgements}
-use Rattle.cc_meta_modules.specs.ModuleVerdicts.{CheckedDefinition, ModuleVerdict, IsAccepted, IsRefused}
-use Rattle.cc_meta_modules.specs.PresentTexts.{Texts, text_of, others_present, longest_text, most_modules}
+use Rattle.cc_verdicts.specs.ModuleVerdicts.{CheckedDefinition, ModuleVerdict, IsAccepted, IsRefused}
+use Rattle.cc_verdicts.specs.PresentTexts.{Texts, text_of, others_present, longest_text, most_modules}
 use Rattle.cc_replies.specs.Replies.{put_reply, drop_reply, check_reply, definitions_reply, signature_reply, texts_after}
 use Rattle.cc_replies.specs.Requests.{PutText}
 use Rattle.cc_replies.specs.ReplyTexts.{Reply, PutDone, PutRefused, DropDone, DropRefused, Verdicts, Signatures, SignaturesRefused, is_refusal}
 use Rattle.cc_session.specs.declared.refusals.PutRefused.{PutRefused as PutRefusal}
-use Rattle.cc_session.specs.Signatures.{verdict_named, definitions_of, definitions_or, signature_of}
+use Rattle.cc_session.specs.Signatures.{verdict_named, shown_definitions, definitions_or, signature_of}
 
 module _ (texts : Texts) (name text : List ℕ) where
   not_long : (longest_text < length text → ⊥) → nat_lt longest_text (length text) ≡ false
@@ -115,7 +115,7 @@ abbrev pub signatures_or : List ℕ → Result (List CheckedDefinition) Code →
 signatures_or name (Ok definitions) = Signatures name definitions
 signatures_or name (Err code) = SignaturesRefused name code
 
-definitions_are : (name : List ℕ) (verdict : ModuleVerdict) → signatures_or name (definitions_of verdict) ≡ definitions_reply name verdict
+definitions_are : (name : List ℕ) (verdict : ModuleVerdict) → signatures_or name (shown_definitions verdict) ≡ definitions_reply name verdict
 definitions_are name (IsAccepted definitions) = refl
 definitions_are name (IsRefused code at) = refl
 

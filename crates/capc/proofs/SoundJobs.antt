@@ -5,20 +5,20 @@ use Rattle.cc_base.specs.declared.code.Code.{Code}
 use Rattle.cc_base.specs.declared.device.DeviceDecl.{DeviceDecl}
 use Rattle.cc_device.specs.Declarations.{declared_devices}
 use Rattle.cc_device.specs.Events.{Event}
-use Rattle.cc_meta_entries.specs.PresentEntries.{CheckedEntry, program_entry, started_in}
-use Rattle.cc_meta_files.specs.PresentFiles.{IsPresentEntry, AreSoundFiles}
-use Rattle.cc_meta_files.proofs.SoundFiles.{present_files_are_sound}
-use Rattle.cc_meta_modules.specs.ModuleLaws.{NamesOfDevicesDiffer}
-use Rattle.cc_meta_modules.specs.ModuleVerdicts.{CheckedDefinition, ModuleVerdict}
-use Rattle.cc_meta_modules.specs.PresentTexts.{Texts, ArePresent, AreVerdicts}
-use Rattle.cc_meta_runs.specs.Interleavings.{Report, state_of}
-use Rattle.cc_meta_runs.specs.SafeRuns.{RunsSafely}
-use Rattle.cc_meta_runs.specs.Runs.{Ending}
+use Rattle.cc_entry_laws.specs.PresentEntries.{CheckedEntry, program_entry, started_in}
+use Rattle.cc_entry_laws.specs.PresentFiles.{IsPresentEntry, AreSoundFiles}
+use Rattle.cc_entry_laws.proofs.SoundFiles.{present_files_are_sound}
+use Rattle.cc_verdicts.specs.ModuleLaws.{NamesOfDevicesDiffer}
+use Rattle.cc_verdicts.specs.ModuleVerdicts.{CheckedDefinition, ModuleVerdict}
+use Rattle.cc_verdicts.specs.PresentTexts.{Texts, ArePresent, AreVerdicts}
+use Rattle.cc_runs.specs.Interleavings.{Report, state_of}
+use Rattle.cc_runs.specs.SafeRuns.{RunsSafely}
+use Rattle.cc_runs.specs.Runs.{Ending}
 use Rattle.cc_replies.specs.Outputs.{after_all}
 use Rattle.cc_replies.specs.Replies.{after}
 use Rattle.cc_replies.specs.ReplyTexts.{Reply, Ran, TasksRan}
 use Rattle.cc_replies.specs.Requests.{Request, JobState, no_module}
-use Rattle.cc_meta_runs.specs.Links.{program_start}
+use Rattle.cc_runs.specs.Links.{program_start}
 use Rattle.cc_replies.specs.RunReplies.{declared_run, run_told, IsRunAnswer, Unstarted, first_unstarted, HaveEntries, IsTasksAnswer}
 use Rattle.cc_replies.proofs.PresentAfter.{texts_stay_present}
 use Rattle.capc.specs.Requests.{request_of}

@@ -6,11 +6,11 @@ use Rattle.cc_base.specs.declared.code.Code.{Code}
 use Rattle.cc_base.specs.declared.device.DeviceDecl.{DeviceDecl}
 use Rattle.cc_base.specs.declared.literal.Base.{Base}
 use Rattle.cc_device.specs.Declarations.{declared_bases}
-use Rattle.cc_entry.specs.declared.entry.Entry.{Entry as DeclaredEntry}
-use Rattle.cc_entry.specs.Entries.{entry_of}
-use Rattle.cc_meta_entries.specs.PresentEntries.{CheckedEntry, started_in}
-use Rattle.cc_meta_modules.specs.ModuleVerdicts.{CheckedDefinition, ModuleVerdict}
-use Rattle.cc_meta_modules.specs.PresentTexts.{Texts}
+use Rattle.cc_session.specs.declared.entry.Entry.{Entry as DeclaredEntry}
+use Rattle.cc_session.specs.Entries.{entry_of}
+use Rattle.cc_entry_laws.specs.PresentEntries.{CheckedEntry, started_in}
+use Rattle.cc_verdicts.specs.ModuleVerdicts.{CheckedDefinition, ModuleVerdict}
+use Rattle.cc_verdicts.specs.PresentTexts.{Texts}
 use Rattle.capc.proofs.Answering.{drop_next}
 use Rattle.cc_replies.specs.RunReplies.{Unstarted, unstarted_or, first_unstarted, HasEntry, HaveEntries}
 

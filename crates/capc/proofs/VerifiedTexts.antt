@@ -5,14 +5,14 @@ use Rattle.std.proofs.lemmas.Bool.Decides.{nat_tests}
 use Rattle.cc_base.specs.declared.code.Code.{Code}
 use Rattle.cc_base.specs.declared.code.Code.TheVariants.{E36}
 use Rattle.cc_base.specs.declared.device.DeviceDecl.{DeviceDecl}
-use Rattle.cc_certificate.specs.Certificates.{lines_text}
-use Rattle.cc_certificate.specs.DefinitionCertificates.{definition_certificate_lines}
+use Rattle.cc_certificate_writing.specs.Certificates.{lines_text}
+use Rattle.cc_certificate_writing.specs.DefinitionCertificates.{definition_certificate_lines}
 use Rattle.cc_certificate_judging.specs.Answers.{Found, ProvesType, IsFound}
-use Rattle.cc_meta_limits.specs.ModuleCertificates.{AreNamed}
-use Rattle.cc_meta_limits.proofs.FoundSignatures.{named_prove}
-use Rattle.cc_meta_modules.specs.ModuleVerdicts.{ModuleVerdict}
-use Rattle.cc_meta_modules.specs.PresentTexts.{ArePresent, AreVerdicts}
-use Rattle.cc_meta_modules.specs.StandingDefinitions.{Standing, standing_context, standing_names, standing_in}
+use Rattle.cc_certificate_laws.specs.ModuleCertificates.{AreNamed}
+use Rattle.cc_certificate_laws.proofs.FoundSignatures.{named_prove}
+use Rattle.cc_verdicts.specs.ModuleVerdicts.{ModuleVerdict}
+use Rattle.cc_verdicts.specs.PresentTexts.{ArePresent, AreVerdicts}
+use Rattle.cc_verdicts.specs.StandingDefinitions.{Standing, standing_context, standing_names, standing_in}
 use Rattle.cc_replies.specs.Replies.{Replies, derivation_size, derivation_reply}
 use Rattle.cc_replies.specs.ReplyTexts.{Reply, Verified, Derived, DerivationRefused}
 use Rattle.cc_replies.specs.Requests.{JobState, VerifyText}

@@ -11,11 +11,11 @@ use Rattle.cc_explain.specs.Chains.{IsChain, IsFirstShortest}
 use Rattle.cc_explain.specs.Entries.{Entries, targets_of}
 use Rattle.cc_explain.specs.declared.target.Target.{Target}
 use Rattle.cc_explain.specs.declared.target.Target.TheVariants as targets
-use Rattle.cc_meta_entries.specs.PresentEntries.{CheckedModule}
-use Rattle.cc_meta_links.specs.PresentLinks.{DefinitionOf, entry_in}
-use Rattle.cc_meta_modules.specs.ModuleVerdicts.{ModuleVerdict}
-use Rattle.cc_meta_modules.specs.PresentTexts.{Texts, AreVerdicts}
-use Rattle.cc_module_links.specs.ModuleLinks.{links_in}
+use Rattle.cc_entry_laws.specs.PresentEntries.{CheckedModule}
+use Rattle.cc_entry_laws.specs.PresentLinks.{DefinitionOf, entry_in}
+use Rattle.cc_verdicts.specs.ModuleVerdicts.{ModuleVerdict}
+use Rattle.cc_verdicts.specs.PresentTexts.{Texts, AreVerdicts}
+use Rattle.cc_link.specs.ModuleLinks.{links_in}
 use Rattle.cc_replies.specs.ExplainReplies.{AreExplained}
 use Rattle.cc_replies.specs.Explanations.{explanation_named}
 use Rattle.cc_replies.specs.ReplyTexts.{Explanation, Explained, reply_text}

@@ -8,14 +8,14 @@ use Rattle.cc_base.specs.declared.literal.Op.{Op}
 use Rattle.cc_base.specs.Literals.{Literal}
 use Rattle.cc_device.specs.Declarations.{declared_devices}
 use Rattle.cc_device.specs.Events.{Event, Operated}
-use Rattle.cc_meta_entries.specs.PresentEntries.{CheckedEntry, program_entry}
-use Rattle.cc_meta_files.specs.PresentFiles.{IsPresentEntry}
-use Rattle.cc_meta_modules.specs.ModuleLaws.{NamesOfDevicesDiffer}
-use Rattle.cc_meta_modules.specs.PresentTexts.{ArePresent}
-use Rattle.cc_meta_runs.specs.Interleavings.{state_of}
-use Rattle.cc_meta_runs.specs.Links.{program_start}
-use Rattle.cc_meta_runs.specs.Runs.{State, Ending, Leads}
-use Rattle.cc_meta_runs.specs.SafeRuns.{IsAmong}
+use Rattle.cc_entry_laws.specs.PresentEntries.{CheckedEntry, program_entry}
+use Rattle.cc_entry_laws.specs.PresentFiles.{IsPresentEntry}
+use Rattle.cc_verdicts.specs.ModuleLaws.{NamesOfDevicesDiffer}
+use Rattle.cc_verdicts.specs.PresentTexts.{ArePresent}
+use Rattle.cc_runs.specs.Interleavings.{state_of}
+use Rattle.cc_runs.specs.Links.{program_start}
+use Rattle.cc_runs.specs.Runs.{State, Ending, Leads}
+use Rattle.cc_runs.specs.SafeRuns.{IsAmong}
 use Rattle.cc_mnf.specs.ElaboratedModules.{device_names}
 use Rattle.cc_policy.specs.declared.policy.Rule.{Rule}
 use Rattle.cc_replies.specs.PolicyReplies.{Allows, IsPermitted}

@@ -6,14 +6,14 @@ use Rattle.cc_base.specs.declared.literal.Op.{Op}
 use Rattle.cc_device.specs.Events.{Event, Operated, IsWellScoped}
 use Rattle.cc_job.specs.Jobs.{IsJob}
 use Rattle.cc_job.specs.declared.job.Job.{Job}
-use Rattle.cc_meta_entries.specs.PresentEntries.{CheckedEntry, program_entry}
-use Rattle.cc_meta_files.specs.PresentFiles.{IsPresentEntry}
-use Rattle.cc_meta_modules.specs.ModuleLaws.{NamesOfDevicesDiffer}
-use Rattle.cc_meta_modules.specs.PresentTexts.{Texts, ArePresent}
-use Rattle.cc_meta_runs.specs.Links.{program_start}
-use Rattle.cc_meta_runs.specs.Machine.{Configuration, step, Stuck}
-use Rattle.cc_meta_runs.specs.Runs.{Ending, IsStopped}
-use Rattle.cc_meta_runs.specs.SafeRuns.{IsListed, IsAmong}
+use Rattle.cc_entry_laws.specs.PresentEntries.{CheckedEntry, program_entry}
+use Rattle.cc_entry_laws.specs.PresentFiles.{IsPresentEntry}
+use Rattle.cc_verdicts.specs.ModuleLaws.{NamesOfDevicesDiffer}
+use Rattle.cc_verdicts.specs.PresentTexts.{Texts, ArePresent}
+use Rattle.cc_runs.specs.Links.{program_start}
+use Rattle.cc_runs.specs.Machine.{Configuration, step, Stuck}
+use Rattle.cc_runs.specs.Runs.{Ending, IsStopped}
+use Rattle.cc_runs.specs.SafeRuns.{IsListed, IsAmong}
 use Rattle.cc_mnf.specs.ElaboratedModules.{device_names}
 use Rattle.cc_replay.specs.AnsweredRuns.{GoesOnTo, AnsweredRun, ending_after, trace_lines, trace_of}
 use Rattle.cc_replay.specs.ReplayLaws.{written_lines}

@@ -1,10 +1,10 @@
 -- What runs of entries are told as, and what starting several definitions comes to. It serves the code alone.
 use Rattle.std.specs.Prelude.{◌≡◌, ℕ, List, map, Some, None, slice_get}
 use Rattle.cc_base.specs.declared.device.DeviceDecl.{DeviceDecl}
-use Rattle.cc_entry.specs.Entries.{entry_of}
-use Rattle.cc_meta_entries.specs.PresentEntries.{CheckedEntry}
-use Rattle.cc_meta_modules.specs.ModuleVerdicts.{ModuleVerdict}
-use Rattle.cc_meta_modules.specs.PresentTexts.{Texts}
+use Rattle.cc_session.specs.Entries.{entry_of}
+use Rattle.cc_entry_laws.specs.PresentEntries.{CheckedEntry}
+use Rattle.cc_verdicts.specs.ModuleVerdicts.{ModuleVerdict}
+use Rattle.cc_verdicts.specs.PresentTexts.{Texts}
 use Rattle.cc_replies.specs.ReplyTexts.{run_text}
 use Rattle.cc_replies.specs.RunReplies.{declared_run, first_unstarted, HaveEntries}
 use Rattle.capc.specs.declared.running.Started.{Started}

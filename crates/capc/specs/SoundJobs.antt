@@ -8,15 +8,15 @@ use Rattle.cc_device.specs.Events.{Event}
 use Rattle.cc_job.specs.declared.job.Command.{Command}
 use Rattle.cc_job.specs.declared.job.Job.{Job}
 use Rattle.cc_job.specs.Jobs.{IsJob}
-use Rattle.cc_meta_entries.specs.PresentEntries.{CheckedEntry, program_entry}
-use Rattle.cc_meta_files.specs.PresentFiles.{IsPresentEntry, AreSoundFiles}
-use Rattle.cc_meta_modules.specs.ModuleLaws.{NamesOfDevicesDiffer}
-use Rattle.cc_meta_modules.specs.PresentTexts.{Texts, ArePresent}
-use Rattle.cc_meta_runs.specs.Interleavings.{Report, state_of, interleaved_run}
-use Rattle.cc_meta_runs.specs.SafeRuns.{RunsSafely}
-use Rattle.cc_meta_runs.specs.Links.{program_start}
-use Rattle.cc_meta_runs.specs.Runs.{Run, Ending, run}
-use Rattle.cc_meta_runs.specs.SafeTasks.{RunsInterleaved}
+use Rattle.cc_entry_laws.specs.PresentEntries.{CheckedEntry, program_entry}
+use Rattle.cc_entry_laws.specs.PresentFiles.{IsPresentEntry, AreSoundFiles}
+use Rattle.cc_verdicts.specs.ModuleLaws.{NamesOfDevicesDiffer}
+use Rattle.cc_verdicts.specs.PresentTexts.{Texts, ArePresent}
+use Rattle.cc_runs.specs.Interleavings.{Report, state_of, interleaved_run}
+use Rattle.cc_runs.specs.SafeRuns.{RunsSafely}
+use Rattle.cc_runs.specs.Links.{program_start}
+use Rattle.cc_runs.specs.Runs.{Run, Ending, run}
+use Rattle.cc_runs.specs.SafeTasks.{RunsInterleaved}
 use Rattle.cc_replies.specs.Outputs.{after_all}
 use Rattle.cc_replies.specs.Replies.{Replies}
 use Rattle.cc_replies.specs.ReplyTexts.{Ran, TasksRan}

@@ -1,13 +1,13 @@
 -- What is said of texts that are judged as certificates is so; and a certificate that was shown is found to be valid.
 use Rattle.std.specs.Prelude.{◌≡◌, ℕ, List, Ok}
 use Rattle.cc_base.specs.declared.device.DeviceDecl.{DeviceDecl}
-use Rattle.cc_certificate.specs.Certificates.{lines_text}
+use Rattle.cc_certificate_writing.specs.Certificates.{lines_text}
 use Rattle.cc_certificate_judging.specs.Answers.{ProvesType, IsProof}
 use Rattle.cc_core.specs.Shapes.{CapturingType}
-use Rattle.cc_meta_limits.specs.ModuleCertificates.{AreNamed}
-use Rattle.cc_meta_modules.specs.ModuleVerdicts.{ModuleVerdict}
-use Rattle.cc_meta_modules.specs.PresentTexts.{Texts, ArePresent, AreVerdicts}
-use Rattle.cc_meta_modules.specs.StandingDefinitions.{Standing, standing_names, standing_in}
+use Rattle.cc_certificate_laws.specs.ModuleCertificates.{AreNamed}
+use Rattle.cc_verdicts.specs.ModuleVerdicts.{ModuleVerdict}
+use Rattle.cc_verdicts.specs.PresentTexts.{Texts, ArePresent, AreVerdicts}
+use Rattle.cc_verdicts.specs.StandingDefinitions.{Standing, standing_names, standing_in}
 use Rattle.cc_replies.specs.Replies.{Replies}
 use Rattle.cc_replies.specs.ReplyTexts.{Reply, Verified, Derived}
 use Rattle.cc_replies.specs.Requests.{JobState, ShowDerivation, VerifyText, Ask}

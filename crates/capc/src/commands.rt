@@ -3,8 +3,8 @@
 ghost use Rattle.std.specs.Prelude.{◌≡◌, ◌-◌, ◌^◌, ◌<◌, ◌||◌, List, [], map, IfSome, IfOk};
 ghost use Rattle.cc_base.specs.declared.device.DeviceDecl.{DeviceDecl};
 ghost use Rattle.cc_io.specs.Wholes.{WriteAllCause};
-ghost use Rattle.cc_meta_modules.specs.ModuleLaws.{NamesOfDevicesDiffer};
-ghost use Rattle.cc_meta_modules.specs.PresentTexts.{ArePresent};
+ghost use Rattle.cc_verdicts.specs.ModuleLaws.{NamesOfDevicesDiffer};
+ghost use Rattle.cc_verdicts.specs.PresentTexts.{ArePresent};
 ghost use Rattle.cc_mnf.specs.ElaboratedModules.{device_names};
 ghost use Rattle.cc_replies.specs.Replies.{rules_after};
 ghost use Rattle.cc_replies.specs.Requests.{JobState, PutText, DropModule, SetPolicy, VerifyText, Ask, holding, holding_under, no_module};

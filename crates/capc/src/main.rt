@@ -6,7 +6,7 @@
 
 mod commands;
 mod explaining;
-pub mod laws;
+pub mod job_laws;
 mod program;
 mod questions;
 mod replies;

@@ -2,8 +2,8 @@
 
 ghost use Rattle.std.specs.Prelude.{◌≡◌, ◌-◌, ◌^◌, ◌<◌, List, map, IsTrue, IfSome};
 ghost use Rattle.cc_io.specs.Wholes.{WriteAllCause};
-ghost use Rattle.cc_meta_modules.specs.ModuleLaws.{NamesOfDevicesDiffer};
-ghost use Rattle.cc_meta_modules.specs.PresentTexts.{ArePresent};
+ghost use Rattle.cc_verdicts.specs.ModuleLaws.{NamesOfDevicesDiffer};
+ghost use Rattle.cc_verdicts.specs.PresentTexts.{ArePresent};
 ghost use Rattle.cc_mnf.specs.ElaboratedModules.{device_names};
 ghost use Rattle.cc_replies.specs.Requests.{CheckModules, ShowSignature, ShowDerivation, RunDefinition, RunTasks, AuditDefinition, GuardDefinition, ExplainDefinition, ReplayDefinition, Ask, holding_under};
 ghost use Rattle.cc_policy.specs.declared.policy.Rule.{Rule};
@@ -28,7 +28,7 @@ use cc_replies::runs::run_refusal;
 use cc_replies::signatures::{sig_refusal, sig_reply};
 use cc_replies::tasks::tasks_refusal;
 use cc_replies::verdicts::{check_reply, has_refused};
-use cc_session::entry::EntryError;
+use cc_session::present_entries::EntryError;
 use cc_session::session::Session;
 use cc_session::standing::{Standing, StandingError};
 use std::alloc::{AllocError, Global};

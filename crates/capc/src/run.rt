@@ -6,7 +6,7 @@ ghost use Rattle.capc.specs.Outcome.{Outcome, ends};
 ghost use Rattle.capc.specs.SoundJobs.{EveryJobIsSound};
 
 use crate::commands::carry_out;
-use crate::laws::every_job_is_sound;
+use crate::job_laws::every_job_is_sound;
 use crate::status::Status;
 use crate::workload::summarize;
 use cc_base::steps::Steps;

@@ -11,8 +11,8 @@ use crate::status::Status;
 use cc_base::steps::Steps;
 use cc_io::{Sink, WriteAll, write_all};
 use cc_summary::counting::CountingSink;
-use cc_workload::laws::workload_items;
 use cc_workload::workload::workload;
+use cc_workload::workload_laws::workload_items;
 use std::alloc::{AllocError, Global};
 use std::sync::ledger::Ledger;
 

@@ -4,8 +4,8 @@ use Rattle.std.specs.Option.{option_map, option_and_then}
 use Rattle.cc_capture.specs.Sets.{Set}
 use Rattle.cc_core.specs.Shapes.{Shape, BaseShape, AnyShape, TypeVariable, FunctionShape, TypeFunctionShape, BoxShape}
 use Rattle.cc_core.specs.Shapes.{ExitShape, CapturingType, capturing}
-use Rattle.cc_sets.specs.Avoidance.{Sign, Positive, opposite, is_free_in, avoided_set, with_both}
-use Rattle.cc_sets.specs.Avoidance.{unless_free, avoided, avoided_type}
+use Rattle.cc_checking.specs.Avoidance.{Sign, Positive, opposite, is_free_in, avoided_set, with_both}
+use Rattle.cc_checking.specs.Avoidance.{unless_free, avoided, avoided_type}
 use Rattle.cc_avoid.specs.AvoidedTogether.{set_avoiding, names_any, shape_avoiding, type_avoiding}
 
 -- where nothing is avoided all stays

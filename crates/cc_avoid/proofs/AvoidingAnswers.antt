@@ -6,16 +6,16 @@ use Rattle.cc_core.specs.Shapes.{Shape, AnyShape, CapturingType, capturing}
 use Rattle.cc_core.specs.Contexts.{Bind, TermEntry, Context, lookup}
 use Rattle.cc_core.specs.Occurrences.{MeetsInSet, bound_within}
 use Rattle.cc_core.specs.Subtyping.{SubtypesType}
-use Rattle.cc_core.specs.Views.{type_of}
+use Rattle.cc_core.specs.TermViews.{type_of}
 use Rattle.cc_core.specs.WellFormed.{kinds_of, IsWellFormedContext, IsWellFormedType}
 use Rattle.cc_core.specs.declared.types.Ty.{Ty}
 use Rattle.cc_core.proofs.KindFacts.{IsKindedSet, IsKindedSet-test}
 use Rattle.cc_core.proofs.KindRespecting.{kinds-bound_within}
 use Rattle.cc_core.proofs.SubcapturingContexts.{IsKindedContext-from, entry_kinded}
-use Rattle.cc_sets.specs.Avoidance.{Sign, Positive, has_position, is_free_in_type, avoided_set}
+use Rattle.cc_checking.specs.Avoidance.{Sign, Positive, has_position, is_free_in_type, avoided_set}
 use Rattle.cc_sets.proofs.SubcapturingSearch.{IsLower, declared_lower}
-use Rattle.cc_meta_typing.proofs.Avoiding.{positive_above}
-use Rattle.cc_meta_typing.proofs.AvoidingPlaces.{avoided_is_gone, nothing_to_avoid, well_formedness_kept}
+use Rattle.cc_typing_laws.proofs.Avoiding.{positive_above}
+use Rattle.cc_typing_laws.proofs.AvoidingPlaces.{avoided_is_gone, nothing_to_avoid, well_formedness_kept}
 use Rattle.cc_avoid.specs.declared.avoiding.AvoidError.{AvoidError}
 use Rattle.cc_avoid.specs.Avoiding.{IsTermPosition, Avoids}
 

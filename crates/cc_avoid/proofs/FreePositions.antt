@@ -8,7 +8,7 @@ use Rattle.cc_capture.specs.Sets.{Set}
 use Rattle.cc_core.specs.Shapes.{Shape, BaseShape, AnyShape, TypeVariable, FunctionShape, TypeFunctionShape, BoxShape, ExitShape}
 use Rattle.cc_core.specs.Occurrences.{Meets, MeetsInSet, without}
 use Rattle.cc_core.proofs.OccurrenceTests.{SaysNo, position-decides}
-use Rattle.cc_sets.specs.Avoidance.{has_position, is_position, is_free_in}
+use Rattle.cc_checking.specs.Avoidance.{has_position, is_position, is_free_in}
 
 clash : {A : Type 0} {b : Bool} → b ≡ true → b ≡ false → A
 clash holds fails = cc

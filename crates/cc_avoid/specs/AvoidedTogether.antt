@@ -5,7 +5,7 @@ use Rattle.std.specs.Option.{option_map}
 use Rattle.cc_capture.specs.Sets.{Set}
 use Rattle.cc_core.specs.Shapes.{Shape, BaseShape, AnyShape, TypeVariable, FunctionShape, TypeFunctionShape, BoxShape}
 use Rattle.cc_core.specs.Shapes.{ExitShape, CapturingType, capturing}
-use Rattle.cc_sets.specs.Avoidance.{Sign, opposite, is_free_in, avoided_set, with_both, unless_free}
+use Rattle.cc_checking.specs.Avoidance.{Sign, opposite, is_free_in, avoided_set, with_both, unless_free}
 
 -- a set in which each of these is avoided, one after another
 abbrev pub set_avoiding : Sign → List (ℕ × Set) → Set → Set

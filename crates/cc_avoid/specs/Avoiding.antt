@@ -6,9 +6,9 @@ use Rattle.std.specs.declared.result.Result.TheVariants.{Ok, Err}
 use Rattle.cc_capture.specs.Sets.{Set}
 use Rattle.cc_core.specs.Shapes.{Shape, FunctionShape, TypeFunctionShape, BoxShape, CapturingType}
 use Rattle.cc_core.specs.Contexts.{TermEntry, Context, lookup}
-use Rattle.cc_core.specs.Views.{shape_of, type_of}
+use Rattle.cc_core.specs.TermViews.{shape_of, type_of}
 use Rattle.cc_core.specs.declared.types.Ty.{Ty}
-use Rattle.cc_sets.specs.Avoidance.{Sign, Positive, Negative, avoided_type, unless_free}
+use Rattle.cc_checking.specs.Avoidance.{Sign, Positive, Negative, avoided_type, unless_free}
 use Rattle.cc_avoid.specs.declared.avoiding.AvoidError.{AvoidError}
 use Rattle.cc_avoid.specs.declared.avoiding.AvoidError.TheVariants as errors
 use Rattle.cc_avoid.specs.declared.sign.Sign.{Sign as DeclaredSign}

@@ -7,10 +7,10 @@ ghost use Rattle.cc_capture.specs.Sets.{Set};
 ghost use Rattle.cc_core.specs.Contexts.{TermEntry, lookup};
 ghost use Rattle.cc_core.specs.Shapes.{Shape as PlainShape};
 ghost use Rattle.cc_core.specs.Subtyping.{SubtypesType};
-ghost use Rattle.cc_core.specs.Views.{type_of, bind_of, context_of};
+ghost use Rattle.cc_core.specs.TermViews.{type_of, bind_of, context_of};
 ghost use Rattle.cc_core.specs.WellFormed.{IsWellFormedContext, IsWellFormedType};
-ghost use Rattle.cc_sets.specs.Avoidance as plain;
-ghost use Rattle.cc_sets.specs.Avoidance.{avoided_type, is_free_in_type};
+ghost use Rattle.cc_checking.specs.Avoidance as plain;
+ghost use Rattle.cc_checking.specs.Avoidance.{avoided_type, is_free_in_type};
 ghost use Rattle.cc_avoid.specs.Avoiding.{IsTermPosition, Avoids};
 
 use crate::positions::One;

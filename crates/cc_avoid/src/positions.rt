@@ -3,8 +3,8 @@
 ghost use Rattle.std.specs.Prelude.{◌≡◌, ℕ, List, [], ◌∷◌, IfOk};
 ghost use Rattle.std.specs.Option.{unwrap_or};
 ghost use Rattle.cc_capture.specs.Sets.{Set};
-ghost use Rattle.cc_core.specs.Views.{shape_of};
-ghost use Rattle.cc_sets.specs.Avoidance.{avoided_set, is_free_in};
+ghost use Rattle.cc_core.specs.TermViews.{shape_of};
+ghost use Rattle.cc_checking.specs.Avoidance.{avoided_set, is_free_in};
 ghost use Rattle.cc_avoid.specs.Avoiding.{sign_of};
 ghost use Rattle.cc_avoid.specs.AvoidedTogether.{set_avoiding, names_any};
 

@@ -1,7 +1,7 @@
 //! Whether a place of a type may become larger or smaller.
 
 ghost use Rattle.std.specs.Prelude.{◌≡◌};
-ghost use Rattle.cc_sets.specs.Avoidance as plain;
+ghost use Rattle.cc_checking.specs.Avoidance as plain;
 ghost use Rattle.cc_avoid.specs.Avoiding.{sign_of};
 
 /// Whether a place may become larger or smaller.

@@ -5,9 +5,9 @@
 ghost use Rattle.std.specs.Prelude.{◌≡◌, Some, IfOk};
 ghost use Rattle.std.specs.Option.{option_map, unwrap_or};
 ghost use Rattle.cc_core.specs.Shapes.{FunctionShape, TypeFunctionShape, BoxShape, ExitShape, capturing};
-ghost use Rattle.cc_core.specs.Views.{shape_of, type_of};
-ghost use Rattle.cc_sets.specs.Avoidance as plain;
-ghost use Rattle.cc_sets.specs.Avoidance.{unless_free};
+ghost use Rattle.cc_core.specs.TermViews.{shape_of, type_of};
+ghost use Rattle.cc_checking.specs.Avoidance as plain;
+ghost use Rattle.cc_checking.specs.Avoidance.{unless_free};
 ghost use Rattle.cc_avoid.specs.AvoidedTogether.{names_any, shape_avoiding, type_avoiding};
 ghost use Rattle.cc_avoid.specs.Avoiding.{sign_of, given_shape, given_type, given_function, given_type_function, given_box};
 

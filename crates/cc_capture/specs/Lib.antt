@@ -1,9 +1,9 @@
 pub mod ElementOrder
 pub mod Elements
-pub mod Laws
 pub mod Numbers
 pub mod Placing
 pub mod Rising
+pub mod SetLaws
 pub mod Sets
 pub mod Variables
 pub mod Words

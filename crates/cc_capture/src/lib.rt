@@ -1,9 +1,9 @@
 //! Variables, the elements of capture sets, and capture sets.
 #![tactic(auto)]
 
-pub mod laws;
 mod numbers;
 pub mod set;
+pub mod set_laws;
 pub mod var;
 mod words;
 

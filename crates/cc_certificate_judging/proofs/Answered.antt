@@ -3,11 +3,11 @@ use Rattle.std.proofs.Common.{◌≡◌, ℕ, true, List, ◌++◌, codes, map, 
 use Rattle.std.specs.Fmt.{decimal}
 use Rattle.cc_core.specs.Shapes.{CapturingType}
 use Rattle.cc_core.specs.Typing.{HasType}
-use Rattle.cc_core.specs.Views.{term_of}
+use Rattle.cc_core.specs.TermViews.{term_of}
 use Rattle.cc_print.specs.TypeTexts.{type_text}
 use Rattle.cc_certificate_text.specs.Certificates.{IsCertificate, IsBadLine}
 use Rattle.cc_certificate_reading.specs.declared.certificate.Cert.{Cert}
-use Rattle.cc_certificate_reading.specs.Views.{node_of, lines_of}
+use Rattle.cc_certificate_reading.specs.CertificateViews.{node_of, lines_of}
 use Rattle.cc_certificate_judging.specs.CertificateParts.{bound_names}
 use Rattle.cc_certificate_judging.specs.Judging.{binds_of, IsValidAt, IsBadNode, IsJudged}
 use Rattle.cc_certificate_judging.specs.declared.answer.Answer.{Answer}

@@ -1,7 +1,7 @@
 -- What is judged is well formed.
 use Rattle.std.proofs.Common.{◌≡◌, ℕ, Bool, true, false, ◌&&◌, List, [], ◌∷◌, ◌++◌, length, map, Option, None, refl, ap, sym, ◌∙◌, subst, Result, Ok, Err, IfOk, if◌then◌else◌}
 use Rattle.cc_core.specs.declared.types.Ty.{Ty}
-use Rattle.cc_core.specs.Views.{type_of, term_of}
+use Rattle.cc_core.specs.TermViews.{type_of, term_of}
 use Rattle.cc_core.specs.Shapes.{CapturingType}
 use Rattle.cc_core.specs.Terms.{Term}
 use Rattle.cc_core.specs.Contexts.{Context, entry_of}
@@ -9,12 +9,12 @@ use Rattle.cc_core.specs.Typing.{HasType}
 use Rattle.cc_core.specs.WellFormed.{Kind, kinds_of, is_well_formed_type, IsWellFormedContext, IsWellFormedTerm, IsWellFormedType}
 use Rattle.cc_core.specs.Derivations.{Rule, Claim, OfType, Node, Premises, Concludes, IsValidTyping}
 use Rattle.cc_derivation.specs.Numbers.{own_number}
-use Rattle.cc_meta_validity.specs.Rows.{TypeOf, Row, row_at}
-use Rattle.cc_meta_validity.specs.Broken.{broken, broken_at, broken_among, claims_of}
-use Rattle.cc_meta_validity.proofs.BrokenNodes.{valid_typings}
+use Rattle.cc_derivation.specs.Rows.{TypeOf, Row, row_at}
+use Rattle.cc_derivation.specs.Broken.{broken, broken_at, broken_among, claims_of}
+use Rattle.cc_derivation.proofs.BrokenNodes.{valid_typings}
 use Rattle.cc_certificate_text.specs.Certificates.{CertificateNode, Line, States, Binding, Start, AllFit, rule_kind}
 use Rattle.cc_certificate_reading.specs.declared.certificate.Cert.{Cert}
-use Rattle.cc_certificate_reading.specs.Views.{node_of, lines_of}
+use Rattle.cc_certificate_reading.specs.CertificateViews.{node_of, lines_of}
 use Rattle.cc_certificate_judging.specs.CertificateParts.{CertificateBind, bind_line, parts_lines, bound_context}
 use Rattle.cc_certificate_judging.specs.Judging.{NodeTree, Grown, is_in_scope, fits_place, claim_of_another_kind, claim_at, read_tree, read_trees, with_binds, binds_of, IsValidAt, IsJudged}
 use Rattle.cc_certificate_judging.specs.JudgedResults.{OnJudgement}

@@ -3,21 +3,21 @@ use Rattle.std.proofs.Common.{◌≡◌, ℕ, ◌+◌, ◌<◌, ◌≤◌, ◌^�
 use mathlib.Core.List.{reverse}
 use Rattle.std.proofs.lemmas.List.{append-nil, reverse-reverse, at_drop_more}
 use Rattle.cc_core.specs.declared.types.Ty.{Ty}
-use Rattle.cc_core.specs.Views.{type_of, term_of}
+use Rattle.cc_core.specs.TermViews.{type_of, term_of}
 use Rattle.cc_core.specs.Shapes.{CapturingType}
 use Rattle.cc_core.specs.Terms.{Term}
 use Rattle.cc_core.specs.Contexts.{Context, entry_of}
 use Rattle.cc_core.specs.WellFormed.{Kind, kinds_of}
 use Rattle.cc_core.specs.Derivations.{Rule, Claim, SetBelow, ShapeBelow, TypeBelow, OfType, Derivation, Node, Premises, Concludes}
-use Rattle.cc_derivation.specs.Views.{claim_of}
+use Rattle.cc_derivation.specs.DerivationViews.{claim_of}
 use Rattle.cc_derivation.specs.declared.derivation.Claim.{Claim as DeclaredClaim}
 use Rattle.cc_derivation.specs.declared.derivation.Claim.TheVariants as claims
-use Rattle.cc_meta_validity.specs.Rows.{TypeOf}
-use Rattle.cc_meta_validity.specs.Broken.{broken}
-use Rattle.cc_sets.specs.DerivationSizes.{nodes}
+use Rattle.cc_derivation.specs.Rows.{TypeOf}
+use Rattle.cc_derivation.specs.Broken.{broken}
+use Rattle.cc_checking.specs.DerivationSizes.{nodes}
 use Rattle.cc_certificate_text.specs.Certificates.{CertificateNode, Line, Start, AllFit, IsWhole, behind_lines}
 use Rattle.cc_certificate_reading.specs.declared.certificate.Cert.{Cert}
-use Rattle.cc_certificate_reading.specs.Views.{node_of, lines_of}
+use Rattle.cc_certificate_reading.specs.CertificateViews.{node_of, lines_of}
 use Rattle.cc_certificate_judging.specs.Judging.{NodeTree, listed, read_tree, with_binds, bind_type, Judgement, IsValidAt, IsBadNode, IsAnswer, IsJudged}
 use Rattle.cc_certificate_judging.specs.JudgedResults.{OnJudgement}
 use Rattle.cc_certificate_judging.specs.declared.error.JudgeError.{JudgeError}

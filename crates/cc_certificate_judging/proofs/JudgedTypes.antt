@@ -4,9 +4,9 @@ use Rattle.std.specs.Prelude.{Contains}
 use Rattle.cc_core.specs.WellFormed.{kinds_of}
 use Rattle.cc_core.specs.Derivations.{ByElement, ByVariable, BySet, ByReflexivity, ByTransitivity, ByTypeVariable, ByTop, ByFunction, ByTypeFunction, ByBox, ByCapturing, t-var, t-lit, t-abs, t-tabs, t-app, t-tapp, t-box, t-unbox, t-let, t-prim, t-if, t-repeat, t-op, t-boundary, t-exit, t-sub}
 use Rattle.cc_core.proofs.DerivationTypings.{typing_derivations}
-use Rattle.cc_meta_validity.specs.Rows.{Nowhere, TypeOf, SetsBelow, ShapesBelow, TypesBelow}
-use Rattle.cc_meta_validity.specs.Broken.{broken, IsLeast}
-use Rattle.cc_meta_validity.proofs.BrokenNodes.{valid_typings}
+use Rattle.cc_derivation.specs.Rows.{Nowhere, TypeOf, SetsBelow, ShapesBelow, TypesBelow}
+use Rattle.cc_derivation.specs.Broken.{broken, IsLeast}
+use Rattle.cc_derivation.proofs.BrokenNodes.{valid_typings}
 use Rattle.cc_certificate_judging.specs.Judging.{read_tree}
 use Rattle.cc_certificate_judging.specs.JudgingLaws as law
 use Rattle.cc_certificate_judging.proofs.OneTree.{one_tree}

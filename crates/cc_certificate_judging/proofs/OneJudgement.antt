@@ -4,16 +4,16 @@ use Rattle.std.specs.Prelude.{Contains}
 use Rattle.cc_core.specs.Shapes.{CapturingType}
 use Rattle.cc_core.specs.Terms.{Term}
 use Rattle.cc_core.specs.Contexts.{Context}
-use Rattle.cc_core.specs.Views.{term_of}
+use Rattle.cc_core.specs.TermViews.{term_of}
 use Rattle.cc_core.specs.WellFormed.{kinds_of}
 use Rattle.cc_core.specs.Derivations.{OfType, Derivation}
 use Rattle.cc_derivation.specs.Numbers.{own_number}
-use Rattle.cc_meta_validity.specs.Rows.{TypeOf}
-use Rattle.cc_meta_validity.specs.Broken.{broken, IsLeast}
-use Rattle.cc_meta_validity.specs.ValidityLaws.{RiseWithin}
-use Rattle.cc_meta_validity.proofs.BrokenNodes.{valid_typings}
-use Rattle.cc_meta_validity.proofs.RisingNumbers.{numbers_rise, first_is_least}
-use Rattle.cc_certificate_reading.specs.Views.{node_of}
+use Rattle.cc_derivation.specs.Rows.{TypeOf}
+use Rattle.cc_derivation.specs.Broken.{broken, IsLeast}
+use Rattle.cc_derivation.specs.ValidityLaws.{RiseWithin}
+use Rattle.cc_derivation.proofs.BrokenNodes.{valid_typings}
+use Rattle.cc_derivation.proofs.RisingNumbers.{numbers_rise, first_is_least}
+use Rattle.cc_certificate_reading.specs.CertificateViews.{node_of}
 use Rattle.cc_certificate_judging.specs.Judging.{NodeTree, listed, read_tree, binds_of, Judgement, IsValidAt, IsBadNode, IsAnswer, IsJudged}
 use Rattle.cc_certificate_judging.specs.JudgingLaws as law
 use Rattle.cc_certificate_judging.proofs.JudgedAnswers.{whole_concludes, cert_tree}

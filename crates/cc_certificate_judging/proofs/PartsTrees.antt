@@ -1,13 +1,13 @@
 -- The nodes of a certificate's parts are those of a tree, and a certificate in the program has parts.
 use Rattle.std.proofs.Common.{◌≡◌, ℕ, ◌+◌, ◌≤◌, List, [], ◌∷◌, ◌++◌, length, map, refl, ap, subst, arith}
 use Rattle.cc_core.specs.declared.types.Ty.{Ty}
-use Rattle.cc_core.specs.Views.{type_of, term_of}
+use Rattle.cc_core.specs.TermViews.{type_of, term_of}
 use Rattle.cc_core.specs.Terms.{Term}
 use Rattle.cc_core.specs.Contexts.{Context, entry_of}
 use Rattle.cc_certificate_text.specs.Certificates.{CertificateNode, Line, Opens, States, Concludes, Start, Binding, Proving, AllFit, IsWhole, behind_lines}
 use Rattle.cc_certificate_reading.specs.declared.certificate.CertNode.{CertNode}
 use Rattle.cc_certificate_reading.specs.declared.certificate.Cert.{Cert}
-use Rattle.cc_certificate_reading.specs.Views.{node_of, node_line_of, bind_line_of, lines_of}
+use Rattle.cc_certificate_reading.specs.CertificateViews.{node_of, node_line_of, bind_line_of, lines_of}
 use Rattle.cc_certificate_judging.specs.CertificateParts.{CertificateBind, bind_line, parts_lines, bound_context, bound_names}
 use Rattle.cc_certificate_judging.specs.Judging.{NodeTree, listed, with_binds, bind_type, binds_of}
 use Rattle.cc_certificate_judging.proofs.GrownTrees.{certificate_tree, few_nodes}

@@ -4,7 +4,7 @@ use mathlib.Core.List.{reverse}
 use Rattle.std.proofs.lemmas.List.{append-nil, append_assoc, reverse-append, length-append}
 use Rattle.cc_core.specs.WellFormed.{Kind}
 use Rattle.cc_core.specs.Derivations.{Rule, Derivation, Node, Premises, Premise}
-use Rattle.cc_sets.specs.DerivationSizes.{nodes, nodes_of}
+use Rattle.cc_checking.specs.DerivationSizes.{nodes, nodes_of}
 use Rattle.cc_certificate_text.specs.Certificates.{CertificateNode}
 use Rattle.cc_certificate_judging.specs.Judging.{NodeTree, Grown, NodeTrees, NoTree, Tree, size_of, sizes_of, root_numbers, listed, listed_all, under_binder, binder_at, claim_at, read_tree, read_trees}
 use Rattle.cc_certificate_judging.specs.Passes.{PlainReadNode, kinds_above, AreRead, as_premises, Builds}

@@ -7,13 +7,13 @@ use Rattle.cc_capture.specs.Sets.{contains, empty, insert, union, from_list, fla
 use Rattle.cc_core.specs.Derivations.{t-var, OfType, Derivation}
 use Rattle.cc_core.specs.Shapes.{capturing}
 use Rattle.cc_derivation.specs.Numbers.{own_number}
-use Rattle.cc_meta_validity.specs.Rows.{TypeOf}
-use Rattle.cc_meta_validity.specs.Broken.{IsLeast}
-use Rattle.cc_meta_validity.specs.ValidityLaws.{RiseWithin}
-use Rattle.cc_meta_validity.proofs.BrokenNodes.{valid_typings}
-use Rattle.cc_meta_validity.proofs.RisingNumbers.{numbers_rise, first_is_least}
+use Rattle.cc_derivation.specs.Rows.{TypeOf}
+use Rattle.cc_derivation.specs.Broken.{IsLeast}
+use Rattle.cc_derivation.specs.ValidityLaws.{RiseWithin}
+use Rattle.cc_derivation.proofs.BrokenNodes.{valid_typings}
+use Rattle.cc_derivation.proofs.RisingNumbers.{numbers_rise, first_is_least}
 use Rattle.cc_certificate_text.specs.Certificates.{CertificateNode, Line, Opens, States, Concludes, Proving, Fits, IsCertificate}
-use Rattle.cc_certificate_reading.specs.Examples.{text, opening, statement, none, nothing, identity, function_line}
+use Rattle.cc_certificate_reading.specs.ReadingExamples.{text, opening, statement, none, nothing, identity, function_line}
 use Rattle.cc_certificate_reading.proofs.WorkedCertificates.{identity_fits, identity_certified, no_node, nothing_there, wrong_premise}
 use Rattle.cc_certificate_judging.specs.AnswerExamples.{function_node, IdentityIsValid, WrongTypeIsABadNode, WrongPremiseIsABadLine, NoNodeIsABadLine, NothingIsABadLine}
 use Rattle.cc_certificate_judging.specs.Judging.{listed, read_tree, IsValidAt, IsBadNode, IsJudged}

@@ -2,7 +2,7 @@
 use Rattle.std.specs.Prelude.{◌≡◌, ℕ, List, [], ◌∷◌, codes}
 use Rattle.cc_core.specs.Shapes.{capturing}
 use Rattle.cc_capture.specs.Sets.{empty}
-use Rattle.cc_certificate_reading.specs.Examples.{text, opening, statement, body_node}
+use Rattle.cc_certificate_reading.specs.ReadingExamples.{text, opening, statement, body_node}
 use Rattle.cc_certificate_judging.specs.Answers.{Found, ProvesType, HasBadLine, HasBadNode, IsFound, found_text}
 use Rattle.cc_certificate_judging.specs.JudgingExamples.{identity_shape}
 

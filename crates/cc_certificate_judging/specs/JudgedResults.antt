@@ -1,7 +1,7 @@
 -- The results of the program as judgements.
 use Rattle.std.specs.Prelude.{Result, Ok, Err}
 use Rattle.cc_core.specs.declared.types.Ty.{Ty}
-use Rattle.cc_core.specs.Views.{type_of}
+use Rattle.cc_core.specs.TermViews.{type_of}
 use Rattle.cc_certificate_judging.specs.Judging.{Judgement, IsValidAt, IsBadNode}
 use Rattle.cc_certificate_judging.specs.declared.error.JudgeError.{JudgeError}
 use Rattle.cc_certificate_judging.specs.declared.error.JudgeError.TheVariants.{NoMemory, BadNode}

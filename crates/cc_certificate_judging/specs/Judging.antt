@@ -5,7 +5,7 @@ use Rattle.cc_capture.specs.declared.var.Var.{Var}
 use Rattle.cc_capture.specs.declared.var.Var.TheVariants.{Bound, Free}
 use Rattle.cc_capture.specs.Sets.{empty}
 use Rattle.cc_core.specs.declared.types.Ty.{Ty}
-use Rattle.cc_core.specs.Views.{type_of}
+use Rattle.cc_core.specs.TermViews.{type_of}
 use Rattle.cc_core.specs.Shapes.{AnyShape, CapturingType, capturing}
 use Rattle.cc_core.specs.Terms.{Term}
 use Rattle.cc_core.specs.Contexts.{Context, entry_of}
@@ -16,8 +16,8 @@ use Rattle.cc_core.specs.WellFormed.{is_well_formed_type}
 use Rattle.cc_core.specs.Derivations.{Rule, ByFunction, ByTypeFunction, t-abs, t-tabs, t-let, t-boundary, Claim}
 use Rattle.cc_core.specs.Derivations.{SetBelow, ShapeBelow, TypeBelow, OfType, Derivation, Node, Premises, NoPremise}
 use Rattle.cc_core.specs.Derivations.{Premise, Concludes, IsValidTyping}
-use Rattle.cc_meta_validity.specs.Rows.{TypeOf}
-use Rattle.cc_meta_validity.specs.Broken.{broken, IsLeast}
+use Rattle.cc_derivation.specs.Rows.{TypeOf}
+use Rattle.cc_derivation.specs.Broken.{broken, IsLeast}
 use Rattle.cc_certificate_text.specs.Certificates.{CertificateNode, ClaimKind, OfSets, rule_kind}
 use Rattle.cc_certificate_reading.specs.declared.certificate.Cert.{Cert}
 

@@ -11,8 +11,8 @@ use Rattle.cc_core.specs.Captured.{variable_set}
 use Rattle.cc_core.specs.WellFormed.{kind_of}
 use Rattle.cc_core.specs.Derivations.{Rule, ByElement, BySet, ByReflexivity, ByFunction, ByCapturing, t-var, t-lit}
 use Rattle.cc_core.specs.Derivations.{t-abs, t-let, Claim, SetBelow, ShapeBelow, TypeBelow, OfType}
-use Rattle.cc_meta_validity.specs.Rows.{TypeOf, ShapesBelow}
-use Rattle.cc_meta_validity.specs.Broken.{broken}
+use Rattle.cc_derivation.specs.Rows.{TypeOf, ShapesBelow}
+use Rattle.cc_derivation.specs.Broken.{broken}
 use Rattle.cc_certificate_text.specs.Certificates.{CertificateNode}
 use Rattle.cc_certificate_judging.specs.Judging.{NodeTree, Grown, NodeTrees, NoTree, Tree, listed, read_tree}
 

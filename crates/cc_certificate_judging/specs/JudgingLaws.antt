@@ -3,15 +3,15 @@ use Rattle.std.specs.Prelude.{◌≡◌, ℕ, List, [], length, None, map}
 use Rattle.cc_core.specs.Shapes.{CapturingType}
 use Rattle.cc_core.specs.Terms.{Term}
 use Rattle.cc_core.specs.Contexts.{Context}
-use Rattle.cc_core.specs.Views.{term_of}
+use Rattle.cc_core.specs.TermViews.{term_of}
 use Rattle.cc_core.specs.WellFormed.{kinds_of}
 use Rattle.cc_core.specs.Typing.{HasTyping}
 use Rattle.cc_core.specs.Derivations.{Rule, IsValidTyping}
-use Rattle.cc_meta_validity.specs.Rows.{Place, row_at}
+use Rattle.cc_derivation.specs.Rows.{Place, row_at}
 use Rattle.cc_certificate_text.specs.Certificates.{CertificateNode, rule_kind, Concludes, Proving, AllFit, IsWhole}
 use Rattle.cc_certificate_text.specs.Certificates.{behind_lines, IsCertificate}
 use Rattle.cc_certificate_reading.specs.declared.certificate.Cert.{Cert}
-use Rattle.cc_certificate_reading.specs.Views.{node_of, lines_of}
+use Rattle.cc_certificate_reading.specs.CertificateViews.{node_of, lines_of}
 use Rattle.cc_certificate_judging.specs.Judging.{NodeTree, listed, claim_of_another_kind, read_tree, binds_of}
 use Rattle.cc_certificate_judging.specs.Judging.{Judgement, IsValidAt, IsBadNode, IsJudged}
 

@@ -1,9 +1,9 @@
 -- What the values of the passes stand for.
 use Rattle.std.specs.Prelude.{List}
 use Rattle.cc_core.specs.declared.context.Bind.{Bind}
-use Rattle.cc_core.specs.Views.{context_of}
+use Rattle.cc_core.specs.TermViews.{context_of}
 use Rattle.cc_core.specs.WellFormed.{Kind, TermKind, TypeKind, kinds_of}
-use Rattle.cc_derivation.specs.Views.{rule_of, claim_of}
+use Rattle.cc_derivation.specs.DerivationViews.{rule_of, claim_of}
 use Rattle.cc_certificate_judging.specs.Passes.{PlainReadNode}
 use Rattle.cc_certificate_judging.specs.declared.passes.ReadNode.{ReadNode}
 use Rattle.cc_certificate_judging.specs.declared.places.Binder.{Binder}

@@ -2,10 +2,10 @@
 
 ghost use Rattle.std.specs.Prelude.{◌≡◌, ℕ, List, map, Some, IfOk};
 ghost use Rattle.std.specs.String.{string_bytes};
-ghost use Rattle.cc_core.specs.Views.{type_of};
+ghost use Rattle.cc_core.specs.TermViews.{type_of};
 ghost use Rattle.cc_print.specs.TypeTexts as plain;
 ghost use Rattle.cc_certificate_text.specs.Certificates.{Start, AllFit, IsWhole, behind_lines, IsCertificate};
-ghost use Rattle.cc_certificate_reading.specs.Views.{lines_of};
+ghost use Rattle.cc_certificate_reading.specs.CertificateViews.{lines_of};
 ghost use Rattle.cc_certificate_judging.specs.ToldAnswers.{IsAnswered, is_positive};
 
 use crate::error::JudgeError;

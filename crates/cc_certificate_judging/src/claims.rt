@@ -3,9 +3,9 @@
 ghost use Rattle.std.specs.Prelude.{◌≡◌, ◌-◌, ◌+◌, ◌<◌, length, IfOk, OnOk};
 ghost use Rattle.cc_capture.specs.Sets.{union};
 ghost use Rattle.cc_core.specs.Traversal.{act, act_set, act_type};
-ghost use Rattle.cc_core.specs.Views.{shape_of, type_of, context_of};
+ghost use Rattle.cc_core.specs.TermViews.{shape_of, type_of, context_of};
 ghost use Rattle.cc_core.specs.WellFormed.{kinds_of};
-ghost use Rattle.cc_derivation.specs.Views.{claim_of, rule_of};
+ghost use Rattle.cc_derivation.specs.DerivationViews.{claim_of, rule_of};
 ghost use Rattle.cc_certificate_text.specs.Certificates.{rule_kind};
 ghost use Rattle.cc_certificate_judging.specs.Judging as plain;
 

@@ -3,13 +3,13 @@
 ghost use Rattle.std.specs.Prelude.{◌≡◌, ◌^◌, ◌<◌, [], ◌∷◌, length, map, IfOk};
 ghost use Rattle.cc_core.specs.Contexts.{entry_of};
 ghost use Rattle.cc_core.specs.Typing.{HasType};
-ghost use Rattle.cc_core.specs.Views.{type_of, term_of, context_of};
+ghost use Rattle.cc_core.specs.TermViews.{type_of, term_of, context_of};
 ghost use Rattle.cc_core.specs.Derivations as derivations;
 ghost use Rattle.cc_core.specs.Shapes.{CapturingType};
-ghost use Rattle.cc_derivation.specs.Views.{der_of};
-ghost use Rattle.cc_sets.specs.DerivationSizes.{nodes};
+ghost use Rattle.cc_derivation.specs.DerivationViews.{der_of};
+ghost use Rattle.cc_checking.specs.DerivationSizes.{nodes};
 ghost use Rattle.cc_certificate_text.specs.Certificates.{Start, AllFit, IsWhole, behind_lines};
-ghost use Rattle.cc_certificate_reading.specs.Views.{node_of, lines_of};
+ghost use Rattle.cc_certificate_reading.specs.CertificateViews.{node_of, lines_of};
 ghost use Rattle.cc_certificate_judging.specs.Judging.{NodeTree, listed, read_tree, with_binds, bind_type, binds_of, IsAnswer, IsJudged};
 ghost use Rattle.cc_certificate_judging.specs.JudgedResults.{OnJudgement};
 ghost use Rattle.cc_certificate_judging.specs.PassViews.{kinds_in};

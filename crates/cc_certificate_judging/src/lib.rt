@@ -5,7 +5,7 @@ pub mod answer;
 mod claims;
 pub mod error;
 mod judging;
-pub mod laws;
+pub mod judging_laws;
 mod passes;
 mod places;
 

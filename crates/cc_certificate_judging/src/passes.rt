@@ -3,9 +3,9 @@
 
 ghost use Rattle.std.specs.Prelude.{◌≡◌, ◌≤◌, List, [], ◌∷◌, ◌++◌, length, map, reverse, IfOk};
 ghost use Rattle.cc_core.specs.Derivations.{Derivation};
-ghost use Rattle.cc_derivation.specs.Views.{der_of, premises_of};
+ghost use Rattle.cc_derivation.specs.DerivationViews.{der_of, premises_of};
 ghost use Rattle.cc_validity.specs.Counting.{premise_list};
-ghost use Rattle.cc_certificate_reading.specs.Views.{node_of};
+ghost use Rattle.cc_certificate_reading.specs.CertificateViews.{node_of};
 ghost use Rattle.cc_certificate_judging.specs.Passes.{PlainReadNode, read_at, AreRead, Builds};
 ghost use Rattle.cc_certificate_judging.specs.PassViews.{kinds_in, plain_read};
 

@@ -1,7 +1,7 @@
 //! The kinds of the binders in scope at the places of nodes.
 
 ghost use Rattle.std.specs.Prelude.{◌≡◌, [], ◌∷◌, map, ◌++◌, option_map, IfOk, OnOk};
-ghost use Rattle.cc_derivation.specs.Views.{rule_of};
+ghost use Rattle.cc_derivation.specs.DerivationViews.{rule_of};
 ghost use Rattle.cc_certificate_judging.specs.Judging as plain;
 ghost use Rattle.cc_certificate_judging.specs.Passes.{kinds_above};
 ghost use Rattle.cc_certificate_judging.specs.PassViews.{kind_of_binder, kinds_in};

@@ -1,4 +1,10 @@
 pub mod Firsts
+pub mod GatheredSets
 pub mod Limits
+pub mod Positions
 pub mod Progress
+pub mod TermRooms
+pub mod TextWords
+pub mod TypeRooms
+pub mod WordTurns
 pub mod WorkedCertificates

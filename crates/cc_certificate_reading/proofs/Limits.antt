@@ -29,7 +29,7 @@ use Rattle.cc_certificate_text.specs.LocalNames.{IsLocalNumber, IsNamedShape, pl
 use Rattle.cc_certificate_text.specs.Reading.{Wrong, Locals, Printed, Counted, Reader, begun, word_at, exact_at, number_at, same_number_at, shape_at, type_at, shape_parts, shape_over, shape_rule_at, type_over, plain_type_at, captured_at, leaf_at, base_at, some_set_at, set_of, elements_of, element_of, variable_of, local_of, text_at, text_of, term_at, term_over, term_rule_at, plain_term_at}
 use Rattle.cc_certificate_text.specs.LineReading.{next_line, line_at, node_at, numbered_node_at, rule_at, rule_of, numbers_at, numbers_of, ends_with, conclusion_at, claim_at, typing_claim_at, value_of, first_at, bind_at, name_at, statement_at}
 use Rattle.cc_certificate_text.proofs.Certified.{stops_there}
-use Rattle.cc_certificate_reading.specs.Examples.{text, opening, statement, none, nothing}
+use Rattle.cc_certificate_reading.specs.ReadingExamples.{text, opening, statement, none, nothing}
 use Rattle.cc_certificate_reading.specs.LimitExamples.{leaf_of, string_line, string_leaf, StringOf200IsRead, StringOf201IsBad, GreatestLocalIsRead, GreaterLocalIsBad, over, chain, chain_lines, ManyNodesAreRead, OneNodeMoreIsBad, boxed, boxed_text, bind_with, term_with, node_with, HighSyntaxIsRead, HigherNodeIsBad, HigherBindIsBad, HigherTermIsBad}
 use Rattle.cc_certificate_reading.proofs.WorkedCertificates.{no_holes, identity_fits, bad_first_node, some_bytes, no_names}
 

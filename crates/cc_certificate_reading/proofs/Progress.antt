@@ -6,19 +6,19 @@ use Rattle.std.proofs.lemmas.List.{length-append, append-nil}
 use Rattle.cc_base.specs.Names.{IsName}
 use Rattle.cc_core.specs.declared.types.Ty.{Ty}
 use Rattle.cc_core.specs.Contexts.{Context, entry_of}
-use Rattle.cc_core.specs.Views.{type_of, term_of}
+use Rattle.cc_core.specs.TermViews.{type_of, term_of}
 use Rattle.cc_certificate_text.specs.Certificates.{Line, Opens, Binds, States, Start, Binding, Proving, line_text, IsCertificate, IsBadLine}
 use Rattle.cc_certificate_text.specs.Reading.{Got, Wrong}
 use Rattle.cc_certificate_text.specs.LineReading.{next_line}
 use Rattle.cc_certificate_text.proofs.LinesRead.{StageOk}
 use Rattle.cc_certificate_text.proofs.Certified.{Come, come-nowhere, come-read, next_line_gives, stops_there, bad-there, bad-end, whole-there}
-use Rattle.cc_certificate_reading.specs.Views.{bind_line_of, node_line_of}
+use Rattle.cc_certificate_reading.specs.CertificateViews.{bind_line_of, node_line_of}
 use Rattle.cc_certificate_reading.specs.declared.certificate.CertNode.{CertNode}
 use Rattle.cc_certificate_reading.specs.declared.read.Heading.{Heading}
 use Rattle.cc_certificate_reading.specs.Progress.{heading_lines, IsHeading, StopsAs, ReadsHeading, ReadsNodes}
 use Rattle.std.specs.Prelude.{Err, ⊤}
-use Rattle.cc_certificate_types.specs.declared.stop.Stop.{Stop}
-use Rattle.cc_certificate_types.specs.declared.stop.Stop.TheVariants as stops
+use Rattle.cc_certificate_reading.specs.declared.stop.Stop.{Stop}
+use Rattle.cc_certificate_reading.specs.declared.stop.Stop.TheVariants as stops
 use Rattle.cc_certificate_reading.specs.declared.certificate.ReadCertError.{ReadCertError}
 use Rattle.cc_certificate_reading.specs.declared.certificate.ReadCertError.TheVariants.{NoMemory, BadCert}
 use Rattle.cc_certificate_text.specs.Reading.{Found}

@@ -14,7 +14,7 @@ use Rattle.cc_words.specs.Words.{number_of}
 use Rattle.cc_certificate_text.specs.Reading.{Wrong, begun, word_at, exact_at, number_at, same_number_at}
 use Rattle.cc_certificate_text.specs.LineReading.{next_line, line_at, node_at, numbered_node_at, rule_at, rule_of, numbers_at, numbers_of, ends_with}
 use Rattle.cc_certificate_text.proofs.Certified.{stops_there}
-use Rattle.cc_certificate_reading.specs.Examples.{text, opening, statement, none, nothing, identity, body_line, function_line, IdentityIsCertified, WrongTypeIsRead, WrongPremiseIsBad, NoNodeIsBad, TwoRootsAreBad, LeadingZeroIsBad, NothingIsBad}
+use Rattle.cc_certificate_reading.specs.ReadingExamples.{text, opening, statement, none, nothing, identity, body_line, function_line, IdentityIsCertified, WrongTypeIsRead, WrongPremiseIsBad, NoNodeIsBad, TwoRootsAreBad, LeadingZeroIsBad, NothingIsBad}
 use lib.Utf8.{encode}
 
 pub no_holes : HasNoHoleInSet none

@@ -10,7 +10,7 @@ use Rattle.cc_core.specs.Terms.{LiteralTerm, VariableTerm, FunctionTerm}
 use Rattle.cc_core.specs.Derivations.{t-var, t-lit, t-box, OfType}
 use Rattle.cc_certificate_text.specs.Certificates.{CertificateNode, Line, Opens, Binds, States, Concludes, Start}
 use Rattle.cc_certificate_text.specs.Certificates.{lines_text, IsCertificate, IsBadLine}
-use Rattle.cc_certificate_reading.specs.Examples.{text, opening, statement, none, nothing, identity}
+use Rattle.cc_certificate_reading.specs.ReadingExamples.{text, opening, statement, none, nothing, identity}
 
 -- a leaf that concludes the shape with no captures
 abbrev pub leaf_of : Shape → CertificateNode

@@ -5,13 +5,13 @@ use Rattle.std.specs.List.{AllByRecursion, IsDistinct}
 use Rattle.std.specs.Str.{bytes_eq}
 use Rattle.cc_base.specs.Names.{IsName}
 use Rattle.cc_core.specs.Places.{places_of}
-use Rattle.cc_core.specs.Views.{type_of, term_of}
+use Rattle.cc_core.specs.TermViews.{type_of, term_of}
 use Rattle.cc_certificate_text.specs.Certificates.{Line, Opens, Binds, States, Start, Proving, AllFit, behind_lines}
 use Rattle.cc_certificate_text.specs.Certificates.{lines_text, IsCertificate, IsBadLine}
-use Rattle.cc_certificate_terms.specs.FirstPlaces.{AreFirst}
-use Rattle.cc_certificate_types.specs.declared.stop.Stop.{Stop}
-use Rattle.cc_certificate_types.specs.declared.stop.Stop.TheVariants as stops
-use Rattle.cc_certificate_reading.specs.Views.{bind_line_of, node_line_of}
+use Rattle.cc_certificate_reading.specs.FirstPlaces.{AreFirst}
+use Rattle.cc_certificate_reading.specs.declared.stop.Stop.{Stop}
+use Rattle.cc_certificate_reading.specs.declared.stop.Stop.TheVariants as stops
+use Rattle.cc_certificate_reading.specs.CertificateViews.{bind_line_of, node_line_of}
 use Rattle.cc_certificate_reading.specs.declared.certificate.CertNode.{CertNode}
 use Rattle.cc_certificate_reading.specs.declared.certificate.ReadCertError.{ReadCertError}
 use Rattle.cc_certificate_reading.specs.declared.certificate.ReadCertError.TheVariants.{NoMemory, BadCert}

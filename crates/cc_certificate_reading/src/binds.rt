@@ -2,20 +2,20 @@
 
 ghost use Rattle.std.specs.Prelude.{◌≡◌, ◌≤◌, length, IfOk};
 ghost use Rattle.cc_core.specs.Places.{places_of};
-ghost use Rattle.cc_core.specs.Views.{term_of, context_of};
+ghost use Rattle.cc_core.specs.TermViews.{term_of, context_of};
 ghost use Rattle.cc_certificate_text.specs.Certificates.{States};
 ghost use Rattle.cc_certificate_text.specs.LineReading.{name_at, bind_at, statement_at};
-ghost use Rattle.cc_certificate_terms.specs.FirstPlaces.{AreFirst};
-ghost use Rattle.cc_certificate_types.specs.Agreement.{Agrees};
-ghost use Rattle.cc_certificate_reading.specs.Views.{bind_line_of};
+ghost use Rattle.cc_certificate_reading.specs.FirstPlaces.{AreFirst};
+ghost use Rattle.cc_certificate_reading.specs.Agreement.{Agrees};
+ghost use Rattle.cc_certificate_reading.specs.CertificateViews.{bind_line_of};
 
+use crate::names::Names;
+use crate::sets::Locals;
+use crate::stop::{Reading, Stop};
+use crate::terms::read_term;
+use crate::types::read_type;
+use crate::words::read_exact;
 use cc_base::name::Name;
-use cc_certificate_terms::terms::read_term;
-use cc_certificate_types::names::Names;
-use cc_certificate_types::sets::Locals;
-use cc_certificate_types::stop::{Reading, Stop};
-use cc_certificate_types::types::read_type;
-use cc_certificate_types::words::read_exact;
 use cc_core::wellformed::{wf, wf_term};
 use cc_core::{Ctx, Node, Ty};
 use cc_words::words::{cut_at, name_of};

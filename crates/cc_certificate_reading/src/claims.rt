@@ -2,8 +2,8 @@
 
 ghost use Rattle.std.specs.Prelude.{◌≡◌, ◌≤◌, ◌||◌, is_some, length, option_map};
 ghost use Rattle.cc_core.specs.Derivations as plain;
-ghost use Rattle.cc_core.specs.Views.{shape_of, type_of};
-ghost use Rattle.cc_derivation.specs.Views.{claim_of};
+ghost use Rattle.cc_core.specs.TermViews.{shape_of, type_of};
+ghost use Rattle.cc_derivation.specs.DerivationViews.{claim_of};
 ghost use Rattle.cc_certificate_text.specs.LocalNames.{has_binder};
 ghost use Rattle.cc_certificate_text.specs.Certificates.{binder_number};
 ghost use Rattle.cc_certificate_text.specs.Reading.{Printed, number_at, shape_at, type_at};
@@ -22,14 +22,14 @@ ghost use Rattle.cc_certificate_text.specs.LineReading.{
   typing_claim_at,
   claim_at,
 };
-ghost use Rattle.cc_certificate_types.specs.Agreement.{Agrees};
-ghost use Rattle.cc_certificate_reading.specs.Views.{numbered_of, kind_of};
+ghost use Rattle.cc_certificate_reading.specs.Agreement.{Agrees};
+ghost use Rattle.cc_certificate_reading.specs.CertificateViews.{numbered_of, kind_of};
 
-use cc_certificate_types::names::Names;
-use cc_certificate_types::sets::{Locals, read_set};
-use cc_certificate_types::stop::{Reading, Stop};
-use cc_certificate_types::types::{read_shape, read_type};
-use cc_certificate_types::words::{read_exact, word_at};
+use crate::names::Names;
+use crate::sets::{Locals, read_set};
+use crate::stop::{Reading, Stop};
+use crate::types::{read_shape, read_type};
+use crate::words::{read_exact, word_at};
 use cc_core::{Shape, Ty};
 use cc_derivation::Claim;
 use cc_words::words::{behind, number_of};

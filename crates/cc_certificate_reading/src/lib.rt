@@ -1,13 +1,21 @@
-//! Reading certificates back from their bytes.
+//! Reading certificates back from their bytes: their words, sets, shapes, types and terms, and their lines.
 #![tactic(auto)]
 
 pub mod binds;
 pub mod certificate;
 pub mod claims;
-pub mod laws;
+pub mod literals;
+pub mod names;
 pub mod nodes;
+pub mod numbers;
 pub mod read;
+pub mod reading_examples;
 pub mod rules;
+pub mod sets;
+pub mod stop;
+pub mod terms;
+pub mod types;
+pub mod words;
 
 pub use certificate::{Cert, CertNode, ReadCertError};
 pub use read::read_cert;

@@ -2,18 +2,18 @@
 
 ghost use Rattle.std.specs.Prelude.{◌≡◌, ◌≤◌, ◌<◌, ◌+◌, map, length, option_map, IfOk};
 ghost use Rattle.cc_words.specs.Words.{all_of, number_of};
-ghost use Rattle.cc_derivation.specs.Views as plain;
+ghost use Rattle.cc_derivation.specs.DerivationViews as plain;
 ghost use Rattle.cc_certificate_text.specs.LineReading.{numbers_of, some_numbers, numbers_at, ends_with, conclusion_at, numbered_node_at, node_at};
-ghost use Rattle.cc_certificate_types.specs.Agreement.{Agrees};
-ghost use Rattle.cc_certificate_reading.specs.Views.{node_line_of};
+ghost use Rattle.cc_certificate_reading.specs.Agreement.{Agrees};
+ghost use Rattle.cc_certificate_reading.specs.CertificateViews.{node_line_of};
 
 use crate::certificate::CertNode;
 use crate::claims::read_claim;
+use crate::names::Names;
+use crate::numbers::read_same;
 use crate::rules::{kind_of, read_rule};
-use cc_certificate_types::names::Names;
-use cc_certificate_types::numbers::read_same;
-use cc_certificate_types::stop::{Reading, Stop};
-use cc_certificate_types::words::read_exact;
+use crate::stop::{Reading, Stop};
+use crate::words::read_exact;
 use cc_derivation::Rule;
 use cc_words::words::{cut_at, number_of, split_at};
 use std::alloc::{AllocError, Global};

@@ -1,15 +1,15 @@
 //! The names of rules.
 
 ghost use Rattle.std.specs.Prelude.{◌≡◌, option_map};
-ghost use Rattle.cc_derivation.specs.Views as plain;
+ghost use Rattle.cc_derivation.specs.DerivationViews as plain;
 ghost use Rattle.cc_certificate_text.specs.Certificates.{rule_kind};
 ghost use Rattle.cc_certificate_text.specs.LineReading.{rule_among, rule_of, rule_at};
-ghost use Rattle.cc_certificate_types.specs.Agreement.{Agrees};
+ghost use Rattle.cc_certificate_reading.specs.Agreement.{Agrees};
 ghost use Rattle.cc_certificate_reading.specs.RuleLists.{middle_rules, last_rules};
-ghost use Rattle.cc_certificate_reading.specs.Views.{kind_of};
+ghost use Rattle.cc_certificate_reading.specs.CertificateViews.{kind_of};
 
 use crate::claims::ClaimKind;
-use cc_certificate_types::stop::{Reading, Stop};
+use crate::stop::{Reading, Stop};
 use cc_derivation::Rule;
 use cc_words::words::cut_at;
 

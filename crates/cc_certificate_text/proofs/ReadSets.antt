@@ -22,7 +22,7 @@ use Rattle.cc_print.specs.TypeTexts.{numbered, position_text, variable_text, ele
 use Rattle.cc_print.proofs.ElementTexts.{ends_differ}
 use Rattle.cc_print.proofs.Words.{is_word_byte, IsWord, EndsWord, clash, word_append, word_name, word_decimal, name_no_low_line, name_some, name_not_reserved}
 use Rattle.cc_certificate_text.specs.LocalNames.{IsNamed, IsNamedElement, IsLocal}
-use Rattle.cc_certificate_text.specs.Reading.{Locals, Printed, Counted, local_of, position_of, variable_by, variable_of, element_of, other_of, elements_of}
+use Rattle.cc_certificate_text.specs.Reading.{Locals, Printed, Counted, local_of, spelled_position, variable_by, variable_of, element_of, other_of, elements_of}
 use Rattle.cc_certificate_text.proofs.Seen.{seen, seen_element, MayStand, written_number, written_low, local_of_gives, local_of-decimal, bound_text}
 
 -- the words of names
@@ -47,16 +47,16 @@ position_in false o p names name word e deeper h =
     let rest = deeper found.0 found.1 in
     subst (λ q. (q < length (name ∷ names)) × (word ≡ word_of_name (name ∷ names) q)) (sym found.2) (omega (arith, rest.0), rest.1)
 
-pub position_of_gives : (names : List (List ℕ)) (word : List ℕ) (p : ℕ) → position_of names word ≡ Some p
+pub position_of_gives : (names : List (List ℕ)) (word : List ℕ) (p : ℕ) → spelled_position names word ≡ Some p
     → (p < length names) × (word ≡ word_of_name names p)
 position_of_gives [] word p h = cc
 position_of_gives (name ∷ names) word p h =
-    position_in (bytes_eq (encode_utf8_all name) word) (position_of names word) p names name word refl
+    position_in (bytes_eq (encode_utf8_all name) word) (spelled_position names word) p names name word refl
     (λ q e. position_of_gives names word q e) h
 
 position_of-first : (names : List (List ℕ)) (p : ℕ) → p < length names
     → ((q : ℕ) → q < p → bytes_eq (word_of_name names q) (word_of_name names p) ≡ false)
-    → position_of names (word_of_name names p) ≡ Some p
+    → spelled_position names (word_of_name names p) ≡ Some p
 position_of-first [] p low apart = absurd (omega arith)
 position_of-first (name ∷ names) zero low apart =
     rw ((bytes_eq-Decides (encode_utf8_all name) (encode_utf8_all name)).1 refl) refl
@@ -108,7 +108,7 @@ map_gives f None y h = cc
 map_gives f (Some x) y h = (x, refl, cc)
 
 module _ (names : List (List ℕ)) (all : AllByRecursion IsName names) (apart : IsDistinct bytes_eq names) where
-  position_of-name : (p : ℕ) → p < length names → position_of names (word_of_name names p) ≡ Some p
+  position_of-name : (p : ℕ) → p < length names → spelled_position names (word_of_name names p) ≡ Some p
   position_of-name p low =
       position_of-first names p low
       (λ q h. bytes_eq-encodes (slice_index_or names q []) (slice_index_or names p [])
@@ -123,7 +123,7 @@ module _ (names : List (List ℕ)) (all : AllByRecursion IsName names) (apart : 
     text v = variable_text names depth (codes "_") (seen locals (length names) v)
 
     variable_in : (word : List ℕ) (v : Var) (o : Option (List ℕ)) (p : Option ℕ) → after_prefix word (codes "_") ≡ o
-        → position_of names word ≡ p → variable_by locals depth o p ≡ Some v → Named v × (word ≡ text v)
+        → spelled_position names word ≡ p → variable_by locals depth o p ≡ Some v → Named v × (word ≡ text v)
     variable_in word v (Some digits) p e position h =
         let found = local_of_gives locals depth digits v h in
         subst (λ x. Named x × (word ≡ text x)) (sym found.1) (
@@ -139,7 +139,7 @@ module _ (names : List (List ℕ)) (all : AllByRecursion IsName names) (apart : 
 
     pub variable_of_gives : (word : List ℕ) (v : Var) → variable_of locals names depth word ≡ Some v → Named v × (word ≡ text v)
     unfolding variable_of
-    variable_of_gives word v h = variable_in word v (after_prefix word (codes "_")) (position_of names word) refl refl h
+    variable_of_gives word v h = variable_in word v (after_prefix word (codes "_")) (spelled_position names word) refl refl h
 
     pub variable_word : (v : Var) → Named v → IsWord (text v)
     variable_word (Bound i) h =
@@ -153,13 +153,13 @@ module _ (names : List (List ℕ)) (all : AllByRecursion IsName names) (apart : 
     unfolding variable_of
     variable_of-text (Bound i) h =
         let digits = decimal (written_number locals depth i) in
-        subst (λ w. variable_by locals depth (after_prefix w (codes "_")) (position_of names w) ≡ Some (Bound i))
+        subst (λ w. variable_by locals depth (after_prefix w (codes "_")) (spelled_position names w) ≡ Some (Bound i))
         (sym (bound_text locals names depth (codes "_") i))
-        (ap (λ o. variable_by locals depth o (position_of names (codes "_" ++ digits))) (after_prefix-append (codes "_") digits)
+        (ap (λ o. variable_by locals depth o (spelled_position names (codes "_" ++ digits))) (after_prefix-append (codes "_") digits)
         ∙ local_of-decimal locals depth i h)
     variable_of-text (Free p) h =
         let named = named_at names all p h in
-        subst (λ w. variable_by locals depth (after_prefix w (codes "_")) (position_of names w) ≡ Some (Free p))
+        subst (λ w. variable_by locals depth (after_prefix w (codes "_")) (spelled_position names w) ≡ Some (Free p))
         (sym (seen_name names depth locals p h))
         (rw (
           no_prefix (word_of_name names p) (codes "_") (λ rest e. name_no_low_line (slice_index_or names p []) rest named e),

@@ -20,7 +20,7 @@ use Rattle.cc_print.proofs.Words.{IsWord, EndsWord, clash, same_words, word_deci
 use Rattle.cc_certificate_text.specs.Heights.{shape_height, term_height}
 use Rattle.cc_print.specs.TermTexts.{literal_text, named, term_under}
 use Rattle.cc_certificate_text.specs.Certificates.{IsWrittenLiteral, takes_argument}
-use Rattle.cc_certificate_text.specs.Reading.{Found, Got, Wrong, Reader, ◌>>=◌, found_of, begun, Counted, word_at, position_of, variable_by, variable_of, Readers, Parts, shape_at, term_parts, TermRule, FunRule, TypeFunRule, LetRule, IfRule, BoundaryRule, BoxingRule, UnboxRule, RepeatRule, LeaveRule, term_pieces, term_tree, term_rule_at, HeadRule, Calls, TypeCalls, Computes, Tells, Asks, head_pieces, head_tree, head_rule_at, operated_at, computed_at, headed_at, text_of, text_of_cut, text_at, literal_of, term_of_word, word_term_at, plain_term_at, term_over, term_at}
+use Rattle.cc_certificate_text.specs.Reading.{Found, Got, Wrong, Reader, ◌>>=◌, found_of, begun, Counted, word_at, spelled_position, variable_by, variable_of, Readers, Parts, shape_at, term_parts, TermRule, FunRule, TypeFunRule, LetRule, IfRule, BoundaryRule, BoxingRule, UnboxRule, RepeatRule, LeaveRule, term_pieces, term_tree, term_rule_at, HeadRule, Calls, TypeCalls, Computes, Tells, Asks, head_pieces, head_tree, head_rule_at, operated_at, computed_at, headed_at, text_of, text_of_cut, text_at, literal_of, term_of_word, word_term_at, plain_term_at, term_over, term_at}
 use Rattle.cc_certificate_text.proofs.Readers.{got_from_option, got_parts, begun_gives, word_at-word, word_at_gives}
 use Rattle.cc_certificate_text.proofs.ReadSets.{element_some, map_gives, seen_name, named_at, position_of_gives, variable_of_gives, variable_of-text, variable_word, no_prefix}
 use Rattle.cc_certificate_text.proofs.ReadShapes.{height_some}
@@ -59,16 +59,16 @@ module _ (names : List (List ℕ)) (all : AllByRecursion IsName names) (apart : 
   not_reserved depth (Free p) h =
       ap is_reserved (seen_name names depth Counted p h) ∙ name_not_reserved (slice_index_or names p []) (named_at names all p h)
 
-  reserved_no_name : (word : List ℕ) → is_reserved word ≡ true → (p : ℕ) → position_of names word ≡ Some p → ⊥
+  reserved_no_name : (word : List ℕ) → is_reserved word ≡ true → (p : ℕ) → spelled_position names word ≡ Some p → ⊥
   reserved_no_name word reserved p h =
       let found = position_of_gives names word p h in
       clash (is_reserved word) reserved
       (ap is_reserved found.1 ∙ name_not_reserved (slice_index_or names p []) (named_at names all p found.0))
 
-  no_variable : (depth : ℕ) (word : List ℕ) → after_prefix word (codes "_") ≡ None → ((p : ℕ) → position_of names word ≡ Some p → ⊥)
+  no_variable : (depth : ℕ) (word : List ℕ) → after_prefix word (codes "_") ≡ None → ((p : ℕ) → spelled_position names word ≡ Some p → ⊥)
       → variable_of Counted names depth word ≡ None
   unfolding variable_of
-  no_variable depth word low none = rw (low, none_unless (position_of names word) none) refl
+  no_variable depth word low none = rw (low, none_unless (spelled_position names word) none) refl
 
   unlike_keyword : (depth : ℕ) (v : Var) (word : List ℕ) → NamedVariable names all apart depth v → is_reserved word ≡ true
       → named names depth v ≡ word → ⊥

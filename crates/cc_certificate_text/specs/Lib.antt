@@ -1,6 +1,6 @@
+pub mod BadLineLaws
 pub mod Certificates
 pub mod Heights
-pub mod Laws
 pub mod LineReading
 pub mod LocalNames
 pub mod NodeTexts

@@ -101,10 +101,10 @@ local_at Printed depth number = Some (Bound number)
 local_at Counted depth number = bound_where (nat_lt number depth) (depth - 1 - number)
 
 -- the position of the first name that the word spells
-abbrev pub position_of : List (List ℕ) → List ℕ → Option ℕ
-position_of [] word = None
-position_of (name ∷ names) word =
-    if bytes_eq (encode_utf8_all name) word then Some zero else option_map suc (position_of names word)
+abbrev pub spelled_position : List (List ℕ) → List ℕ → Option ℕ
+spelled_position [] word = None
+spelled_position (name ∷ names) word =
+    if bytes_eq (encode_utf8_all name) word then Some zero else option_map suc (spelled_position names word)
 
 -- the local variable of the digits
 unfoldable pub local_of : Locals → ℕ → List ℕ → Option Var
@@ -118,7 +118,7 @@ variable_by locals depth None position = option_map Free position
 -- the variable of terms that the word is
 unfoldable pub variable_of : Locals → List (List ℕ) → ℕ → List ℕ → Option Var
 variable_of locals names depth word =
-    variable_by locals depth (after_prefix word (codes "_")) (position_of names word)
+    variable_by locals depth (after_prefix word (codes "_")) (spelled_position names word)
 
 -- the element that the word is
 unfoldable pub element_of : Locals → List (List ℕ) → ℕ → List ℕ → Option Elem

@@ -1,4 +1,4 @@
 //! Certificates: the texts of derivations, as bytes, and what they say.
 #![tactic(auto)]
 
-pub mod laws;
+pub mod bad_line_laws;

@@ -5,10 +5,10 @@ use Rattle.cc_core.specs.Shapes.{CapturingType, capturing}
 use Rattle.cc_core.specs.Terms.{Note, Absent, Written, Own}
 use Rattle.cc_core.specs.Contexts.{Context, entry_of}
 use Rattle.cc_core.specs.Places.{spots}
-use Rattle.cc_sets.specs.Outcomes.{Placed}
-use Rattle.cc_sets.specs.Inference.{Result, below, noted, inferred}
-use Rattle.cc_sets.specs.Verdicts.{Definition, checking, signature_of, plain_checked, recursion_checked}
-use Rattle.cc_sets.specs.Verdicts.{recursive_checked, checked}
+use Rattle.cc_checking.specs.Outcomes.{Placed}
+use Rattle.cc_checking.specs.Inference.{Result, below, noted, inferred}
+use Rattle.cc_checking.specs.Verdicts.{Definition, checking, signature_of, plain_checked, recursion_checked}
+use Rattle.cc_checking.specs.Verdicts.{recursive_checked, checked}
 use Rattle.cc_type.specs.Logs.{Got, after, followed}
 use Rattle.cc_type.specs.Rows.{comparing, ways}
 use Rattle.cc_check.specs.Rows.{plain_log, recursion_log, recursive_log, checked_log}

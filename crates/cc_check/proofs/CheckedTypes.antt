@@ -7,15 +7,15 @@ use Rattle.cc_core.specs.Places.{spots}
 use Rattle.cc_core.specs.WellFormed.{TermKind, kinds_of, is_well_formed_term, IsWellFormedNote}
 use Rattle.cc_core.proofs.KindFacts.{IsKindedType, IsKindedTerm-from, IsKindedNote-from}
 use Rattle.cc_core.proofs.SubcapturingContexts.{IsKindedContext, IsKindedContext-from}
-use Rattle.cc_sets.specs.Outcomes.{Asked, Placed, Found}
-use Rattle.cc_sets.specs.Inference.{limited}
-use Rattle.cc_sets.specs.Verdicts.{Definition, Checking, plain_checked, recursive_checked, IsChecked}
-use Rattle.cc_meta_checking.specs.CheckingLaws.{Fits}
-use Rattle.cc_meta_checking.specs.FillingLaws.{AreGlobals}
-use Rattle.cc_meta_checking.proofs.FoundFindings.{asked_of, Came, then_came, finds_came, found_finds, noted_came, avoided_came}
-use Rattle.cc_meta_checking.proofs.FoundTypes.{regular, notes_kinded}
-use Rattle.cc_meta_checking.proofs.ReadingKinds.{outermost}
-use Rattle.cc_meta_checking.proofs.Signatures.{signed}
+use Rattle.cc_checking.specs.Outcomes.{Asked, Placed, Found}
+use Rattle.cc_checking.specs.Inference.{limited}
+use Rattle.cc_checking.specs.Verdicts.{Definition, Checking, plain_checked, recursive_checked, IsChecked}
+use Rattle.cc_checking_laws.specs.CheckingLaws.{Fits}
+use Rattle.cc_checking_laws.specs.FillingLaws.{AreGlobals}
+use Rattle.cc_checking_laws.proofs.FoundFindings.{asked_of, Came, then_came, finds_came, found_finds, noted_came, avoided_came}
+use Rattle.cc_checking_laws.proofs.FoundTypes.{regular, notes_kinded}
+use Rattle.cc_checking_laws.proofs.ReadingKinds.{outermost}
+use Rattle.cc_checking_laws.proofs.Signatures.{signed}
 
 module _ (devices : ℕ) (globals : Context) (formed : IsKindedContext globals) (alone : AreGlobals globals) (n : ℕ)
     (definition : Definition) (found : Checking) (qs : List Asked) where

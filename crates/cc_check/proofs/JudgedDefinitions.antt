@@ -13,18 +13,18 @@ use Rattle.cc_core.specs.WellFormed.{kinds_of, IsWellFormedType}
 use Rattle.cc_core.proofs.KindFacts.{IsKindedType, IsKindedType-test}
 use Rattle.cc_core.proofs.Sorts.{TypeSort}
 use Rattle.cc_core.proofs.SubcapturingContexts.{IsKindedContext-from}
-use Rattle.cc_sets.specs.Outcomes.{Asked, IsBelow, IsCapless, Placed, Refused, Found}
-use Rattle.cc_sets.specs.Fillings.{AllServed, IsAskedIn, IsLeast, IsOverGlobals, FailsFirst}
-use Rattle.cc_sets.specs.Verdicts.{Definition, Checking, checked, Verdict}
-use Rattle.cc_sets.specs.Verdicts.{IsAccepted, IsRefused, Deserves, HasVerdict, signature_under, signature_verdict}
-use Rattle.cc_meta_checking.specs.CheckingLaws.{Fits}
-use Rattle.cc_meta_checking.specs.FillingLaws.{AreFit}
+use Rattle.cc_checking.specs.Outcomes.{Asked, IsBelow, IsCapless, Placed, Refused, Found}
+use Rattle.cc_checking.specs.Fillings.{AllServed, IsAskedIn, IsLeast, IsOverGlobals, FailsFirst}
+use Rattle.cc_checking.specs.Verdicts.{Definition, Checking, checked, Verdict}
+use Rattle.cc_checking.specs.Verdicts.{IsAccepted, IsRefused, Deserves, HasVerdict, signature_under, signature_verdict}
+use Rattle.cc_checking_laws.specs.CheckingLaws.{Fits}
+use Rattle.cc_checking_laws.specs.FillingLaws.{AreFit}
 use Rattle.cc_core.specs.Holes.{HolesAreOfParameters}
-use Rattle.cc_meta_checking.proofs.CheckedDefinitions.{all_terms}
-use Rattle.cc_meta_checking.proofs.FilledTyping.{fill_kinded}
-use Rattle.cc_meta_checking.proofs.FitDemands.{asked_is_fit}
-use Rattle.cc_meta_checking.proofs.LeastFillings.{globals_still}
-use Rattle.cc_meta_checking.proofs.ReadingKinds.{outermost}
+use Rattle.cc_checking_laws.proofs.CheckedDefinitions.{all_terms}
+use Rattle.cc_checking_laws.proofs.FilledTyping.{fill_kinded}
+use Rattle.cc_checking_laws.proofs.FitDemands.{asked_is_fit}
+use Rattle.cc_checking_laws.proofs.LeastFillings.{globals_still}
+use Rattle.cc_checking_laws.proofs.ReadingKinds.{outermost}
 use Rattle.cc_type.specs.Comparing.{most_steps}
 use Rattle.cc_solve.specs.Solutions.{AsksOfHolesBelow, AreSolvable, CanBeJudged, filling_of}
 use Rattle.cc_type.specs.FilledHoles.{HasAskedHolesBelow, holes_of, HasCheckingHolesBelow}

@@ -4,14 +4,14 @@ use Rattle.cc_core.specs.declared.terms.Checked.{Checked}
 use Rattle.cc_core.specs.Contexts.{Context}
 use Rattle.cc_core.specs.Occurrences.{HasNoHoleInType, HasNoHoleInTerm}
 use Rattle.cc_core.specs.Typing.{HasType}
-use Rattle.cc_core.specs.Views.{type_of, term_of}
+use Rattle.cc_core.specs.TermViews.{type_of, term_of}
 use Rattle.cc_core.specs.WellFormed.{IsWellFormedType}
-use Rattle.cc_sets.specs.Verdicts.{Definition}
-use Rattle.cc_meta_checking.specs.CheckingLaws.{Fits, oldest}
-use Rattle.cc_meta_checking.specs.AcceptedDefinitions.{definition_context}
+use Rattle.cc_checking.specs.Verdicts.{Definition}
+use Rattle.cc_checking_laws.specs.CheckingLaws.{Fits, oldest}
+use Rattle.cc_checking_laws.specs.AcceptedDefinitions.{definition_context}
 use Rattle.cc_core.specs.Holes.{HolesAreOfParameters}
-use Rattle.cc_meta_checking.proofs.AlikeSignatures.{refused_has_no_type}
-use Rattle.cc_meta_checking.proofs.CheckedDefinitions.{accepted_sound}
+use Rattle.cc_checking_laws.proofs.AlikeSignatures.{refused_has_no_type}
+use Rattle.cc_checking_laws.proofs.CheckedDefinitions.{accepted_sound}
 use Rattle.cc_check.specs.declared.error.CheckError.{CheckError}
 use Rattle.cc_check.specs.declared.error.CheckError.TheVariants as errors
 use Rattle.cc_check.specs.Definitions.{accepted_of}

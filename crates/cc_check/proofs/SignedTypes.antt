@@ -5,9 +5,9 @@ use Rattle.cc_core.specs.Contexts.{Context}
 use Rattle.cc_core.specs.WellFormed.{kinds_of, IsWellFormedContext, IsWellFormedType}
 use Rattle.cc_core.proofs.KindFacts.{IsKindedType-from, IsKindedType-test}
 use Rattle.cc_core.proofs.SubcapturingContexts.{IsKindedContext-from}
-use Rattle.cc_sets.specs.Verdicts.{signature_of}
-use Rattle.cc_meta_checking.specs.FillingLaws.{AreGlobals}
-use Rattle.cc_meta_checking.proofs.Signatures.{signed}
+use Rattle.cc_checking.specs.Verdicts.{signature_of}
+use Rattle.cc_checking_laws.specs.FillingLaws.{AreGlobals}
+use Rattle.cc_checking_laws.proofs.Signatures.{signed}
 
 -- a signature is well formed
 pub signature_well_formed : (devices : ℕ) (globals : Context) (type signature : CapturingType)

@@ -7,8 +7,8 @@ use Rattle.cc_core.specs.WellFormed.{TermKind, kinds_of, IsWellFormedNote, IsWel
 use Rattle.cc_core.proofs.KindFacts.{IsKindedNote-from, IsKindedType-from, IsKinded-test, IsKindedType-test}
 use Rattle.cc_core.proofs.Sorts.{ShapeSort, TypeSort}
 use Rattle.cc_core.proofs.SubcapturingContexts.{IsKinded-added, IsKindedSet-added}
-use Rattle.cc_sets.specs.Inference.{shape_in, type_in}
-use Rattle.cc_meta_checking.proofs.ReadingKinds.{outermost, read_kinded}
+use Rattle.cc_checking.specs.Inference.{shape_in, type_in}
+use Rattle.cc_checking_laws.proofs.ReadingKinds.{outermost, read_kinded}
 use Rattle.cc_type.specs.Standing.{StandsIn, NoteReadsWell}
 
 -- no binder was passed

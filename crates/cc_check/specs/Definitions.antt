@@ -2,9 +2,9 @@
 use Rattle.std.specs.Prelude.{option_map}
 use Rattle.cc_core.specs.declared.terms.CoreDef.{CoreDef}
 use Rattle.cc_core.specs.declared.terms.Checked.{Checked}
-use Rattle.cc_core.specs.Views.{type_of, note_of, term_of}
+use Rattle.cc_core.specs.TermViews.{type_of, note_of, term_of}
 use Rattle.cc_core.specs.Places.{places_of}
-use Rattle.cc_sets.specs.Verdicts.{Definition, Checking, checking, Accepted}
+use Rattle.cc_checking.specs.Verdicts.{Definition, Checking, checking, Accepted}
 use Rattle.cc_check.specs.declared.found.Checking.{Checking as DeclaredChecking}
 
 -- the definition

@@ -2,10 +2,10 @@
 use Rattle.std.specs.Prelude.{◌≡◌, ℕ, List, length, Result, Ok, Err}
 use Rattle.cc_core.specs.declared.terms.Checked.{Checked}
 use Rattle.cc_core.specs.Contexts.{Context}
-use Rattle.cc_sets.specs.Fillings.{Filling, IsOverGlobals}
-use Rattle.cc_sets.specs.Outcomes.{Placed, Found}
-use Rattle.cc_sets.specs.Verdicts.{Definition, Checking, Verdict, IsAccepted, IsRefused, IsChecked, HasVerdict}
-use Rattle.cc_sets.specs.Verdicts.{HasAlgorithmicType}
+use Rattle.cc_checking.specs.Fillings.{Filling, IsOverGlobals}
+use Rattle.cc_checking.specs.Outcomes.{Placed, Found}
+use Rattle.cc_checking.specs.Verdicts.{Definition, Checking, Verdict, IsAccepted, IsRefused, IsChecked, HasVerdict}
+use Rattle.cc_checking.specs.Verdicts.{HasAlgorithmicType}
 use Rattle.cc_type.specs.declared.stop.Stop.{Stop}
 use Rattle.cc_type.specs.declared.stop.Stop.TheVariants as stops
 use Rattle.cc_type.specs.Keeping.{kept}

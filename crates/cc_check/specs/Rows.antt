@@ -6,9 +6,9 @@ use Rattle.cc_core.specs.Shapes.{CapturingType, capturing}
 use Rattle.cc_core.specs.Terms.{Note, Absent, Written, Own}
 use Rattle.cc_core.specs.Contexts.{Context, entry_of}
 use Rattle.cc_core.specs.Places.{spots}
-use Rattle.cc_sets.specs.Outcomes.{Placed, found_or}
-use Rattle.cc_sets.specs.Inference.{below, inferred}
-use Rattle.cc_sets.specs.Verdicts.{Definition, Checking, checking, signature_of}
+use Rattle.cc_checking.specs.Outcomes.{Placed, found_or}
+use Rattle.cc_checking.specs.Inference.{below, inferred}
+use Rattle.cc_checking.specs.Verdicts.{Definition, Checking, checking, signature_of}
 use Rattle.cc_type.specs.Logs.{Logged, Stopped, Got, after, followed, plainly}
 use Rattle.cc_type.specs.Rows.{comparing, ways, noted_log}
 

@@ -2,16 +2,16 @@
 use Rattle.std.specs.Prelude.{◌≡◌, ℕ, nat_lt, List, [], ◌∷◌, length, Option, Some, None, if◌then◌else◌}
 use Rattle.cc_capture.specs.Sets.{Set}
 use Rattle.cc_core.specs.Contexts.{Bind, TermEntry, TypeEntry, Context}
-use Rattle.cc_sets.specs.Avoidance.{Sign, avoided_set}
-use Rattle.cc_sets.specs.Verdicts.{declared_set}
+use Rattle.cc_checking.specs.Avoidance.{Sign, avoided_set}
+use Rattle.cc_checking.specs.Verdicts.{declared_set}
 
 -- the definitions of a context, the latest first, each with its declared set
-abbrev pub definitions_of : ℕ → Context → List (ℕ × Set)
-definitions_of devices [] = []
-definitions_of devices (newest ∷ older) =
+abbrev pub declared_sets : ℕ → Context → List (ℕ × Set)
+declared_sets devices [] = []
+declared_sets devices (newest ∷ older) =
     if nat_lt (length older) devices
     then []
-    else (length older, declared_set newest) ∷ definitions_of devices older
+    else (length older, declared_set newest) ∷ declared_sets devices older
 
 -- the next set is the one in which the position of the entry is avoided
 abbrev pub AvoidsBind : Sign → ℕ → Bind → Set → Set → Type 0

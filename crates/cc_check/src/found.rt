@@ -1,6 +1,6 @@
 //! What is found for a definition.
 
-ghost use Rattle.cc_core.specs.Views.{shape_of};
+ghost use Rattle.cc_core.specs.TermViews.{shape_of};
 ghost use Rattle.cc_type.specs.MeasuredOnce.{IsMeasuredBy-prop};
 ghost use Rattle.cc_type.specs.Measures.{IsMeasuredBy};
 

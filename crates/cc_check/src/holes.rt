@@ -1,7 +1,7 @@
 //! How many holes a right side has.
 
 ghost use Rattle.std.specs.Prelude.{◌≡◌, max, IfOk};
-ghost use Rattle.cc_core.specs.Views.{form_of, term_of};
+ghost use Rattle.cc_core.specs.TermViews.{form_of, term_of};
 ghost use Rattle.cc_type.specs.FilledHoles as plain;
 
 use cc_capture::{CapSet, Elem};

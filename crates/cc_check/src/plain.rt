@@ -3,9 +3,9 @@
 ghost use Rattle.std.specs.Prelude.{◌≡◌, Some, length, IfOk, IfSome};
 ghost use Rattle.cc_core.specs.Places.{places_of, spots};
 ghost use Rattle.cc_core.specs.Terms.{Absent};
-ghost use Rattle.cc_core.specs.Views.{type_of, note_of, term_of, context_of};
+ghost use Rattle.cc_core.specs.TermViews.{type_of, note_of, term_of, context_of};
 ghost use Rattle.cc_core.specs.WellFormed.{IsWellFormedContext, IsWellFormedNote, IsWellFormedTerm, IsWellFormedType};
-ghost use Rattle.cc_sets.specs.Inference.{inferred};
+ghost use Rattle.cc_checking.specs.Inference.{inferred};
 ghost use Rattle.cc_subty.specs.Demands.{asked_of};
 ghost use Rattle.cc_type.specs.Logs.{Meets, after};
 ghost use Rattle.cc_type.specs.Measures.{AreMeasuresOf};

@@ -4,11 +4,11 @@ ghost use Rattle.std.specs.Prelude.{◌≡◌, [], ◌∷◌, Some, IsTrue, IfOk
 ghost use Rattle.cc_base.specs.declared.code.Code.TheVariants as codes;
 ghost use Rattle.cc_core.specs.Places.{places_of};
 ghost use Rattle.cc_core.specs.Terms.{Written};
-ghost use Rattle.cc_core.specs.Views.{type_of, note_of, term_of, context_of};
+ghost use Rattle.cc_core.specs.TermViews.{type_of, note_of, term_of, context_of};
 ghost use Rattle.cc_core.specs.WellFormed.{TermKind, kinds_of, is_well_formed_term, IsWellFormedContext, IsWellFormedNote, IsWellFormedTerm, IsWellFormedType};
-ghost use Rattle.cc_meta_checking.specs.FillingLaws.{AreGlobals};
-ghost use Rattle.cc_sets.specs.Outcomes.{found_or};
-ghost use Rattle.cc_sets.specs.Verdicts.{checking, signature_of};
+ghost use Rattle.cc_checking_laws.specs.FillingLaws.{AreGlobals};
+ghost use Rattle.cc_checking.specs.Outcomes.{found_or};
+ghost use Rattle.cc_checking.specs.Verdicts.{checking, signature_of};
 ghost use Rattle.cc_subty.specs.Demands.{asked_of};
 ghost use Rattle.cc_type.specs.Logs.{Answers, Meets};
 ghost use Rattle.cc_type.specs.Measures.{AreMeasuresOf};

@@ -2,9 +2,9 @@
 
 ghost use Rattle.std.specs.Prelude.{◌≡◌, Some, IfOk, IfSome, option_map};
 ghost use Rattle.cc_core.specs.Shapes.{Shape as PlainShape};
-ghost use Rattle.cc_core.specs.Views.{shape_of, type_of, context_of};
+ghost use Rattle.cc_core.specs.TermViews.{shape_of, type_of, context_of};
 ghost use Rattle.cc_core.specs.WellFormed.{IsWellFormedContext};
-ghost use Rattle.cc_sets.specs.Verdicts.{signature_of};
+ghost use Rattle.cc_checking.specs.Verdicts.{signature_of};
 ghost use Rattle.cc_type.specs.Measures.{IsMeasuredBy, IsMeasuredFrom, IsSize};
 ghost use Rattle.cc_type.specs.Signatures as plain;
 

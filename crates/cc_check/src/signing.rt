@@ -7,11 +7,11 @@ ghost use Rattle.std.specs.Option.{option_map, unwrap_or};
 ghost use Rattle.cc_avoid.specs.AvoidedTogether.{set_avoiding, names_any, shape_avoiding, type_avoiding};
 ghost use Rattle.cc_avoid.specs.Avoiding.{sign_of, given_shape, given_type};
 ghost use Rattle.cc_core.specs.Contexts.{lookup};
-ghost use Rattle.cc_core.specs.Views.{shape_of, type_of, bind_of, context_of};
+ghost use Rattle.cc_core.specs.TermViews.{shape_of, type_of, bind_of, context_of};
 ghost use Rattle.cc_core.specs.WellFormed.{IsWellFormedContext};
-ghost use Rattle.cc_sets.specs.Avoidance as plain;
+ghost use Rattle.cc_checking.specs.Avoidance as plain;
 ghost use Rattle.cc_type.specs.Measures.{IsClearAlong, IsMeasuredFrom};
-ghost use Rattle.cc_check.specs.SignedParts.{definitions_of, AvoidsBind, AvoidsEntry};
+ghost use Rattle.cc_check.specs.SignedParts.{declared_sets, AvoidsBind, AvoidsEntry};
 
 use crate::signature::{greatest_in, greatest_in_set};
 use cc_avoid::positions::{Positions, avoid_position};
@@ -35,7 +35,7 @@ struct Definitions<'a> {
 impl<'a> Positions for Definitions<'a> {
     ghost can_avoid = { λ d. IsWellFormedContext (context_of d.ctx.now) };
 
-    ghost listed = { λ d. definitions_of d.devices (context_of d.ctx.now) };
+    ghost listed = { λ d. declared_sets d.devices (context_of d.ctx.now) };
 
     fn avoid_in_set(
         &self,
@@ -107,7 +107,7 @@ fn avoid_each(
     set: &CapSet,
 ) -> Result<CapSet, AllocError>
     requires { IsWellFormedContext (context_of ctx.now) }
-    ensures { IfOk result (λ s. s ≡ set_avoiding (sign_of sign) (definitions_of devices (context_of ctx.now)) set.now) }
+    ensures { IfOk result (λ s. s ≡ set_avoiding (sign_of sign) (declared_sets devices (context_of ctx.now)) set.now) }
 {
     let mut left = set.clone()?;
     while let Some(position) = greatest_in_set(devices, &left) {
@@ -126,7 +126,7 @@ fn sign_set(
     set: &CapSet,
 ) -> Result<Option<CapSet>, AllocError>
     requires { IsWellFormedContext (context_of ctx.now) }
-    ensures { IfOk result (λ s. unwrap_or s set.now ≡ set_avoiding (sign_of sign) (definitions_of devices (context_of ctx.now)) set.now) }
+    ensures { IfOk result (λ s. unwrap_or s set.now ≡ set_avoiding (sign_of sign) (declared_sets devices (context_of ctx.now)) set.now) }
 {
     match greatest_in_set(devices, set) {
         Some(_) => Ok(Some(avoid_each(alloc, ctx, devices, sign, set)?)),
@@ -136,7 +136,7 @@ fn sign_set(
 
 // Whether a definition is free in the shape. It is none where no memory is wanting.
 fn names_definition(ctx: &Ctx, devices: u32, shape: &Shape) -> Result<bool, AllocError>
-    ensures { IfOk result (λ b. b ≡ names_any (definitions_of devices (context_of ctx.now)) (shape_of shape.now)) }
+    ensures { IfOk result (λ b. b ≡ names_any (declared_sets devices (context_of ctx.now)) (shape_of shape.now)) }
 {
     match greatest_in(devices, shape) {
         Some(position) => {
@@ -161,7 +161,7 @@ pub(crate) fn sign_whole(
 ) -> Result<Option<Ty>, AllocError>
     requires context { IsWellFormedContext (context_of ctx.now) }
     requires measured { IsMeasuredFrom devices known (shape_of ty.now.shape.value) }
-    ensures { IfOk result (λ t. option_map type_of t ≡ type_avoiding plain.Positive (definitions_of devices (context_of ctx.now)) (type_of ty.now)) }
+    ensures { IfOk result (λ t. option_map type_of t ≡ type_avoiding plain.Positive (declared_sets devices (context_of ctx.now)) (type_of ty.now)) }
 {
     let shape = sign_measured(alloc, ctx, devices, known, &ty.shape)?;
     let set = sign_set(alloc, ctx, devices, Sign::Positive, &ty.set)?;
@@ -179,7 +179,7 @@ fn sign_along(
 ) -> Result<AvoidedShape, AllocError>
     requires context { IsWellFormedContext (context_of ctx.now) }
     requires clear { IsClearAlong devices steps (shape_of shape.now) }
-    ensures { IfOk result (λ a. given_shape (shape_of shape.now) a ≡ shape_avoiding plain.Positive (definitions_of devices (context_of ctx.now)) (shape_of shape.now)) }
+    ensures { IfOk result (λ a. given_shape (shape_of shape.now) a ≡ shape_avoiding plain.Positive (declared_sets devices (context_of ctx.now)) (shape_of shape.now)) }
 {
     if steps == 0 {
         return Ok(AvoidedShape::Kept);
@@ -214,7 +214,7 @@ fn sign_type_along(
 ) -> Result<AvoidedType, AllocError>
     requires context { IsWellFormedContext (context_of ctx.now) }
     requires clear { IsClearAlong devices steps (shape_of ty.now.shape.value) }
-    ensures { IfOk result (λ a. given_type (type_of ty.now) a ≡ type_avoiding plain.Positive (definitions_of devices (context_of ctx.now)) (type_of ty.now)) }
+    ensures { IfOk result (λ a. given_type (type_of ty.now) a ≡ type_avoiding plain.Positive (declared_sets devices (context_of ctx.now)) (type_of ty.now)) }
 {
     let shape = sign_along(alloc, ctx, devices, steps, &ty.shape)?;
     let set = sign_set(alloc, ctx, devices, Sign::Positive, &ty.set)?;
@@ -231,7 +231,7 @@ fn sign_measured(
 ) -> Result<AvoidedShape, AllocError>
     requires context { IsWellFormedContext (context_of ctx.now) }
     requires measured { IsMeasuredFrom devices known (shape_of shape.now) }
-    ensures { IfOk result (λ a. given_shape (shape_of shape.now) a ≡ shape_avoiding plain.Positive (definitions_of devices (context_of ctx.now)) (shape_of shape.now)) }
+    ensures { IfOk result (λ a. given_shape (shape_of shape.now) a ≡ shape_avoiding plain.Positive (declared_sets devices (context_of ctx.now)) (shape_of shape.now)) }
 {
     match known {
         Some(measure) => sign_along(alloc, ctx, devices, measure.steps, shape),

@@ -6,7 +6,7 @@ use Rattle.cc_base.specs.declared.literal.Base.TheVariants as bases
 use Rattle.cc_capture.specs.Sets.{same_set}
 use Rattle.cc_capture.proofs.Equality.{same_variable-decides, same_set-decides}
 use Rattle.cc_core.specs.Shapes.{Shape, BaseShape, AnyShape, TypeVariable, FunctionShape, TypeFunctionShape, BoxShape, ExitShape, CapturingType}
-use Rattle.cc_core.specs.Comparison.{base_number, same_shape, same_type}
+use Rattle.cc_core.specs.Equality.{base_number, same_shape, same_type}
 
 both : (a b : Bool) → (a && b) ≡ true → (a ≡ true) × (b ≡ true)
 both true true h = (refl, refl)

@@ -17,7 +17,7 @@ use Rattle.cc_core.specs.declared.occurrences.Question.TheVariants as questions
 use Rattle.cc_core.specs.Shapes.{Shape, BaseShape, AnyShape, TypeVariable, FunctionShape, TypeFunctionShape, BoxShape, ExitShape, CapturingType}
 use Rattle.cc_core.specs.Occurrences.{Condition, Meets, MeetsInSet, MeetsInType, IsAskedOf, IsNoHole, without, without_holes}
 use Rattle.cc_core.specs.Questions.{Question, is_hole, occurs, occurs_in_type}
-use Rattle.cc_core.specs.Views.{question_of}
+use Rattle.cc_core.specs.TermViews.{question_of}
 
 -- a test says no exactly where a fact holds
 abbrev pub SaysNo : Bool → Type 0 → Type 0

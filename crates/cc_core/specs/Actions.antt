@@ -7,7 +7,7 @@ use Rattle.cc_core.specs.declared.acting.Action.TheVariants as actions
 use Rattle.cc_core.specs.Traversal.{Action}
 use Rattle.cc_core.specs.Substitution.{single, putting, putting_shape, closing, renaming, filling_in}
 use Rattle.cc_core.specs.Reading.{reading, writing}
-use Rattle.cc_core.specs.Views.{shape_of}
+use Rattle.cc_core.specs.TermViews.{shape_of}
 
 -- the position that a list has for a position; one past the list stays
 abbrev pub renamed_by : List ℕ → ℕ → ℕ

@@ -1,6 +1,6 @@
 -- What a shape or a type becomes where the parts that stay are shared: it is kept, or it is another one.
 use Rattle.cc_core.specs.Shapes.{Shape, CapturingType}
-use Rattle.cc_core.specs.Views.{shape_of, type_of}
+use Rattle.cc_core.specs.TermViews.{shape_of, type_of}
 use Rattle.cc_core.specs.declared.acting.ActedShape.{ActedShape}
 use Rattle.cc_core.specs.declared.acting.ActedShape.TheVariants as shapes
 use Rattle.cc_core.specs.declared.acting.ActedType.{ActedType}

@@ -12,7 +12,7 @@ ghost use Rattle.cc_core.specs.Shapes.{TypeVariable, FunctionShape, TypeFunction
 ghost use Rattle.cc_core.specs.Substitution.{single, put_variable, renamed_variable, closed_variable};
 ghost use Rattle.cc_core.specs.Reading.{read_variable, written_variable};
 ghost use Rattle.cc_core.specs.Actions.{action_of, renamed_by};
-ghost use Rattle.cc_core.specs.Views.{shape_of, type_of, note_of, form_of, term_of};
+ghost use Rattle.cc_core.specs.TermViews.{shape_of, type_of, note_of, form_of, term_of};
 ghost use Rattle.cc_core.specs.Places.{Spots, places_around, places_of};
 
 use crate::copies::copy_literal;

@@ -6,7 +6,7 @@ ghost use Rattle.cc_capture.specs.declared.var.Elem.TheVariants.{Var as Variable
 ghost use Rattle.cc_core.specs.Captured as plain;
 ghost use Rattle.cc_core.specs.Captured.{captured_variables};
 ghost use Rattle.cc_core.specs.Stores.{is_function};
-ghost use Rattle.cc_core.specs.Views.{form_of, term_of};
+ghost use Rattle.cc_core.specs.TermViews.{form_of, term_of};
 
 use crate::terms::{Form, Node};
 use cc_capture::{CapSet, Elem, Var};

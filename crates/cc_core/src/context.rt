@@ -1,7 +1,7 @@
 ghost use Rattle.std.specs.Prelude.{◌≡◌, [], ◌∷◌, ◌++◌, length, slice_get, IfOk, option_map};
 ghost use Rattle.cc_core.specs.Contexts.{lookup};
 ghost use Rattle.cc_core.specs.Entries.{tree_entries, entries, IsCounted, AreCounted};
-ghost use Rattle.cc_core.specs.Views.{bind_of, context_of};
+ghost use Rattle.cc_core.specs.TermViews.{bind_of, context_of};
 
 use crate::types::{Shape, Ty};
 use cc_capture::CapSet;

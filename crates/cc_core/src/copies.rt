@@ -1,7 +1,7 @@
 //! Copies of types, of what is written for a type, and of literals. The parts are shared.
 ghost use Rattle.std.specs.Prelude.{◌≡◌, IfOk};
 ghost use Rattle.cc_base.specs.Literals.{literal_of};
-ghost use Rattle.cc_core.specs.Views.{type_of, note_of};
+ghost use Rattle.cc_core.specs.TermViews.{type_of, note_of};
 
 use crate::terms::Note;
 use crate::types::Ty;

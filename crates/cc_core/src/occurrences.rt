@@ -4,7 +4,7 @@ ghost use Rattle.std.specs.Prelude.{◌≡◌, ◌↔◌, false};
 ghost use Rattle.std.specs.List.{list_any};
 ghost use Rattle.cc_core.specs.Questions as plain;
 ghost use Rattle.cc_core.specs.Occurrences.{MeetsInSet, Meets, MeetsInType, without, HasNoHoleInSet};
-ghost use Rattle.cc_core.specs.Views.{shape_of, type_of, question_of};
+ghost use Rattle.cc_core.specs.TermViews.{shape_of, type_of, question_of};
 
 use crate::types::{Shape, Ty};
 use cc_capture::var::same_var;

@@ -5,7 +5,7 @@
 ghost use Rattle.std.specs.Prelude.{◌≡◌, IfOk};
 ghost use Rattle.std.specs.Option.{unwrap_or};
 ghost use Rattle.cc_core.specs.Reading as plain;
-ghost use Rattle.cc_core.specs.Views.{shape_of, type_of, term_of};
+ghost use Rattle.cc_core.specs.TermViews.{shape_of, type_of, term_of};
 ghost use Rattle.cc_core.specs.Places.{places_of};
 
 use crate::acting::{self, Action};

@@ -1,9 +1,9 @@
 //! Whether two shapes or two types are one. The tests take no memory.
 
 ghost use Rattle.std.specs.Prelude.{◌≡◌};
-ghost use Rattle.cc_core.specs.Comparison as plain;
-ghost use Rattle.cc_core.specs.Comparison.{base_number, SameShapeDecides, SameTypeDecides};
-ghost use Rattle.cc_core.specs.Views.{shape_of, type_of};
+ghost use Rattle.cc_core.specs.Equality as plain;
+ghost use Rattle.cc_core.specs.Equality.{base_number, SameShapeDecides, SameTypeDecides};
+ghost use Rattle.cc_core.specs.TermViews.{shape_of, type_of};
 
 use crate::types::{Shape, Ty};
 use cc_base::literal::Base;

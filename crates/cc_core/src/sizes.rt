@@ -3,7 +3,7 @@
 ghost use Rattle.std.specs.Prelude.{◌≡◌, ◌+◌, ◌-◌, ◌^◌, min, nat_eq};
 ghost use Rattle.cc_core.specs.Sizes as plain;
 ghost use Rattle.cc_core.specs.Depths.{depth_of};
-ghost use Rattle.cc_core.specs.Views.{shape_of, type_of};
+ghost use Rattle.cc_core.specs.TermViews.{shape_of, type_of};
 
 use crate::types::{Shape, Ty};
 use cc_capture::{CapSet, Var};

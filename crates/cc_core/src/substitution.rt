@@ -5,7 +5,7 @@ ghost use Rattle.std.specs.Prelude.{◌≡◌, IfOk};
 ghost use Rattle.cc_core.specs.Substitution.{filling_in, opened_type, opened_term, closed_type, replaced_type, replaced_type_by_shape, replaced_term_by_shape, renamed_term, filled_set, filled, filled_type, filled_term};
 ghost use Rattle.cc_core.specs.Traversal.{act_note};
 ghost use Rattle.cc_core.specs.Actions.{renamed_by, filled_by};
-ghost use Rattle.cc_core.specs.Views.{shape_of, type_of, note_of, term_of};
+ghost use Rattle.cc_core.specs.TermViews.{shape_of, type_of, note_of, term_of};
 ghost use Rattle.cc_core.specs.Places.{places_of};
 
 use crate::acting::{self, Action};

@@ -6,7 +6,7 @@ ghost use Rattle.cc_core.specs.Contexts.{lookup};
 ghost use Rattle.cc_core.specs.WellFormed as plain;
 ghost use Rattle.cc_core.specs.WellFormed.{kinds_of};
 ghost use Rattle.cc_core.specs.Binders.{plain_kind, passed_kinds};
-ghost use Rattle.cc_core.specs.Views.{shape_of, type_of, note_of, form_of, term_of, bind_of, context_of};
+ghost use Rattle.cc_core.specs.TermViews.{shape_of, type_of, note_of, form_of, term_of, bind_of, context_of};
 
 use crate::context::{Bind, Ctx};
 use crate::terms::{Form, Node, Note};

@@ -1,2 +1,6 @@
+pub mod Broken
+pub mod DerivationViews
 pub mod Numbers
-pub mod Views
+pub mod Rows
+pub mod ValidityExamples
+pub mod ValidityLaws

@@ -2,7 +2,7 @@
 -- the other, and then the node itself. A part that is shared is numbered at each of its places.
 use Rattle.std.specs.Prelude.{ℕ, ◌+◌, List, [], ◌∷◌}
 use Rattle.cc_core.specs.Derivations.{Derivation, Premises, NoPremise, Premise}
-use Rattle.cc_sets.specs.DerivationSizes.{nodes}
+use Rattle.cc_checking.specs.DerivationSizes.{nodes}
 
 -- the number of the last node of the derivation, where so many nodes come before the derivation
 abbrev pub own_number : ℕ → Derivation → ℕ

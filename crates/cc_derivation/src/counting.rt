@@ -1,8 +1,8 @@
 //! How many nodes a derivation has.
 
 ghost use Rattle.std.specs.Prelude.{◌≡◌, ◌-◌, ◌^◌, min};
-ghost use Rattle.cc_sets.specs.DerivationSizes.{nodes, nodes_of};
-ghost use Rattle.cc_derivation.specs.Views.{premises_of, der_of};
+ghost use Rattle.cc_checking.specs.DerivationSizes.{nodes, nodes_of};
+ghost use Rattle.cc_derivation.specs.DerivationViews.{premises_of, der_of};
 
 use crate::derivation::{Der, Premises};
 

@@ -2,12 +2,12 @@
 use Rattle.std.proofs.Common.{◌≡◌, ℕ, ◌+◌, ◌≤◌, sym, subst, arith}
 use Rattle.cc_core.specs.Contexts.{Context}
 use Rattle.cc_core.specs.Derivations.{OfType, Derivation, IsValidTyping, Concludes}
-use Rattle.cc_core.specs.Views.{type_of, note_of, term_of}
+use Rattle.cc_core.specs.TermViews.{type_of, note_of, term_of}
 use Rattle.cc_core.specs.declared.terms.Checked.{Checked}
-use Rattle.cc_sets.specs.CanonicalDerivations.{shape_derived, definition_derived}
-use Rattle.cc_sets.specs.Verdicts.{Accepted}
-use Rattle.cc_meta_checking.proofs.DerivedDefinitions.{definitions_valid}
-use Rattle.cc_meta_derivation.proofs.StayingDefinitions.{definitions_stay}
+use Rattle.cc_checking.specs.CanonicalDerivations.{shape_derived, definition_derived}
+use Rattle.cc_checking.specs.Verdicts.{Accepted}
+use Rattle.cc_checking_laws.proofs.DerivedDefinitions.{definitions_valid}
+use Rattle.cc_checking_laws.proofs.StayingDefinitions.{definitions_stay}
 use Rattle.cc_derive.specs.Accepting.{IsAcceptedIn, checked_derived}
 
 -- what is accepted

@@ -6,9 +6,9 @@ use Rattle.cc_capture.specs.declared.var.Var.TheVariants.{Bound, Free}
 use Rattle.cc_core.specs.Contexts.{Bind, TermEntry, TypeEntry, Context, lookup}
 use Rattle.cc_core.specs.Shapes.{Shape, BaseShape, AnyShape, TypeVariable, FunctionShape, TypeFunctionShape, BoxShape, ExitShape}
 use Rattle.cc_core.proofs.Lookups.{lookup-below}
-use Rattle.cc_meta_typing.proofs.ExposingShapes.{others_stay}
-use Rattle.cc_sets.specs.Comparison.{bound_in}
-use Rattle.cc_sets.specs.Exposing.{followed, exposed}
+use Rattle.cc_typing_laws.proofs.ExposingShapes.{others_stay}
+use Rattle.cc_checking.specs.Comparison.{bound_in}
+use Rattle.cc_checking.specs.Exposing.{followed, exposed}
 use Rattle.cc_derive.specs.Older.{older, position_before}
 
 -- no limit, and one at the length

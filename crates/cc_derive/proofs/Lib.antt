@@ -1,6 +1,11 @@
 pub mod AcceptedTrees
+pub mod Counts
 pub mod ExposedOlder
+pub mod Made
 pub mod MadeEnds
 pub mod MadeRows
+pub mod MadeShapes
 pub mod MadeTerms
 pub mod MadeTypings
+pub mod Reached
+pub mod Tabled

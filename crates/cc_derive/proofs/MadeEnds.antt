@@ -5,14 +5,14 @@ use Rattle.cc_core.specs.Contexts.{Context, entry_of}
 use Rattle.cc_core.specs.Derivations.{t-abs, t-tabs, t-let, t-boundary, OfType, Derivation, Node, one, two}
 use Rattle.cc_core.specs.Shapes.{Shape, FunctionShape, TypeFunctionShape, CapturingType, capturing}
 use Rattle.cc_core.specs.Substitution.{closed_type}
-use Rattle.cc_core.specs.Views.{type_of}
-use Rattle.cc_sets.specs.Avoidance.{Positive, avoided_type}
-use Rattle.cc_sets.specs.CanonicalDerivations.{Deriving, typed, raised, raised_if, avoided_or, left_derived, let_node, boundary_node}
-use Rattle.cc_sets.specs.Inference.{set_in, exit_entry}
-use Rattle.cc_derive_subtyping.specs.Trees.{IsMade}
+use Rattle.cc_core.specs.TermViews.{type_of}
+use Rattle.cc_checking.specs.Avoidance.{Positive, avoided_type}
+use Rattle.cc_checking.specs.CanonicalDerivations.{Deriving, typed, raised, raised_if, avoided_or, left_derived, let_node, boundary_node}
+use Rattle.cc_checking.specs.Inference.{set_in, exit_entry}
+use Rattle.cc_derive.specs.Trees.{IsMade}
 use Rattle.cc_derive.specs.declared.nodes.Typing.{Typing}
 use Rattle.cc_derive.specs.Typings.{IsTyping, function_over, type_function_over}
-use Rattle.cc_derive_subtyping.specs.declared.trees.Making.{Making}
+use Rattle.cc_derive.specs.declared.trees.Making.{Making}
 
 -- a function over its body
 pub function_made : (build : Making) (x : Typing) (g : Context) (takes gives ty : CapturingType) (set captured : Set) (part : Typing) (d : Derivation)

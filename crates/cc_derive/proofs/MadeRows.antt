@@ -6,12 +6,12 @@ use Rattle.cc_core.specs.Contexts.{Context}
 use Rattle.cc_core.specs.Derivations.{t-app, t-tapp, t-unbox, t-exit, OfType, Derivation, Node, one, two}
 use Rattle.cc_core.specs.Shapes.{Shape, FunctionShape, TypeFunctionShape, BoxShape, ExitShape, CapturingType, capturing}
 use Rattle.cc_core.specs.Substitution.{replaced_type, replaced_type_by_shape}
-use Rattle.cc_sets.specs.CanonicalDerivations.{Deriving, head_derived, given_derived, operand_derived, application_derived, type_application_derived, unboxing_derived, exit_derived}
-use Rattle.cc_derive_subtyping.specs.declared.trees.Tree.{Tree}
-use Rattle.cc_derive_subtyping.specs.Trees.{IsMade}
+use Rattle.cc_checking.specs.CanonicalDerivations.{Deriving, head_derived, given_derived, operand_derived, application_derived, type_application_derived, unboxing_derived, exit_derived}
+use Rattle.cc_derive.specs.declared.trees.Tree.{Tree}
+use Rattle.cc_derive.specs.Trees.{IsMade}
 use Rattle.cc_derive.specs.declared.nodes.Typing.{Typing}
 use Rattle.cc_derive.specs.Typings.{IsTyping}
-use Rattle.cc_derive_subtyping.specs.declared.trees.Making.{Making}
+use Rattle.cc_derive.specs.declared.trees.Making.{Making}
 
 pub application_made : (build : Making) (x : Typing) (derive : Deriving) (g : Context) (f a : Var) (takes gives ty taken : CapturingType) (s : Shape) (first second : Tree)
     → s ≡ FunctionShape takes.shape takes.set gives.shape gives.set → taken ≡ takes → ty ≡ replaced_type a gives

@@ -6,12 +6,12 @@ use Rattle.cc_core.specs.Contexts.{TypeEntry, Context, entry_of}
 use Rattle.cc_core.specs.Derivations.{Derivation}
 use Rattle.cc_core.specs.Shapes.{Shape, CapturingType}
 use Rattle.cc_core.specs.Terms.{Note, Term, FunctionTerm, TypeFunctionTerm, Let, Boundary}
-use Rattle.cc_core.specs.Views.{type_of}
-use Rattle.cc_sets.specs.CanonicalDerivations.{Deriving, typed, noted_derived, left_derived, let_node, boundary_node, term_derived}
-use Rattle.cc_sets.specs.Inference.{shape_in, type_in, exit_entry}
+use Rattle.cc_core.specs.TermViews.{type_of}
+use Rattle.cc_checking.specs.CanonicalDerivations.{Deriving, typed, noted_derived, left_derived, let_node, boundary_node, term_derived}
+use Rattle.cc_checking.specs.Inference.{shape_in, type_in, exit_entry}
 use Rattle.cc_derive.specs.declared.nodes.Typing.{Typing}
 use Rattle.cc_derive.specs.Typings.{IsTyping, function_over, type_function_over}
-use Rattle.cc_derive_subtyping.specs.declared.trees.Making.{Making}
+use Rattle.cc_derive.specs.declared.trees.Making.{Making}
 
 pub function_term : (build : Making) (derive : Deriving) (x part : Typing) (g inner : Context) (takes read : CapturingType) (body : Term) (captured : Set)
     → inner ≡ entry_of read ∷ g → read ≡ type_in g takes → captured ≡ captured_variables (FunctionTerm takes.shape takes.set body)

@@ -1,21 +1,21 @@
 -- What is made of typing derivations.
 use Rattle.std.proofs.Common.{◌≡◌, Bool, true, false, sym, ap, ◌∙◌, subst}
 use Rattle.std.proofs.lemmas.Bool.{cond-true, cond-false}
-use Rattle.cc_core.specs.Comparison.{same_type}
+use Rattle.cc_core.specs.Equality.{same_type}
 use Rattle.cc_core.specs.Contexts.{Context}
 use Rattle.cc_capture.specs.declared.var.Var.{Var}
 use Rattle.cc_capture.specs.Sets.{Set}
 use Rattle.cc_core.specs.Captured.{variable_set}
 use Rattle.cc_core.specs.Derivations.{Rule, t-var, OfType, Derivation, Premises, Node, NoPremise}
-use Rattle.cc_sets.specs.Exposing.{exposed}
+use Rattle.cc_checking.specs.Exposing.{exposed}
 use Rattle.cc_core.specs.Shapes.{Shape, CapturingType, capturing}
-use Rattle.cc_core.specs.Views.{type_of}
-use Rattle.cc_sets.specs.CanonicalDerivations.{Deriving, type_derived, typed, raised, raised_if, shape_at, variable_derived, head_derived}
-use Rattle.cc_derive_subtyping.specs.declared.trees.Tree.{Tree}
-use Rattle.cc_derive_subtyping.specs.Trees.{IsMade}
+use Rattle.cc_core.specs.TermViews.{type_of}
+use Rattle.cc_checking.specs.CanonicalDerivations.{Deriving, type_derived, typed, raised, raised_if, shape_at, variable_derived, head_derived}
+use Rattle.cc_derive.specs.declared.trees.Tree.{Tree}
+use Rattle.cc_derive.specs.Trees.{IsMade}
 use Rattle.cc_derive.specs.declared.nodes.Typing.{Typing}
 use Rattle.cc_derive.specs.Typings.{IsTyping}
-use Rattle.cc_derive_subtyping.specs.declared.trees.Making.{Making}
+use Rattle.cc_derive.specs.declared.trees.Making.{Making}
 
 -- what is below the type that is given is below the type of the derivation
 pub below_typed : (build : Making) (derive : Deriving) (g : Context) (part : Typing) (below : Tree) (d : Derivation) (type : CapturingType)

@@ -3,11 +3,11 @@ use Rattle.std.specs.Prelude.{◌≡◌, ℕ}
 use Rattle.cc_core.specs.declared.terms.Checked.{Checked}
 use Rattle.cc_core.specs.Contexts.{Context}
 use Rattle.cc_core.specs.Derivations.{Derivation}
-use Rattle.cc_core.specs.Views.{type_of, note_of, term_of}
-use Rattle.cc_sets.specs.CanonicalDerivations.{canonical_shapes, definition_derived}
-use Rattle.cc_sets.specs.Verdicts.{Definition, IsAccepted, HasVerdict}
-use Rattle.cc_meta_checking.specs.CheckingLaws.{Fits}
-use Rattle.cc_meta_checking.specs.AcceptedDefinitions.{definition_context}
+use Rattle.cc_core.specs.TermViews.{type_of, note_of, term_of}
+use Rattle.cc_checking.specs.CanonicalDerivations.{canonical_shapes, definition_derived}
+use Rattle.cc_checking.specs.Verdicts.{Definition, IsAccepted, HasVerdict}
+use Rattle.cc_checking_laws.specs.CheckingLaws.{Fits}
+use Rattle.cc_checking_laws.specs.AcceptedDefinitions.{definition_context}
 
 -- This is what some definition that fits some globals is accepted with, for some number of devices, and the context is
 -- that of its right side: the globals, and its own name with its signature where it is recursive.

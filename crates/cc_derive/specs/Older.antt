@@ -11,11 +11,11 @@ older limit [] = []
 older limit (newest ∷ rest) = if nat_lt (length rest) limit then newest ∷ rest else older limit rest
 
 -- the position of a variable, if it is below the limit
-abbrev pub position_of : Var → ℕ → Option ℕ
-position_of (Free position) limit = if nat_lt position limit then Some position else None
-position_of (Bound index) limit = None
+abbrev pub older_position : Var → ℕ → Option ℕ
+older_position (Free position) limit = if nat_lt position limit then Some position else None
+older_position (Bound index) limit = None
 
 -- the same of a shape, if it is a type variable
 abbrev pub position_before : Shape → ℕ → Option ℕ
-position_before (TypeVariable variable) limit = position_of variable limit
+position_before (TypeVariable variable) limit = older_position variable limit
 position_before _ limit = None

@@ -7,12 +7,12 @@ use Rattle.cc_capture.specs.declared.var.Var.{Var}
 use Rattle.cc_core.specs.Derivations.{t-abs, t-tabs, t-if, OfType, Derivation, Node, one, three}
 use Rattle.cc_core.specs.Shapes.{Shape, BaseShape, FunctionShape, TypeFunctionShape, CapturingType, capturing}
 use Rattle.cc_core.specs.Substitution.{closed, closed_set}
-use Rattle.cc_core.specs.Views.{type_of}
-use Rattle.cc_sets.specs.CanonicalDerivations.{Deriving, typed, raised, operand_derived}
-use Rattle.cc_sets.specs.Inference.{set_in}
-use Rattle.cc_derive_subtyping.specs.Trees.{IsMade}
+use Rattle.cc_core.specs.TermViews.{type_of}
+use Rattle.cc_checking.specs.CanonicalDerivations.{Deriving, typed, raised, operand_derived}
+use Rattle.cc_checking.specs.Inference.{set_in}
+use Rattle.cc_derive.specs.Trees.{IsMade}
 use Rattle.cc_derive.specs.declared.nodes.Typing.{Typing}
-use Rattle.cc_derive_subtyping.specs.declared.trees.Making.{Making}
+use Rattle.cc_derive.specs.declared.trees.Making.{Making}
 
 -- the derivation gives the type, and the tree is made of it
 pub record IsTyping (build : Making) (typing : Typing) (derivation : Derivation) : Type 0 where

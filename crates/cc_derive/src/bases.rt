@@ -6,8 +6,8 @@ ghost use Rattle.cc_capture.specs.Sets.{empty};
 ghost use Rattle.cc_core.specs.Captured as captured;
 ghost use Rattle.cc_core.specs.Contexts.{TypeEntry, entry_of};
 ghost use Rattle.cc_core.specs.Typing as typing;
-ghost use Rattle.cc_core.specs.Views.{shape_of, type_of, context_of};
-ghost use Rattle.cc_sets.specs.Inference as plain;
+ghost use Rattle.cc_core.specs.TermViews.{shape_of, type_of, context_of};
+ghost use Rattle.cc_checking.specs.Inference as plain;
 
 use cc_base::literal::{Base, Lit, Op, Operator};
 use cc_capture::{CapSet, Elem, Var};

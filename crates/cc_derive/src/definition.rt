@@ -2,19 +2,19 @@
 
 ghost use Rattle.std.specs.Prelude.{◌≡◌, ◌-◌, ◌^◌, ℕ, ◌≤◌, min, nat_lt, IfOk};
 ghost use Rattle.cc_core.specs.Derivations.{OfType, IsValidTyping, Concludes};
-ghost use Rattle.cc_core.specs.Views.{type_of, note_of, term_of, context_of};
-ghost use Rattle.cc_sets.specs.CanonicalDerivations.{definition_derived, shape_derived};
-ghost use Rattle.cc_sets.specs.DerivationSizes.{nodes};
-ghost use Rattle.cc_derivation.specs.Views.{der_of};
-ghost use Rattle.cc_derive_subtyping.specs.Trees.{IsTree, IsMade};
+ghost use Rattle.cc_core.specs.TermViews.{type_of, note_of, term_of, context_of};
+ghost use Rattle.cc_checking.specs.CanonicalDerivations.{definition_derived, shape_derived};
+ghost use Rattle.cc_checking.specs.DerivationSizes.{nodes};
+ghost use Rattle.cc_derivation.specs.DerivationViews.{der_of};
+ghost use Rattle.cc_derive.specs.Trees.{IsTree, IsMade};
 ghost use Rattle.cc_derive.specs.Accepting.{IsAcceptedIn, checked_derived};
 
 use crate::ends::noted;
 use crate::nodes::{Typing, raise_if};
 use crate::terms::derive_term;
+use crate::{Making, Tree};
 use cc_core::{Checked, Ctx};
 use cc_derivation::Der;
-use cc_derive_subtyping::{Making, Tree};
 use std::alloc::{AllocError, Global};
 use std::rc::Rc;
 

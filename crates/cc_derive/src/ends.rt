@@ -5,12 +5,13 @@ ghost use Rattle.cc_core.specs.Contexts.{entry_of};
 ghost use Rattle.cc_core.specs.Derivations.{Derivation};
 ghost use Rattle.cc_core.specs.Shapes.{FunctionShape, TypeFunctionShape, capturing};
 ghost use Rattle.cc_core.specs.Substitution.{closed_type};
-ghost use Rattle.cc_core.specs.Views.{shape_of, type_of, note_of, context_of};
-ghost use Rattle.cc_sets.specs.Avoidance.{Positive, avoided_type};
-ghost use Rattle.cc_sets.specs.CanonicalDerivations as plain;
-ghost use Rattle.cc_sets.specs.Inference.{exit_entry};
+ghost use Rattle.cc_core.specs.TermViews.{shape_of, type_of, note_of, context_of};
+ghost use Rattle.cc_checking.specs.Avoidance.{Positive, avoided_type};
+ghost use Rattle.cc_checking.specs.CanonicalDerivations as plain;
+ghost use Rattle.cc_checking.specs.Inference.{exit_entry};
 ghost use Rattle.cc_derive.specs.Typings.{IsTyping, function_over, type_function_over, choice_over};
 
+use crate::Making;
 use crate::bases::{entries, pure_type, set_in, type_in};
 use crate::nodes::{Typing, nothing, over_one, over_three, over_two, raise, raise_if};
 use crate::variables::base_operand;
@@ -20,7 +21,6 @@ use cc_capture::{CapSet, Var};
 use cc_core::substitution::close_type;
 use cc_core::{Ctx, Note, Shape, Ty};
 use cc_derivation::Rule;
-use cc_derive_subtyping::Making;
 use std::alloc::{AllocError, Global};
 use std::rc::Rc;
 

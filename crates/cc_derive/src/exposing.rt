@@ -2,9 +2,9 @@
 
 ghost use Rattle.std.specs.Prelude.{◌≡◌, Some, IfOk};
 ghost use Rattle.cc_core.specs.Contexts.{lookup};
-ghost use Rattle.cc_core.specs.Views.{shape_of, bind_of, context_of};
-ghost use Rattle.cc_sets.specs.CanonicalDerivations.{shape_of_entry, shape_at};
-ghost use Rattle.cc_sets.specs.Exposing.{exposed};
+ghost use Rattle.cc_core.specs.TermViews.{shape_of, bind_of, context_of};
+ghost use Rattle.cc_checking.specs.CanonicalDerivations.{shape_of_entry, shape_at};
+ghost use Rattle.cc_checking.specs.Exposing.{exposed};
 ghost use Rattle.cc_derive.specs.Older as plain;
 ghost use Rattle.cc_derive.specs.Older.{position_before};
 
@@ -28,7 +28,7 @@ fn position_before(shape: &Shape, limit: u32) -> Option<u32>
 
 // The position of the variable, if it is before the limit.
 fn position_of(variable: Var, limit: u32) -> Option<u32>
-    ensures { result ≡ plain.position_of variable limit }
+    ensures { result ≡ plain.older_position variable limit }
 {
     match variable {
         Var::Free(position) => {

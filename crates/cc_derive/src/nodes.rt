@@ -2,21 +2,19 @@
 
 ghost use Rattle.std.specs.Prelude.{◌≡◌, ℕ, ◌≤◌, IfOk};
 ghost use Rattle.cc_core.specs.Derivations.{Derivation, Node, NoPremise, one, two, three, OfType};
-ghost use Rattle.cc_core.specs.Views.{type_of, context_of};
-ghost use Rattle.cc_derivation.specs.Views.{rule_of};
-ghost use Rattle.cc_derive_subtyping.specs.Trees.{IsMade};
-ghost use Rattle.cc_sets.specs.CanonicalDerivations as plain;
+ghost use Rattle.cc_core.specs.TermViews.{type_of, context_of};
+ghost use Rattle.cc_derivation.specs.DerivationViews.{rule_of};
+ghost use Rattle.cc_derive.specs.Trees.{IsMade};
+ghost use Rattle.cc_checking.specs.CanonicalDerivations as plain;
 ghost use Rattle.cc_derive.specs.Typings.{IsTyping};
 
 use crate::bases::base_type;
+use crate::derive_types;
+use crate::trees::{Making, Tree, no_parts, one_part, three_parts, two_parts, typing_node};
 use cc_base::literal::Base;
 use cc_core::same::same_type;
 use cc_core::{Ctx, Ty};
 use cc_derivation::Rule;
-use cc_derive_subtyping::derive_types;
-use cc_derive_subtyping::trees::{
-    Making, Tree, no_parts, one_part, three_parts, two_parts, typing_node,
-};
 use std::alloc::{AllocError, Global};
 
 /// What is made of a derivation that a term has a type, and the type.

@@ -8,23 +8,23 @@ ghost use Rattle.cc_core.specs.Derivations.{t-box, t-prim, t-repeat, OfType, Nod
 ghost use Rattle.cc_core.specs.Shapes.{BaseShape, FunctionShape, BoxShape, capturing};
 ghost use Rattle.cc_core.specs.Substitution.{replaced_type, replaced_type_by_shape};
 ghost use Rattle.cc_core.specs.Typing as typing;
-ghost use Rattle.cc_core.specs.Views.{shape_of, type_of, context_of};
-ghost use Rattle.cc_sets.specs.CanonicalDerivations as plain;
-ghost use Rattle.cc_sets.specs.Exposing.{exposed};
-ghost use Rattle.cc_sets.specs.Inference.{base_type};
-ghost use Rattle.cc_derive_subtyping.specs.Trees.{IsMade};
+ghost use Rattle.cc_core.specs.TermViews.{shape_of, type_of, context_of};
+ghost use Rattle.cc_checking.specs.CanonicalDerivations as plain;
+ghost use Rattle.cc_checking.specs.Exposing.{exposed};
+ghost use Rattle.cc_checking.specs.Inference.{base_type};
+ghost use Rattle.cc_derive.specs.Trees.{IsMade};
 ghost use Rattle.cc_derive.specs.Typings.{IsTyping};
 
 use crate::bases::{base_answered, base_given, base_taken, base_type, pure_type};
 use crate::exposing::exposed_shape;
 use crate::nodes::{Typing, nothing, over_one, over_two};
 use crate::variables::{base_operand, given, head, operand, variable};
+use crate::{Making, Tree, derive_shapes};
 use cc_base::literal::{Base, Op, Operator};
 use cc_capture::{CapSet, Var};
 use cc_core::substitution::{subst_type, subst_var};
 use cc_core::{Ctx, Shape, Ty};
 use cc_derivation::Rule;
-use cc_derive_subtyping::{Making, Tree, derive_shapes};
 use std::alloc::{AllocError, Global};
 use std::rc::Rc;
 

@@ -5,9 +5,9 @@ ghost use Rattle.cc_base.specs.Literals.{literal_of};
 ghost use Rattle.cc_core.specs.Captured.{optional_set};
 ghost use Rattle.cc_core.specs.Derivations as derivations;
 ghost use Rattle.cc_core.specs.Typing as typing;
-ghost use Rattle.cc_core.specs.Views.{term_of, context_of};
-ghost use Rattle.cc_sets.specs.CanonicalDerivations as plain;
-ghost use Rattle.cc_sets.specs.Inference.{base_type, set_in};
+ghost use Rattle.cc_core.specs.TermViews.{term_of, context_of};
+ghost use Rattle.cc_checking.specs.CanonicalDerivations as plain;
+ghost use Rattle.cc_checking.specs.Inference.{base_type, set_in};
 ghost use Rattle.cc_derive.specs.Typings.{IsTyping};
 
 use crate::bases::{
@@ -16,14 +16,13 @@ use crate::bases::{
 };
 use crate::ends::{boundary_end, choice, function_end, let_end, noted, type_function_end};
 use crate::nodes::{Typing, leaf};
-use crate::rows;
 use crate::variables::variable;
+use crate::{Making, rows};
 use cc_base::literal::Lit;
 use cc_capture::{CapSet, Var};
 use cc_core::captured::cv;
 use cc_core::{Ctx, Form, Node};
 use cc_derivation::Rule;
-use cc_derive_subtyping::Making;
 use std::alloc::{AllocError, Global};
 use std::rc::Rc;
 

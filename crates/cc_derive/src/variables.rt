@@ -2,20 +2,20 @@
 
 ghost use Rattle.std.specs.Prelude.{◌≡◌, ℕ, ◌≤◌, IfOk};
 ghost use Rattle.cc_core.specs.Shapes.{BaseShape};
-ghost use Rattle.cc_core.specs.Views.{shape_of, type_of, context_of};
-ghost use Rattle.cc_sets.specs.CanonicalDerivations as plain;
-ghost use Rattle.cc_sets.specs.Exposing.{exposed};
-ghost use Rattle.cc_derive_subtyping.specs.Trees.{IsMade};
+ghost use Rattle.cc_core.specs.TermViews.{shape_of, type_of, context_of};
+ghost use Rattle.cc_checking.specs.CanonicalDerivations as plain;
+ghost use Rattle.cc_checking.specs.Exposing.{exposed};
+ghost use Rattle.cc_derive.specs.Trees.{IsMade};
 ghost use Rattle.cc_derive.specs.Typings.{IsTyping};
 
 use crate::bases::variable_set;
 use crate::exposing::shape_at;
 use crate::nodes::{Typing, leaf, raise, raise_if};
+use crate::{Making, Tree};
 use cc_base::literal::Base;
 use cc_capture::Var;
 use cc_core::{Ctx, Shape, Ty};
 use cc_derivation::Rule;
-use cc_derive_subtyping::{Making, Tree};
 use std::alloc::{AllocError, Global};
 use std::rc::Rc;
 

@@ -1,9 +1,9 @@
 pub mod Calls
 pub mod Declarations
 pub mod DeviceLaws
+pub mod DeviceViews
 pub mod Devices
 pub mod Endings
 pub mod Events
-pub mod Views
 pub mod WorkedAnswers
 pub mod WorkedScopes

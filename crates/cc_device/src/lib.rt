@@ -1,9 +1,9 @@
 //! Devices: their states, what each operation does to one, the events of a run, and how a run ends.
 #![tactic(auto)]
 
+pub mod device_laws;
 pub mod ends;
 pub mod events;
-pub mod laws;
 pub mod states;
 pub mod table;
 

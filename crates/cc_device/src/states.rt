@@ -6,7 +6,7 @@ ghost use Rattle.cc_base.specs.Literals.{literal_of, UnitLiteral, NumberLiteral,
 ghost use Rattle.cc_device.specs.Calls.{AnswersAs, unit_if};
 ghost use Rattle.cc_device.specs.Declarations.{declared_state};
 ghost use Rattle.cc_device.specs.Devices.{append_line, read_number, write_number, tick_count};
-ghost use Rattle.cc_device.specs.Views.{state_of};
+ghost use Rattle.cc_device.specs.DeviceViews.{state_of};
 
 use cc_base::device::Kind;
 use cc_base::literal::Lit;

@@ -7,7 +7,7 @@ ghost use Rattle.std.specs.Str.{chars};
 ghost use Rattle.cc_device.specs.Calls.{RepliesAs, TakesNoMemory, unit_if};
 ghost use Rattle.cc_device.specs.Declarations.{declared_devices, declared_bases};
 ghost use Rattle.cc_device.specs.Devices as device_table;
-ghost use Rattle.cc_device.specs.Views.{state_of};
+ghost use Rattle.cc_device.specs.DeviceViews.{state_of};
 
 use crate::states::{DeviceState, begun, count, give_number, take_line, take_number};
 use cc_base::device::DeviceDecl;
@@ -25,7 +25,7 @@ pub struct Devices {
 impl Model for Devices {
     ghost use Rattle.std.specs.Prelude.{List, map};
     ghost use Rattle.cc_device.specs.Devices.{DeviceState as State};
-    ghost use Rattle.cc_device.specs.Views.{state_of};
+    ghost use Rattle.cc_device.specs.DeviceViews.{state_of};
 
     ghost Value = { List State };
 

@@ -9,7 +9,7 @@ use Rattle.cc_explain.proofs.Orders.{chain_from_path}
 use Rattle.cc_explain.proofs.Targets.{in_none, in_front, link_falls, same_target-true, same_target-false}
 use Rattle.cc_explain.specs.Chains.{LeadsAlong, StandsBefore, LeadsBefore, IsChain, IsFirstShortest}
 use Rattle.cc_explain.specs.Entries.{Entries, targets_of, NamesEarlier}
-use Rattle.cc_explain.specs.Laws.{FirstChainsExist, ChainsAreBounded, FirstChainsAreComputed}
+use Rattle.cc_explain.specs.ChainLaws.{FirstChainsExist, ChainsAreBounded, FirstChainsAreComputed}
 use Rattle.cc_explain.specs.Paths.{IsFirstPath, through, first_through, path_of, sooner, path_from}
 use Rattle.cc_explain.specs.Targets.{same_target, rank}
 use Rattle.cc_explain.specs.declared.target.Target.{Target}

@@ -3,7 +3,7 @@ use Rattle.std.proofs.Common.{◌≡◌, ◌⊎◌, ℕ, suc, ◌≤◌, List, [
 use Rattle.cc_explain.proofs.Targets.{compared}
 use Rattle.cc_explain.specs.Chains.{LeadsAlong, LeadsBefore, IsChain, ComesBefore, IsFirstShortest}
 use Rattle.cc_explain.specs.Entries.{Entries, targets_of}
-use Rattle.cc_explain.specs.Laws.{FirstChainsAreUnique}
+use Rattle.cc_explain.specs.ChainLaws.{FirstChainsAreUnique}
 use Rattle.cc_explain.specs.Paths.{IsFirstPath}
 use Rattle.cc_explain.specs.declared.target.Target.{Target}
 use Rattle.cc_explain.specs.declared.target.Target.TheVariants.{Definition}

@@ -8,7 +8,7 @@ use Rattle.cc_explain.proofs.Orders.{chain_from_path}
 use Rattle.cc_explain.proofs.Targets.{in_none}
 use Rattle.cc_explain.specs.Chains.{LeadsAlong, IsChain, IsFirstShortest}
 use Rattle.cc_explain.specs.Entries.{Entries, NamesEarlier, targets_of}
-use Rattle.cc_explain.specs.Examples as example
+use Rattle.cc_explain.specs.ChainExamples as example
 use Rattle.cc_explain.specs.Paths.{path_of, path_from}
 use Rattle.cc_explain.specs.Targets.{rank}
 use Rattle.cc_explain.specs.declared.target.Target.{Target}

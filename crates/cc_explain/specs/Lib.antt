@@ -3,5 +3,5 @@ pub mod Chains
 pub mod Entries
 pub mod Paths
 pub mod Steps
-pub mod Laws
-pub mod Examples
+pub mod ChainLaws
+pub mod ChainExamples

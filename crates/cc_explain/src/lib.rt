@@ -2,7 +2,7 @@
 #![tactic(auto)]
 
 pub mod chain;
-pub mod laws;
+pub mod chain_laws;
 pub mod links;
 mod step;
 mod steps;

@@ -7,7 +7,7 @@ use Rattle.cc_lex.specs.declared.token.Symbol.TheVariants as symbols
 use Rattle.cc_lex.specs.Lexemes.{Lexeme, NameLexeme, WordLexeme, SymbolLexeme, PlacedLexeme}
 use Rattle.cc_grammar.specs.Syntax.{SetSyntax, AbsentSet, OmittedSet, WrittenSet, TypeSyntax, CapturingType, ShapeSyntax, BaseShape, AnyShape, NamedShape, ExitShape, BoxShape, ParenthesizedShape, FunctionShape, TypeFunctionShape, LiteralExpr, DefSyntax, ModuleSyntax}
 use Rattle.cc_grammar.specs.Grammar.{Terminal, word, symbol, named, standing_at, Spell, set_terminals, type_terminals, shape_terminals, literal_lexeme, terminal, CanTake, IsType, IsShape, IsModule}
-use Rattle.cc_grammar.specs.Laws.{with_set_inside, SetsBelongToInnermostTypes}
+use Rattle.cc_grammar.specs.GrammarLaws.{with_set_inside, SetsBelongToInnermostTypes}
 use Rattle.cc_grammar.proofs.Spelling.{spell-append}
 use Rattle.cc_grammar.proofs.Readings.{modules_have_one_tree}
 

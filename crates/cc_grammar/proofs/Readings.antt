@@ -11,7 +11,7 @@ use Rattle.cc_grammar.specs.Grammar.{IsModule, IsLow, AreLowDefs}
 use Rattle.cc_grammar.specs.Reads.{Begins, BeginsLow, NoneGoesOn, OnlyHighGoOn, place_of, TreeOf, SyntaxError, TooHigh, Reads}
 use Rattle.cc_grammar.specs.Tests.{is_word}
 use Rattle.cc_grammar.specs.Reading.{Found, Got, Wrong, High, Reader, ◌>>=◌, import_at, imports_at, def_at, defs_at, module_at, reading_from, reading_of}
-use Rattle.cc_grammar.specs.Laws.{TokensReadAsTheyAre, TokensHaveOneReading, ModulesHaveOneTree, LowModulesAreRead, HighModulesAreTooHigh}
+use Rattle.cc_grammar.specs.GrammarLaws.{TokensReadAsTheyAre, TokensHaveOneReading, ModulesHaveOneTree, LowModulesAreRead, HighModulesAreTooHigh}
 use Rattle.cc_grammar.proofs.Uniform.{Alike, Uniform, left_of, leaving, then-uniform}
 use Rattle.cc_grammar.proofs.UniformReaders.{made-uniform, import_at-uniform, imports_at-uniform, def_at-uniform, defs_at-uniform}
 use Rattle.cc_grammar.proofs.Sure.{BeginsIn}

@@ -3,4 +3,4 @@ pub mod Grammar
 pub mod Reads
 pub mod Tests
 pub mod Reading
-pub mod Laws
+pub mod GrammarLaws

@@ -1,4 +1,4 @@
 pub mod Graph
-pub mod Laws
+pub mod GraphLaws
 pub mod Places
-pub mod Examples
+pub mod GraphExamples

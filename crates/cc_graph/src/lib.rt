@@ -3,5 +3,5 @@
 
 mod bits;
 mod closure;
+pub mod graph_laws;
 pub mod imports;
-pub mod laws;

@@ -9,7 +9,7 @@ use Rattle.cc_base.specs.declared.device.Kind.TheVariants.{Console}
 use Rattle.cc_job.specs.declared.job.Command.TheVariants.{Check}
 use Rattle.cc_words.specs.Words.{name_of, number_of, signed_of, pair_of}
 use Rattle.cc_job.specs.Reading.{is_schedule, schedule_of, turns_of, file_of, kind_with, kind_of, device_of, put_of, drop_of, check_of, sig_of, derive_of, run_of, tasks_of, command_with, head_with, head_of, admits, Read, BadLine, CutShort, next_item}
-use Rattle.cc_job.specs.Examples.{ShortestJob, NothingIsBad, TwoSpacesAreBad, MinusZeroIsBad, MissingTaskIsBad, LateDeviceIsBad, SecondNameIsBad, ShortTextIsBad, OpenTextIsBad}
+use Rattle.cc_job.specs.JobExamples.{ShortestJob, NothingIsBad, TwoSpacesAreBad, MinusZeroIsBad, MissingTaskIsBad, LateDeviceIsBad, SecondNameIsBad, ShortTextIsBad, OpenTextIsBad}
 use Rattle.cc_job.specs.Jobs.{text}
 use Rattle.cc_words.proofs.NameBytes.{name_of-encoded}
 use Rattle.cc_job.proofs.JobLaws.{turn, bad, cut_short, first_bad, first_good}

@@ -6,7 +6,7 @@ use Rattle.unicode_ident.proofs.Computing.{unicode_ident}
 use Rattle.cc_base.specs.Names.{is_reserved, reserved_words}
 use Rattle.cc_words.specs.Words.{name_of, number_of, signed_of, pair_of}
 use Rattle.cc_job.specs.Reading.{is_schedule, schedule_of, turns_of, file_of, kind_with, kind_of, device_of, put_of, drop_of, check_of, sig_of, derive_of, run_of, tasks_of, command_with, head_with, head_of, admits, next_item}
-use Rattle.cc_job.specs.Examples.{LongJob}
+use Rattle.cc_job.specs.JobExamples.{LongJob}
 use Rattle.cc_job.specs.LimitExamples as example
 use Rattle.cc_job.proofs.ReadJobs.{job_found, bad_found, short_found}
 use lib.Utf8.{encode}

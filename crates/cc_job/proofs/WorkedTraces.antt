@@ -6,7 +6,7 @@ use Rattle.unicode_ident.proofs.Computing.{unicode_ident}
 use Rattle.cc_base.specs.Names.{is_reserved, reserved_words}
 use Rattle.cc_words.specs.Words.{name_of, number_of, pair_of}
 use Rattle.cc_job.specs.Reading.{check_of, explain_of, replay_of, command_with, head_with, head_of, admits, next_item}
-use Rattle.cc_job.specs.Examples.{TraceJob}
+use Rattle.cc_job.specs.JobExamples.{TraceJob}
 use Rattle.cc_job.specs.LimitExamples as example
 use Rattle.cc_job.proofs.ReadJobs.{job_found, bad_found, short_found}
 use lib.Utf8.{encode}

@@ -1,4 +1,4 @@
 pub mod Jobs
 pub mod Reading
-pub mod Examples
+pub mod JobExamples
 pub mod LimitExamples

@@ -7,7 +7,7 @@ use Rattle.cc_job.specs.declared.job.Command.{Command}
 use Rattle.cc_job.specs.declared.job.Command.TheVariants.{Put, Check, Run, Tasks, Verify, Policy, Guard, Replay}
 use Rattle.cc_words.specs.Words.{joined}
 use Rattle.cc_job.specs.Jobs.{IsJob, IsBadAt, text}
-use Rattle.cc_job.specs.Examples.{rule}
+use Rattle.cc_job.specs.JobExamples.{rule}
 
 -- the text of a job with this one line behind its first
 abbrev pub with_line : List ℕ → List ℕ

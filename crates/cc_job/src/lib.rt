@@ -3,6 +3,6 @@
 
 pub mod head;
 pub mod job;
-pub mod laws;
+pub mod job_laws;
 pub mod read;
 pub mod rules;

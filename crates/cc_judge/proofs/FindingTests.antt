@@ -3,7 +3,7 @@ use Rattle.std.proofs.Common.{◌≡◌, true, ap, refl, subst, Decides}
 use Rattle.std.proofs.lemmas.Slice.Eq.{slice_eq-Decides}
 use Rattle.cc_core.proofs.Comparisons.{same_type-decides}
 use Rattle.cc_core.specs.Shapes.{CapturingType}
-use Rattle.cc_meta_modules.specs.ModuleVerdicts.{Finding, FoundDefinition, NoModule, InCycle, RefusedModule, NoDefinition}
+use Rattle.cc_verdicts.specs.ModuleVerdicts.{Finding, FoundDefinition, NoModule, InCycle, RefusedModule, NoDefinition}
 use Rattle.cc_judge.specs.SameFindings.{is_found_as, same_finding, same_findings, SameFindingsDecides}
 
 found_as : (signature : CapturingType) (other : Finding) → is_found_as signature other ≡ true

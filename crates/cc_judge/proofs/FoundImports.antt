@@ -8,10 +8,10 @@ use Rattle.std.specs.Option.{is_some}
 use Rattle.cc_base.specs.declared.literal.Import.{Import}
 use Rattle.cc_grammar.specs.Syntax.{ImportSyntax}
 use Rattle.cc_graph.specs.Graph.{reaches}
-use Rattle.cc_meta_modules.specs.ModuleVerdicts.{Finding, NoModule, InCycle, CheckedDefinition, ModuleVerdict}
-use Rattle.cc_meta_modules.specs.ModuleVerdicts.{IsAccepted, IsRefused}
-use Rattle.cc_meta_modules.specs.PresentTexts.{Texts, ArePresent, text_of, graph_of, found_or_none, finding_in, finding_for}
-use Rattle.cc_meta_modules.proofs.Asking.{found_by}
+use Rattle.cc_verdicts.specs.ModuleVerdicts.{Finding, NoModule, InCycle, CheckedDefinition, ModuleVerdict}
+use Rattle.cc_verdicts.specs.ModuleVerdicts.{IsAccepted, IsRefused}
+use Rattle.cc_verdicts.specs.PresentTexts.{Texts, ArePresent, text_of, graph_of, found_or_none, finding_in, finding_for}
+use Rattle.cc_verdicts.proofs.Asking.{found_by}
 use Rattle.cc_module.specs.Findings.{finding_of}
 use Rattle.cc_module.specs.Judgements.{FindsDefinition}
 use Rattle.cc_module.specs.declared.finding.Finding.{Finding as DeclaredFinding}

@@ -12,9 +12,9 @@ use Rattle.cc_base.specs.declared.literal.Import.{Import}
 use Rattle.cc_grammar.specs.Syntax.{ImportSyntax}
 use Rattle.cc_graph.specs.Graph.{ImportMap}
 use Rattle.cc_base.specs.Names.{compare_names}
-use Rattle.cc_meta_modules.specs.PresentTexts.{Texts, ArePresent, with_module, graph_of}
-use Rattle.cc_meta_modules.specs.Readings.{imports_of}
-use Rattle.cc_meta_modules.proofs.Schedules.{each_in_graph}
+use Rattle.cc_verdicts.specs.PresentTexts.{Texts, ArePresent, with_module, graph_of}
+use Rattle.cc_verdicts.specs.Readings.{imports_of}
+use Rattle.cc_verdicts.proofs.Schedules.{each_in_graph}
 use Rattle.cc_parse.specs.Trees.{import_syntax}
 use Rattle.cc_judge.specs.Dependencies.{sources_of, inserted, AreRead}
 use Rattle.cc_judge.proofs.Lists.{drop_read}

@@ -4,7 +4,7 @@ use Rattle.std.proofs.Common.{Some, ap, ◌∙◌, sym, refl, arith}
 use Rattle.std.proofs.lemmas.Bool.{and_left}
 use Rattle.std.proofs.lemmas.List.{drop_all}
 use Rattle.std.specs.Str.{bytes_eq}
-use Rattle.cc_meta_modules.specs.PresentTexts.{definition_named}
+use Rattle.cc_verdicts.specs.PresentTexts.{definition_named}
 use Rattle.cc_module.specs.Judgements.{checked_definition_of}
 use Rattle.cc_module.specs.declared.judgement.CheckedDef.{CheckedDef}
 use Rattle.cc_module.specs.Findings.{finding_of}

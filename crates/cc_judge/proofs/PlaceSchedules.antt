@@ -11,11 +11,11 @@ use Rattle.std.specs.Option.{option_map, unwrap_or, is_some}
 use Rattle.cc_graph.specs.Graph.{reaches}
 use Rattle.cc_graph.proofs.OrderLemmas.{among_listed, listed_among, listed-reverse}
 use Rattle.cc_graph.proofs.Paths.{IsAmong}
-use Rattle.cc_meta_modules.specs.PresentTexts.{Texts, ArePresent, text_of, graph_of}
-use Rattle.cc_meta_modules.specs.Readings.{imports_of}
-use Rattle.cc_meta_modules.proofs.Asking.{Asks, asks_source, some_of}
-use Rattle.cc_meta_modules.proofs.Schedules as modules
-use Rattle.cc_meta_modules.proofs.Schedules.{does_parse, AreUnparsed, order_scheduled, order_whole, schedule_at, among_map}
+use Rattle.cc_verdicts.specs.PresentTexts.{Texts, ArePresent, text_of, graph_of}
+use Rattle.cc_verdicts.specs.Readings.{imports_of}
+use Rattle.cc_verdicts.proofs.Asking.{Asks, asks_source, some_of}
+use Rattle.cc_verdicts.proofs.Schedules as modules
+use Rattle.cc_verdicts.proofs.Schedules.{does_parse, AreUnparsed, order_scheduled, order_whole, schedule_at, among_map}
 use Rattle.cc_judge.specs.Dependencies.{IsUnread, ListsUnread, ArePlacesOf, IsSchedule}
 use Rattle.cc_judge.specs.Places.{name_at, text_at}
 use Rattle.cc_judge.specs.Plans.{IsPlanned, AsksPlanned}

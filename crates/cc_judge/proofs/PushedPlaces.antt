@@ -15,8 +15,8 @@ use Rattle.cc_graph.proofs.NameLemmas.{present_among}
 use Rattle.cc_graph.proofs.OrderLaws.{orders_list_present_modules}
 use Rattle.cc_graph.proofs.OrderLemmas.{listed_among}
 use Rattle.cc_graph.proofs.Paths.{IsAmong}
-use Rattle.cc_meta_modules.specs.PresentTexts.{Texts, with_module, graph_of}
-use Rattle.cc_meta_modules.specs.Readings.{imports_of}
+use Rattle.cc_verdicts.specs.PresentTexts.{Texts, with_module, graph_of}
+use Rattle.cc_verdicts.specs.Readings.{imports_of}
 use Rattle.cc_judge.specs.Dependencies.{readings_of, IsUnread, with_unread, ListsUnread, PushesPlace, PushesNamed}
 use Rattle.cc_judge.proofs.PlaceSchedules.{all_from_among}
 

@@ -6,8 +6,8 @@ use Rattle.std.proofs.lemmas.List.{length-set, get_or-set_same, get_or-set_other
 use Rattle.std.proofs.lemmas.List.{length-replicate, get_or_past}
 use Rattle.std.specs.Option.{is_some}
 use Rattle.cc_base.specs.declared.device.DeviceDecl.{DeviceDecl}
-use Rattle.cc_meta_modules.specs.ModuleVerdicts.{ModuleVerdict}
-use Rattle.cc_meta_modules.specs.PresentTexts.{Texts}
+use Rattle.cc_verdicts.specs.ModuleVerdicts.{ModuleVerdict}
+use Rattle.cc_verdicts.specs.PresentTexts.{Texts}
 use Rattle.cc_judge.specs.declared.plans.Plan.{Plan}
 use Rattle.cc_judge.specs.Judgements.{Judgement, judgement_in}
 use Rattle.cc_judge.specs.Places.{entry_at}

@@ -14,13 +14,13 @@ use Rattle.std.specs.Str.{bytes_eq}
 use Rattle.cc_base.specs.declared.device.DeviceDecl.{DeviceDecl}
 use Rattle.cc_grammar.specs.Syntax.{ImportSyntax}
 use Rattle.cc_graph.specs.Graph.{reaches}
-use Rattle.cc_meta_modules.specs.ModuleVerdicts.{Finding, ModuleVerdict, HasModuleVerdict}
-use Rattle.cc_meta_modules.specs.PresentTexts.{Texts, ArePresent, graph_of, finding_for, findings_for}
-use Rattle.cc_meta_modules.specs.PresentTexts.{AreVerdicts}
-use Rattle.cc_meta_modules.specs.ModuleLaws.{NamesOfDevicesDiffer, AreFit}
-use Rattle.cc_meta_modules.specs.Readings.{imports_of}
-use Rattle.cc_meta_modules.proofs.ModuleVerdictLaws as one_text
-use Rattle.cc_meta_modules.proofs.PresentLaws.{present_verdicts_exist, present_findings_fit}
+use Rattle.cc_verdicts.specs.ModuleVerdicts.{Finding, ModuleVerdict, HasModuleVerdict}
+use Rattle.cc_verdicts.specs.PresentTexts.{Texts, ArePresent, graph_of, finding_for, findings_for}
+use Rattle.cc_verdicts.specs.PresentTexts.{AreVerdicts}
+use Rattle.cc_verdicts.specs.ModuleLaws.{NamesOfDevicesDiffer, AreFit}
+use Rattle.cc_verdicts.specs.Readings.{imports_of}
+use Rattle.cc_verdicts.proofs.ModuleVerdictLaws as one_text
+use Rattle.cc_verdicts.proofs.PresentLaws.{present_verdicts_exist, present_findings_fit}
 use Rattle.cc_module.specs.declared.judgement.ModuleVerdict.{ModuleVerdict as DeclaredVerdict}
 use Rattle.cc_module.specs.Findings.{finding_of}
 use Rattle.cc_module.specs.Judgements.{module_verdict_of}

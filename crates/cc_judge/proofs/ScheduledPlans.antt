@@ -6,8 +6,8 @@ use Rattle.std.specs.Option.{is_some}
 use Rattle.std.specs.Prelude.{zero, suc}
 use Rattle.cc_graph.proofs.Paths.{IsAmong}
 use Rattle.cc_graph.proofs.Ranks.{how_many}
-use Rattle.cc_meta_modules.specs.ModuleVerdicts.{ModuleVerdict}
-use Rattle.cc_meta_modules.specs.PresentTexts.{Texts, ArePresent, findings_for}
+use Rattle.cc_verdicts.specs.ModuleVerdicts.{ModuleVerdict}
+use Rattle.cc_verdicts.specs.PresentTexts.{Texts, ArePresent, findings_for}
 use Rattle.cc_judge.specs.declared.plans.Plan.{Plan}
 use Rattle.cc_judge.specs.Dependencies.{IsSchedule}
 use Rattle.cc_judge.specs.Judgements.{Judgement, is_stale, stale_count}

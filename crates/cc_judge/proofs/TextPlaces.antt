@@ -17,7 +17,7 @@ use Rattle.std.specs.declared.cmp.Ordering.TheVariants.{Less, Equal}
 use Rattle.cc_base.specs.NameTexts.{bytes_eq-order}
 use Rattle.cc_base.specs.Names.{compare_names}
 use Rattle.cc_graph.proofs.NameLemmas.{names_total}
-use Rattle.cc_meta_modules.specs.PresentTexts.{Texts, ArePresent, text_of}
+use Rattle.cc_verdicts.specs.PresentTexts.{Texts, ArePresent, text_of}
 use Rattle.cc_judge.specs.Places.{name_at, text_at}
 use Rattle.cc_judge.proofs.Entries.{key_of, less_keys}
 use Rattle.cc_judge.proofs.Lists.{read_at}

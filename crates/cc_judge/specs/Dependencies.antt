@@ -8,8 +8,8 @@ use Rattle.std.specs.Str.{bytes_eq}
 use Rattle.cc_graph.specs.Graph.{ImportMap, IsOrder}
 use Rattle.cc_base.specs.Names.{compare_names}
 use Rattle.cc_grammar.specs.Syntax.{ImportSyntax}
-use Rattle.cc_meta_modules.specs.PresentTexts.{Texts, graph_of}
-use Rattle.cc_meta_modules.specs.Readings.{imports_of}
+use Rattle.cc_verdicts.specs.PresentTexts.{Texts, graph_of}
+use Rattle.cc_verdicts.specs.Readings.{imports_of}
 use Rattle.cc_judge.specs.declared.dependencies.Dependencies.{Dependencies}
 
 -- the names of the modules that are imported from

@@ -4,8 +4,8 @@ use Rattle.std.specs.List.{AllZip, slice_get}
 use Rattle.std.specs.Map.{keys_of}
 use Rattle.cc_graph.specs.Graph.{reaches}
 use Rattle.cc_grammar.specs.Syntax.{ImportSyntax}
-use Rattle.cc_meta_modules.specs.ModuleVerdicts.{Finding, ModuleVerdict}
-use Rattle.cc_meta_modules.specs.PresentTexts.{Texts, graph_of, finding_in, finding_for}
+use Rattle.cc_verdicts.specs.ModuleVerdicts.{Finding, ModuleVerdict}
+use Rattle.cc_verdicts.specs.PresentTexts.{Texts, graph_of, finding_in, finding_for}
 use Rattle.cc_module.specs.declared.judgement.ModuleVerdict.{ModuleVerdict as DeclaredVerdict}
 use Rattle.cc_judge.specs.declared.findings.Source.{Source}
 use Rattle.cc_judge.specs.declared.findings.Source.TheVariants as sources

@@ -3,9 +3,9 @@ use Rattle.std.specs.Prelude.{◌≡◌, ℕ, Bool, not, ◌&&◌, List, map, co
 use Rattle.std.specs.List.{AllByRecursion, list_any}
 use Rattle.std.specs.Str.{bytes_eq}
 use Rattle.cc_base.specs.declared.device.DeviceDecl.{DeviceDecl}
-use Rattle.cc_meta_modules.specs.ModuleVerdicts.{Finding, ModuleVerdict, HasModuleVerdict}
-use Rattle.cc_meta_modules.specs.PresentTexts.{Texts, findings_for, AreVerdicts}
-use Rattle.cc_meta_modules.specs.ModuleLaws.{AreFit}
+use Rattle.cc_verdicts.specs.ModuleVerdicts.{Finding, ModuleVerdict, HasModuleVerdict}
+use Rattle.cc_verdicts.specs.PresentTexts.{Texts, findings_for, AreVerdicts}
+use Rattle.cc_verdicts.specs.ModuleLaws.{AreFit}
 use Rattle.cc_judge.specs.SameFindings.{same_findings}
 
 -- a module that was judged: its name, its text, what was found for its imports, and its verdict

@@ -5,7 +5,7 @@ use Rattle.std.specs.Map.{keys_of}
 use Rattle.std.specs.Prelude.{◌≡◌, length}
 use Rattle.cc_base.specs.declared.device.DeviceDecl.{DeviceDecl}
 use Rattle.cc_base.specs.Names.{compare_names}
-use Rattle.cc_meta_modules.specs.ModuleVerdicts as plain
+use Rattle.cc_verdicts.specs.ModuleVerdicts as plain
 use Rattle.cc_module.specs.declared.judgement.ModuleVerdict.{ModuleVerdict}
 use Rattle.cc_module.specs.Findings.{finding_of}
 use Rattle.cc_module.specs.Judgements.{module_verdict_of}

@@ -5,9 +5,9 @@ use Rattle.std.specs.List.{AllByRecursion}
 use Rattle.std.specs.Option.{unwrap_or, is_some}
 use Rattle.cc_base.specs.declared.device.DeviceDecl.{DeviceDecl}
 use Rattle.cc_graph.specs.Graph.{reaches}
-use Rattle.cc_meta_modules.specs.ModuleVerdicts.{Finding, ModuleVerdict}
-use Rattle.cc_meta_modules.specs.PresentTexts.{Texts, graph_of, findings_for, AreVerdicts}
-use Rattle.cc_meta_modules.specs.Readings.{imports_of}
+use Rattle.cc_verdicts.specs.ModuleVerdicts.{Finding, ModuleVerdict}
+use Rattle.cc_verdicts.specs.PresentTexts.{Texts, graph_of, findings_for, AreVerdicts}
+use Rattle.cc_verdicts.specs.Readings.{imports_of}
 use Rattle.cc_module.specs.declared.judgement.ModuleVerdict.{ModuleVerdict as DeclaredVerdict}
 use Rattle.cc_module.specs.Judgements.{module_verdict_of}
 use Rattle.cc_judge.specs.declared.plans.Plan.{Plan}

@@ -1,10 +1,10 @@
 -- Whether what is found is the same.
 use Rattle.std.specs.Prelude.{◌≡◌, ◌↔◌, ℕ, nat_eq, Bool, false, true, List}
 use Rattle.std.specs.Cmp.Lexicographic.{pointwise}
-use Rattle.cc_core.specs.Comparison.{same_type}
+use Rattle.cc_core.specs.Equality.{same_type}
 use Rattle.cc_core.specs.Shapes.{CapturingType}
-use Rattle.cc_meta_modules.specs.ModuleVerdicts.{Finding, FoundDefinition, NoModule, InCycle, RefusedModule}
-use Rattle.cc_meta_modules.specs.ModuleVerdicts.{NoDefinition}
+use Rattle.cc_verdicts.specs.ModuleVerdicts.{Finding, FoundDefinition, NoModule, InCycle, RefusedModule}
+use Rattle.cc_verdicts.specs.ModuleVerdicts.{NoDefinition}
 
 -- a number for each kind of finding
 abbrev pub kind_of : Finding → ℕ

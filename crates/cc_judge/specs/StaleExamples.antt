@@ -3,11 +3,11 @@ use Rattle.std.specs.Prelude.{◌≡◌, ℕ, true, false, codes, List, [], ◌�
 use Rattle.std.specs.Str.{chars, is_utf8}
 use Rattle.cc_capture.specs.Sets.{empty, same_set}
 use Rattle.cc_core.specs.Shapes.{capturing}
-use Rattle.cc_meta_modules.specs.ModuleVerdicts.{Finding, FoundDefinition, NoModule, InCycle, RefusedModule}
-use Rattle.cc_meta_modules.specs.ModuleVerdicts.{NoDefinition, ModuleVerdict, IsAccepted}
-use Rattle.cc_meta_modules.specs.PresentTexts.{Texts}
-use Rattle.cc_meta_modules.specs.Readings.{reading_of_text}
-use Rattle.cc_sets.specs.Examples.{number, nothing}
+use Rattle.cc_verdicts.specs.ModuleVerdicts.{Finding, FoundDefinition, NoModule, InCycle, RefusedModule}
+use Rattle.cc_verdicts.specs.ModuleVerdicts.{NoDefinition, ModuleVerdict, IsAccepted}
+use Rattle.cc_verdicts.specs.PresentTexts.{Texts}
+use Rattle.cc_verdicts.specs.Readings.{reading_of_text}
+use Rattle.cc_checking.specs.ComparisonExamples.{number, nothing}
 use Rattle.cc_judge.specs.Judgements.{Judgement, is_stale, stale_count}
 
 abbrev a : List ℕ

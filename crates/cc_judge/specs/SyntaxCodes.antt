@@ -14,7 +14,7 @@ use Rattle.cc_grammar.specs.Syntax.{FunctionShape, TypeFunctionShape, ExprSyntax
 use Rattle.cc_grammar.specs.Syntax.{ValExpr, FunExpr, TypeFunExpr, IfExpr, BoundaryExpr, OperatorExpr, BoxExpr, UnboxExpr}
 use Rattle.cc_grammar.specs.Syntax.{CallExpr, TypeCallExpr, AskExpr, TellExpr, ExitExpr, RepeatExpr}
 use Rattle.cc_grammar.specs.Syntax.{ImportSyntax, DefSyntax, ModuleSyntax}
-use Rattle.cc_meta_modules.specs.Readings.{TextReading, IsTree, IsNoModule}
+use Rattle.cc_verdicts.specs.Readings.{TextReading, IsTree, IsNoModule}
 use Rattle.cc_judge.specs.StoredTrees.{front, back, tag, apart, literal_tree, one_literal}
 
 -- the codes of what is not made of other trees

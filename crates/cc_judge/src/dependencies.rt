@@ -5,7 +5,7 @@ ghost use Rattle.std.specs.BTreeMap.{insert_entry};
 ghost use Rattle.std.specs.List.Sorted.{IsStrictlySortedBy};
 ghost use Rattle.std.specs.Map.{keys_of};
 ghost use Rattle.cc_base.specs.Names.{compare_names};
-ghost use Rattle.cc_meta_modules.specs.PresentTexts.{ArePresent, graph_of};
+ghost use Rattle.cc_verdicts.specs.PresentTexts.{ArePresent, graph_of};
 ghost use Rattle.cc_parse.specs.Trees.{import_syntax, imports_syntax};
 ghost use Rattle.cc_judge.specs.Dependencies.{sources_of, inserted, readings_of, AreRead, with_unread, ListsUnread, PushesPlace, PushesNamed, IsSchedule, AreDependencies};
 

@@ -2,9 +2,9 @@
 
 ghost use Rattle.std.specs.Prelude.{◌≡◌, ◌<◌, ℕ, map, option_map, Some, IfOk, length, slice_get};
 ghost use Rattle.std.specs.Map.{keys_of};
-ghost use Rattle.cc_meta_modules.specs.ModuleVerdicts.{Finding};
-ghost use Rattle.cc_meta_modules.specs.PresentTexts as plain;
-ghost use Rattle.cc_meta_modules.specs.PresentTexts.{ArePresent, graph_of};
+ghost use Rattle.cc_verdicts.specs.ModuleVerdicts.{Finding};
+ghost use Rattle.cc_verdicts.specs.PresentTexts as plain;
+ghost use Rattle.cc_verdicts.specs.PresentTexts.{ArePresent, graph_of};
 ghost use Rattle.cc_module.specs.Findings.{finding_of};
 ghost use Rattle.cc_module.specs.Judgements.{checked_definition_of, module_verdict_of};
 ghost use Rattle.cc_parse.specs.Trees.{import_syntax};

@@ -2,9 +2,9 @@
 
 ghost use Rattle.std.specs.Prelude.{◌≡◌, ℕ, ◌+◌, ◌<◌, ◌≤◌, List, [], length, map, option_map, replicate, slice_set, Some, None, IfOk, OnOk, OnErr, if◌then◌else◌};
 ghost use Rattle.std.specs.Option.{unwrap_or};
-ghost use Rattle.cc_meta_modules.specs.ModuleVerdicts.{ModuleVerdict};
-ghost use Rattle.cc_meta_modules.specs.ModuleLaws.{NamesOfDevicesDiffer};
-ghost use Rattle.cc_meta_modules.specs.PresentTexts.{ArePresent, graph_of, AreVerdicts};
+ghost use Rattle.cc_verdicts.specs.ModuleVerdicts.{ModuleVerdict};
+ghost use Rattle.cc_verdicts.specs.ModuleLaws.{NamesOfDevicesDiffer};
+ghost use Rattle.cc_verdicts.specs.PresentTexts.{ArePresent, graph_of, AreVerdicts};
 ghost use Rattle.cc_module.specs.Findings.{finding_of};
 ghost use Rattle.cc_parse.specs.Trees.{imports_syntax};
 ghost use Rattle.cc_judge.specs.Dependencies.{AreDependencies};

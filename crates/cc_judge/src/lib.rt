@@ -4,11 +4,11 @@
 
 mod carrying;
 pub mod dependencies;
+pub mod finding_laws;
 pub mod findings;
 pub mod grounds;
 pub mod judging;
 pub mod last;
-pub mod laws;
 pub mod names;
 mod plans;
 pub mod reading;

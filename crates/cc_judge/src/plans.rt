@@ -6,7 +6,7 @@ ghost use Rattle.std.specs.Map.{keys_of};
 ghost use Rattle.cc_base.specs.Names.{compare_names};
 ghost use Rattle.cc_module.specs.Findings.{finding_of};
 ghost use Rattle.cc_module.specs.Judgements.{module_verdict_of};
-ghost use Rattle.cc_meta_modules.specs.ModuleLaws.{NamesOfDevicesDiffer, AreFit};
+ghost use Rattle.cc_verdicts.specs.ModuleLaws.{NamesOfDevicesDiffer, AreFit};
 ghost use Rattle.cc_judge.specs.Judgements.{Judgement, is_stale};
 ghost use Rattle.cc_judge.specs.Kept.{judgements_of, IsKept};
 ghost use Rattle.cc_judge.specs.Plans.{plan_verdict, IsPlanFor, IsJudgedAt};

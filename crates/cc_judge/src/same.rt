@@ -2,7 +2,7 @@
 
 ghost use Rattle.std.specs.Prelude.{◌≡◌, map, ◌&&◌};
 ghost use Rattle.std.specs.Str.{bytes_eq};
-ghost use Rattle.cc_core.specs.Views.{type_of};
+ghost use Rattle.cc_core.specs.TermViews.{type_of};
 ghost use Rattle.cc_module.specs.Findings.{finding_of};
 ghost use Rattle.cc_judge.specs.SameFindings as plain;
 

@@ -10,7 +10,7 @@ use Rattle.cc_base.specs.declared.code.Diag.{Diag}
 use Rattle.cc_lex.specs.declared.error.LexError.TheVariants.{Refused, NoMemory}
 use Rattle.cc_lex.specs.Lexical.{place_past, start, SpannedLexeme, spanned_all, Extent, ToTheEnd, UpTo, IsCut, HasTokens, IsRefusedAs, IsRefused}
 use Rattle.cc_lex.specs.Cutting.{cut}
-use Rattle.cc_lex.specs.Laws.{BytesHaveTokensOrARefusal, NoBytesHaveTokensAndARefusal, BytesHaveOneListOfTokens, BytesHaveOneRefusal, TokensAreGiven, RefusalsAreGiven}
+use Rattle.cc_lex.specs.TokenLaws.{BytesHaveTokensOrARefusal, NoBytesHaveTokensAndARefusal, BytesHaveOneListOfTokens, BytesHaveOneRefusal, TokensAreGiven, RefusalsAreGiven}
 use Rattle.cc_lex.proofs.Booleans.{opposite}
 use Rattle.cc_lex.proofs.CuttingLaws.{cut-is, IsCut-same}
 

@@ -12,7 +12,7 @@ use Rattle.cc_lex.specs.declared.token.Tokens.{Tokens}
 use Rattle.cc_lex.specs.Lexemes.{placed_of, placed_all, Lexeme, NameLexeme, NumberLexeme, TextLexeme, WordLexeme, SymbolLexeme}
 use Rattle.cc_lex.specs.Forms.{IsForm, greatest_number, Spells}
 use Rattle.cc_lex.specs.Lexical.{byte_count, SpannedLexeme, spanned_of, spanned_all, without_spans, Extent, IsCut, at_end, at_nothing, at_too_great, past_blank, past_token}
-use Rattle.cc_lex.specs.Laws.{IsSpelledBySpan, SpansSpellTheirTokens, AreInOrder, SpansAreInOrder, IsWellFormed, TokensAreWellFormed}
+use Rattle.cc_lex.specs.TokenLaws.{IsSpelledBySpan, SpansSpellTheirTokens, AreInOrder, SpansAreInOrder, IsWellFormed, TokensAreWellFormed}
 use Rattle.cc_lex.proofs.LongestForms.{form-some}
 use Rattle.cc_lex.proofs.TextSlices.{GoesOn, goes_on-past, goes_on-bytes, some-byte}
 

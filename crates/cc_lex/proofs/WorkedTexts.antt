@@ -7,7 +7,7 @@ use Rattle.unicode_ident.proofs.Computing.{unicode_ident}
 use Rattle.cc_base.specs.declared.place.Place.{Place}
 use Rattle.cc_lex.specs.Lexical.{start, SpannedLexeme, ToTheEnd, UpTo, IsText, StopsAt}
 use Rattle.cc_lex.specs.Cutting.{word_of, short_symbol, pair_symbol, front_of, blank_of, token_of, number_of, cut}
-use Rattle.cc_lex.specs.Examples.{place, string_of, WorkedTokens, WorkedStops}
+use Rattle.cc_lex.specs.TokenExamples.{place, string_of, WorkedTokens, WorkedStops}
 use Rattle.cc_lex.proofs.CuttingLaws.{cut-is}
 use Rattle.cc_lex.proofs.Booleans.{opposite}
 use lib.Utf8.{encode}

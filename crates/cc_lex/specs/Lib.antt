@@ -2,5 +2,5 @@ pub mod Lexemes
 pub mod Forms
 pub mod Lexical
 pub mod Cutting
-pub mod Laws
-pub mod Examples
+pub mod TokenLaws
+pub mod TokenExamples

@@ -6,7 +6,7 @@ use Rattle.cc_link.specs.declared.table.DefinitionTable.{DefinitionTable}
 use Rattle.cc_link.specs.Linking.{definition_of}
 use Rattle.cc_link.specs.Tables.{definition_position, position_found}
 use Rattle.cc_link.proofs.Placements.{turned_more, items_more, items_counted}
-use Rattle.cc_meta_runs.specs.Links.{position_among}
+use Rattle.cc_runs.specs.Links.{position_among}
 use Rattle.cc_module.specs.declared.judgement.CheckedDef.{CheckedDef}
 
 -- one name more

@@ -1,4 +1,8 @@
+mod EarlierEntries
 pub mod EnteredNames
 pub mod LinkedEntries
 pub mod LinkedValues
+mod Listed
+pub mod NumberedEntries
 pub mod Placements
+mod Turned

@@ -16,28 +16,28 @@ use Rattle.cc_core.specs.Programs.{Definition, Module, Entry, device_context, Of
 use Rattle.cc_core.specs.Shapes.{BaseShape}
 use Rattle.cc_core.specs.Stores.{Store, ValueCell}
 use Rattle.cc_core.specs.Terms.{Term, LiteralTerm, Application}
-use Rattle.cc_core.specs.Views.{term_of}
+use Rattle.cc_core.specs.TermViews.{term_of}
 use Rattle.cc_base.specs.declared.literal.Base.TheVariants as bases
 use Rattle.cc_capture.specs.Sets.{empty}
-use Rattle.cc_entry.specs.declared.entry.Entry.{Entry as DeclaredEntry}
-use Rattle.cc_entry.specs.declared.modules.EntryModule.{EntryModule}
-use Rattle.cc_entry.specs.Modules.{module_of}
-use Rattle.cc_meta_entries.specs.PresentEntries.{program_module}
+use Rattle.cc_session.specs.declared.entry.Entry.{Entry as DeclaredEntry}
+use Rattle.cc_session.specs.declared.modules.EntryModule.{EntryModule}
+use Rattle.cc_session.specs.Modules.{module_of}
+use Rattle.cc_entry_laws.specs.PresentEntries.{program_module}
 use Rattle.cc_link.specs.declared.table.DefinitionTable.{DefinitionTable}
 use Rattle.cc_link.specs.declared.table.ModuleTable.{ModuleTable}
 use Rattle.cc_link.specs.Linking.{definition_of, module_in_program, entry_in_program, ArePositions, IsLinked, modules_before}
 use Rattle.cc_link.specs.Tables.{definition_position, module_position}
 use Rattle.cc_link.proofs.Placements.{items_more, turned_more}
 use Rattle.cc_link.proofs.LinkedValues.{module_cells, IsFormed, IsFormed-prop, module_formed}
-use Rattle.cc_meta_runs.specs.Links.{count_definitions, position_among, linked_position, linked_cell, device_cells, linked_store, entry_store, entry_context, entry_position, program_start as linked_start}
-use Rattle.cc_meta_runs.specs.Machine.{configured}
-use Rattle.cc_meta_runs.proofs.LinkedPrograms.{linked_store_length, program_stored, program_typed}
-use Rattle.cc_meta_modules.specs.ModuleVerdicts.{in_program}
+use Rattle.cc_runs.specs.Links.{count_definitions, position_among, linked_position, linked_cell, device_cells, linked_store, entry_store, entry_context, entry_position, program_start as linked_start}
+use Rattle.cc_runs.specs.Machine.{configured}
+use Rattle.cc_runs.proofs.LinkedPrograms.{linked_store_length, program_stored, program_typed}
+use Rattle.cc_verdicts.specs.ModuleVerdicts.{in_program}
 use Rattle.cc_module.specs.declared.judgement.CheckedDef.{CheckedDef}
 use Rattle.cc_module.specs.Judgements.{checked_definition_of}
-use Rattle.cc_program.specs.declared.values.TypedValue.{TypedValue}
-use Rattle.cc_program.specs.Starts.{value_cell, value_entry, value_store, value_context, program_store, program_start, IsTypedStart, IsTyped}
-use Rattle.cc_program.proofs.Starting.{program_counted}
+use Rattle.cc_machine.specs.declared.values.TypedValue.{TypedValue}
+use Rattle.cc_machine.specs.Starts.{value_cell, value_entry, value_store, value_context, program_store, program_start, IsTypedStart, IsTyped}
+use Rattle.cc_machine.proofs.Starting.{program_counted}
 
 -- nothing is linked
 pub nothing_linked : (devices : List Base) (values : List TypedValue) (table : ModuleTable) → values ≡ []

@@ -22,7 +22,7 @@ use Rattle.cc_core.proofs.Sorts.{TermSort}
 use Rattle.cc_core.proofs.WellFormedness.{well_formed-positions_below}
 use Rattle.cc_link.specs.Linking.{ArePositions}
 use Rattle.cc_link.proofs.Placements.{turned_more, turned_at}
-use Rattle.cc_meta_runs.specs.Links.{linked_position, linked_cell}
+use Rattle.cc_runs.specs.Links.{linked_position, linked_cell}
 
 -- The variables of each value have their entries in the context that it was checked in.
 abbrev pub AreFormed : Context → List Definition → Type 0

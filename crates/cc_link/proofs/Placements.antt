@@ -7,7 +7,7 @@ use Rattle.std.proofs.lemmas.List.{reverse-append, map-append, map_more, take-ap
 use Rattle.std.proofs.lemmas.List.FromFn.{map-range_with_len_more}
 use Rattle.std.proofs.lemmas.Bool.{cond-true, cond-false, eq-eqb, ne_eqb, lt-ltb, le-ltb}
 use Rattle.cc_core.specs.Programs.{Import, Module}
-use Rattle.cc_meta_runs.specs.Links.{count_definitions, position_in, import_position, linked_position}
+use Rattle.cc_runs.specs.Links.{count_definitions, position_in, import_position, linked_position}
 
 -- Lists that are turned round.
 pub turned_more : {A : Type 0} (xs : List A) (x : A) → reverse (xs ++ x ∷ []) ≡ x ∷ reverse xs

@@ -1,2 +1,5 @@
+pub mod EntryLists
 pub mod Linking
+pub mod ModuleLinkLaws
+pub mod ModuleLinks
 pub mod Tables

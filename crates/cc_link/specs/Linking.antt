@@ -3,19 +3,19 @@ use Rattle.std.specs.Prelude.{◌≡◌, ℕ, List, map, reverse, take, length}
 use Rattle.std.specs.List.{range_with_len}
 use Rattle.cc_base.specs.declared.literal.Base.{Base}
 use Rattle.cc_core.specs.Programs.{Import, Definition, Module, Entry}
-use Rattle.cc_entry.specs.declared.entry.Entry.{Entry as DeclaredEntry}
-use Rattle.cc_entry.specs.declared.modules.EntryModule.{EntryModule}
-use Rattle.cc_entry.specs.Entries.{entry_of}
-use Rattle.cc_entry.specs.Modules.{module_of}
-use Rattle.cc_meta_entries.specs.PresentEntries.{program_module, program_entry}
+use Rattle.cc_session.specs.declared.entry.Entry.{Entry as DeclaredEntry}
+use Rattle.cc_session.specs.declared.modules.EntryModule.{EntryModule}
+use Rattle.cc_session.specs.Entries.{entry_of}
+use Rattle.cc_session.specs.Modules.{module_of}
+use Rattle.cc_entry_laws.specs.PresentEntries.{program_module, program_entry}
 use Rattle.cc_link.specs.declared.table.ModuleTable.{ModuleTable}
 use Rattle.cc_link.specs.Tables.{Finds}
-use Rattle.cc_meta_modules.specs.ModuleVerdicts.{in_program}
-use Rattle.cc_meta_runs.specs.Links.{linked_position, linked_store, linked_context}
+use Rattle.cc_verdicts.specs.ModuleVerdicts.{in_program}
+use Rattle.cc_runs.specs.Links.{linked_position, linked_store, linked_context}
 use Rattle.cc_module.specs.declared.judgement.CheckedDef.{CheckedDef}
 use Rattle.cc_module.specs.Judgements.{checked_definition_of}
-use Rattle.cc_program.specs.declared.values.TypedValue.{TypedValue}
-use Rattle.cc_program.specs.Starts.{value_store, value_context}
+use Rattle.cc_machine.specs.declared.values.TypedValue.{TypedValue}
+use Rattle.cc_machine.specs.Starts.{value_store, value_context}
 
 -- a definition, as one of a program
 abbrev pub definition_of : CheckedDef → Definition

@@ -5,7 +5,7 @@ use Rattle.indexmap.specs.IndexMap.{get}
 use Rattle.cc_core.specs.Programs.{Module}
 use Rattle.cc_link.specs.declared.table.DefinitionTable.{DefinitionTable}
 use Rattle.cc_link.specs.declared.table.ModuleTable.{ModuleTable}
-use Rattle.cc_meta_runs.specs.Links.{position_in}
+use Rattle.cc_runs.specs.Links.{position_in}
 
 -- the position of the definition of the name, if there is one
 abbrev pub definition_position : DefinitionTable → List ℕ → Option ℕ

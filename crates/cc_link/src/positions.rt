@@ -1,13 +1,13 @@
 //! Where the positions of a module's context stand in the store, and where its definitions do.
 ghost use Rattle.std.specs.Prelude.{◌≡◌, ◌+◌, ◌<◌, ℕ, List, map, reverse, length, IfOk};
 ghost use Rattle.cc_core.specs.Programs.{Module};
-ghost use Rattle.cc_meta_runs.specs.Links.{count_definitions, position_among};
+ghost use Rattle.cc_runs.specs.Links.{count_definitions, position_among};
 ghost use Rattle.cc_link.specs.Linking.{definition_of, module_in_program, ArePositions};
 ghost use Rattle.cc_link.specs.Tables.{definition_position, Finds};
 
 use crate::table::{DefinitionTable, ModuleTable};
-use cc_entry::EntryModule;
 use cc_module::judgement::CheckedDef;
+use cc_session::EntryModule;
 use std::alloc::{AllocError, Global};
 
 /// The position that stands so many behind another. Fails where it is 2^32 - 1 or more.

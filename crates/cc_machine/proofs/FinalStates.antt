@@ -3,12 +3,12 @@ use Rattle.std.proofs.Common.{◌≡◌, [], Option, Some, None, sym, ap, ◌∙
 use Rattle.std.proofs.Math.Logic.{∥∥₁_elim}
 use Rattle.cc_device.specs.Endings.{Shown}
 use Rattle.cc_machine.specs.Standing.{StandsSoundly, with_devices}
-use Rattle.cc_meta_runs.specs.Answers.{shown}
-use Rattle.cc_meta_runs.specs.Machine.{Configuration, Final, step}
-use Rattle.cc_meta_runs.specs.Runs.{closed, move}
-use Rattle.cc_meta_runs.proofs.Erasure.{shown-erased}
-use Rattle.cc_meta_runs.proofs.Finality.{final_states_are_answered}
-use Rattle.cc_meta_runs.proofs.ShownAnswers.{shown_from}
+use Rattle.cc_runs.specs.Answers.{shown}
+use Rattle.cc_runs.specs.Machine.{Configuration, Final, step}
+use Rattle.cc_runs.specs.Runs.{closed, move}
+use Rattle.cc_runs.proofs.Erasure.{shown-erased}
+use Rattle.cc_runs.proofs.Finality.{final_states_are_answered}
+use Rattle.cc_runs.proofs.ShownAnswers.{shown_from}
 use Rattle.cc_machine.proofs.StandingLemmas.{move_held, final_back}
 
 some_none : (s : Shown) (o : Option Shown) → o ≡ Some s → o ≡ None → ⊥

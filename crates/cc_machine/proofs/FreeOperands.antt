@@ -14,9 +14,9 @@ use Rattle.cc_core.specs.WellFormed.{Kind, TermKind, kinds_of}
 use Rattle.cc_core.proofs.KindFacts.{IsOfKind, IsKindedTerm, IsKindedTerm-from}
 use Rattle.cc_core.proofs.Lookups.{lookup-map}
 use Rattle.cc_machine.specs.Standing.{StandsSoundly}
-use Rattle.cc_meta_runs.specs.Alike.{erased, erased_cell}
-use Rattle.cc_meta_runs.specs.Machine.{Configuration}
-use Rattle.cc_steps.specs.Operands.{IsFree, HasFreeOperands, HoldsFreeContent}
+use Rattle.cc_runs.specs.Alike.{erased, erased_cell}
+use Rattle.cc_runs.specs.Machine.{Configuration}
+use Rattle.cc_machine.specs.Operands.{IsFree, HasFreeOperands, HoldsFreeContent}
 
 -- a variable under no binder is a position
 free_variable : (kinds : List Kind) (v : Var) → IsOfKind kinds [] v TermKind → IsFree v

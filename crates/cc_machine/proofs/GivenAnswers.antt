@@ -7,23 +7,23 @@ use Rattle.cc_core.specs.Typing.{base_of, base_answered}
 use Rattle.cc_device.specs.Events.{Event, Operated, literal_shown}
 use Rattle.cc_machine.specs.Answering.{AdvancesAlike, GoesOnWith, AnswersAlike}
 use Rattle.cc_machine.specs.Standing.{StandsFor, StandsSoundly}
-use Rattle.cc_meta_runs.specs.Alike.{erased_configuration}
-use Rattle.cc_meta_runs.specs.Machine.{Configuration, Outcome, Stuck, Final, Next, Ask, step}
-use Rattle.cc_meta_runs.specs.Soundness.{IsSoundOutcome, IsSoundStep}
-use Rattle.cc_meta_runs.proofs.Erasure.{erased_outcome, term-erased}
-use Rattle.cc_meta_runs.proofs.StepTheorem.{steps_are_sound}
-use Rattle.cc_steps.specs.Asking.{Question, question_in, resumed_with, IsAnswerTo}
-use Rattle.cc_steps.specs.declared.parts.Parts.{Parts}
-use Rattle.cc_steps.specs.Lines.{GoesAs, Goes}
-use Rattle.cc_steps.specs.Parts.{configuration_of}
-use Rattle.cc_steps.specs.Reserving.{HoldsTheSame}
+use Rattle.cc_runs.specs.Alike.{erased_configuration}
+use Rattle.cc_runs.specs.Machine.{Configuration, StepOutcome, Stuck, Final, Next, Ask, step}
+use Rattle.cc_runs.specs.Soundness.{IsSoundOutcome, IsSoundStep}
+use Rattle.cc_runs.proofs.Erasure.{erased_outcome, term-erased}
+use Rattle.cc_runs.proofs.StepTheorem.{steps_are_sound}
+use Rattle.cc_machine.specs.Asking.{Question, question_in, resumed_with, IsAnswerTo}
+use Rattle.cc_machine.specs.declared.parts.Parts.{Parts}
+use Rattle.cc_machine.specs.Lines.{GoesAs, Goes}
+use Rattle.cc_machine.specs.Parts.{configuration_of}
+use Rattle.cc_machine.specs.Reserving.{HoldsTheSame}
 use Rattle.cc_machine.proofs.Keeping.{same_held}
 
 step_held : (held configuration : Configuration) → StandsFor held configuration → step held ≡ erased_outcome (step configuration)
 step_held held c stands = sym (ap step stands) ∙ term-erased c.store c.stack c.labels_made c.term
 
 -- the question is the same
-question-erased : (x : Outcome) → question_in (erased_outcome x) ≡ question_in x
+question-erased : (x : StepOutcome) → question_in (erased_outcome x) ≡ question_in x
 question-erased Stuck = refl
 question-erased Final = refl
 question-erased (Next e n) = refl
@@ -34,7 +34,7 @@ pub asks_alike : {o : Option Question} (held : Configuration) → o ≡ question
 asks_alike held is c stands = is ∙ ap question_in (step_held held c stands) ∙ question-erased (step c)
 
 -- an outcome, from what is erased of it
-stuck_back : (x : Outcome) → erased_outcome x ≡ Stuck → x ≡ Stuck
+stuck_back : (x : StepOutcome) → erased_outcome x ≡ Stuck → x ≡ Stuck
 stuck_back Stuck is = refl
 stuck_back Final is = cc
 stuck_back (Next e n) is = cc
@@ -43,7 +43,7 @@ stuck_back (Ask n op a resume) is = cc
 same_next : (e e' : Option Event) (n n' : Configuration) → Next e n ≡ Next e' n' → (e ≡ e') × (n ≡ n')
 same_next e e' n n' is = (cc, cc)
 
-next_back : (x : Outcome) (e : Option Event) (n : Configuration) → erased_outcome x ≡ Next e n
+next_back : (x : StepOutcome) (e : Option Event) (n : Configuration) → erased_outcome x ≡ Next e n
     → (n' : Configuration) × (x ≡ Next e n') × (erased_configuration n' ≡ n)
 next_back Stuck e n is = cc
 next_back Final e n is = cc
@@ -55,7 +55,7 @@ same_question : (n n' : ℕ) (op op' : Op) (a a' : Option Literal) (r r' : Liter
     → (n ≡ n') × (op ≡ op') × (a ≡ a') × (r ≡ r')
 same_question n n' op op' a a' r r' is = (cc, cc, cc, cc)
 
-ask_back : (x : Outcome) (n : ℕ) (op : Op) (a : Option Literal) (r : Literal → Configuration) → erased_outcome x ≡ Ask n op a r
+ask_back : (x : StepOutcome) (n : ℕ) (op : Op) (a : Option Literal) (r : Literal → Configuration) → erased_outcome x ≡ Ask n op a r
     → (r' : Literal → Configuration) × (x ≡ Ask n op a r') × ((answer : Literal) → erased_configuration (r' answer) ≡ r answer)
 ask_back Stuck n op a r is = cc
 ask_back Final n op a r is = cc
@@ -75,7 +75,7 @@ never_stuck : (held : Configuration) → StandsSoundly held → step held ≡ St
 never_stuck held (c, sound, stands) is =
     subst (IsSoundOutcome c) (stuck_back (step c) (sym (step_held held c stands) ∙ is)) (steps_are_sound c sound)
 
-exactly : (x : Outcome) (e : Option Event) (n : Configuration) → GoesAs x e n → (x ≡ Stuck → ⊥) → (x ≡ Final → ⊥) → x ≡ Next e n
+exactly : (x : StepOutcome) (e : Option Event) (n : Configuration) → GoesAs x e n → (x ≡ Stuck → ⊥) → (x ≡ Final → ⊥) → x ≡ Next e n
 exactly Stuck e n goes stuck final = absurd (stuck refl)
 exactly Final e n goes stuck final = absurd (final refl)
 exactly (Next e' n') e n goes stuck final = λ i. Next (goes.0 i) (goes.1 i)
@@ -104,7 +104,7 @@ module _ {before reserved after : Parts} (event : Option Event) (same : HoldsThe
   advanced_stands = advances_soundly (configuration_of before) event (configuration_of after) advanced_next sound
 
 -- a step with an answer
-of_question : (answer : Literal) (c after : Configuration) (event : Event) (x : Outcome) (q : Question) → step c ≡ x → Some q ≡ question_in x → base_of answer ≡ base_answered q.operation
+of_question : (answer : Literal) (c after : Configuration) (event : Event) (x : StepOutcome) (q : Question) → step c ≡ x → Some q ≡ question_in x → base_of answer ≡ base_answered q.operation
     → resumed_with answer x ≡ Some after → event ≡ Operated q.device q.operation (literal_shown q.argument answer) → GoesOnWith answer c event after
 of_question answer c after event Stuck q is asks of_kind resumes tells = cc
 of_question answer c after event Final q is asks of_kind resumes tells = cc

@@ -3,15 +3,15 @@ use Rattle.std.proofs.Common.{◌≡◌, ℕ, zero, suc, ◌-◌, Result, Ok, Er
 use Rattle.cc_device.specs.Devices.{Devices}
 use Rattle.cc_device.specs.Events.{Event}
 use Rattle.cc_machine.specs.Standing.{StandsSoundly, with_devices, StepsAlike, KeepsShapes}
-use Rattle.cc_meta_runs.specs.Machine.{Final, step}
-use Rattle.cc_meta_runs.specs.Runs.{Moves, move}
-use Rattle.cc_meta_runs.specs.SoundRuns.{HasShapesOfCells}
-use Rattle.cc_meta_runs.proofs.DeviceTable.{moves_keep_the_devices}
-use Rattle.cc_steps.specs.declared.parts.Parts.{Parts}
-use Rattle.cc_steps.specs.Lines.{GoesWith, MovesAs, state_in}
-use Rattle.cc_steps.specs.Parts.{store_of, stack_of, focus_in, focus_environment, configuration_of, IsLinked, HasRoom, UsesOne}
-use Rattle.cc_steps.specs.Reserving.{HoldsTheSame}
-use Rattle.cc_steps.proofs.Following.{same_parts}
+use Rattle.cc_runs.specs.Machine.{Final, step}
+use Rattle.cc_runs.specs.Runs.{Moves, move}
+use Rattle.cc_runs.specs.SoundRuns.{HasShapesOfCells}
+use Rattle.cc_runs.proofs.DeviceTable.{moves_keep_the_devices}
+use Rattle.cc_machine.specs.declared.parts.Parts.{Parts}
+use Rattle.cc_machine.specs.Lines.{GoesWith, MovesAs, state_in}
+use Rattle.cc_machine.specs.Parts.{store_of, stack_of, focus_in, focus_environment, configuration_of, IsLinked, HasRoom, UsesOne}
+use Rattle.cc_machine.specs.Reserving.{HoldsTheSame}
+use Rattle.cc_machine.proofs.Following.{same_parts}
 use Rattle.cc_machine.proofs.StandingLemmas.{moves_exactly, steps_alike, stands_next, fits_next}
 
 -- on an error

@@ -1,7 +1,15 @@
+pub mod Answering
 pub mod FinalStates
+pub mod Following
 pub mod FreeOperands
 pub mod GivenAnswers
 pub mod Keeping
+pub mod Linking
 pub mod LoadedCells
+pub mod Operating
+pub mod PutBodies
+pub mod Repeating
 pub mod RunLemmas
 pub mod StandingLemmas
+pub mod Starting
+pub mod StepLines

@@ -10,26 +10,26 @@ use Rattle.cc_core.specs.declared.terms.Node.{Node}
 use Rattle.cc_core.specs.Terms.{LiteralTerm}
 use Rattle.cc_core.specs.Stores.{ValueCell, DeviceCell}
 use Rattle.cc_core.specs.Stores.{Cell as PlainCell}
-use Rattle.cc_core.specs.Views.{term_of}
+use Rattle.cc_core.specs.TermViews.{term_of}
 use Rattle.cc_core.proofs.Lookups.{length_map}
 use Rattle.cc_machine.specs.Loading.{numbered_from, AreOutermost, AddsDevices, AddsValues}
-use Rattle.cc_meta_runs.specs.Alike.{erased, erased_cell, erased_configuration}
-use Rattle.cc_meta_runs.specs.Links.{device_cells}
-use Rattle.cc_meta_runs.specs.Machine.{configured}
-use Rattle.cc_program.specs.declared.values.TypedValue.{TypedValue}
-use Rattle.cc_program.specs.Starts.{value_cell, program_store, program_start}
-use Rattle.cc_steps.specs.declared.parts.Cell.{Cell}
-use Rattle.cc_steps.specs.declared.parts.Cell.TheVariants as cell_forms
-use Rattle.cc_steps.specs.declared.parts.Small.TheVariants as smalls
-use Rattle.cc_steps.specs.declared.links.Link.{Link}
-use Rattle.cc_steps.specs.declared.parts.Focus.TheVariants as focuses
-use Rattle.cc_steps.specs.declared.parts.Frame.{Frame}
-use Rattle.cc_steps.specs.declared.parts.Parts.{Parts}
-use Rattle.cc_steps.specs.Environments.{link_before}
-use Rattle.cc_steps.specs.Parts.{cell_in, cell_environment, frame_environment, focus_environment, frame_begun, frame_wanted, store_of, configuration_in, IsLinked, HasRoom}
-use Rattle.cc_steps.specs.Putting.{put_all}
-use Rattle.cc_steps.proofs.Linking.{every-push, store-push, length-store}
-use Rattle.cc_steps.proofs.PutBodies.{put_nothing}
+use Rattle.cc_runs.specs.Alike.{erased, erased_cell, erased_configuration}
+use Rattle.cc_runs.specs.Links.{device_cells}
+use Rattle.cc_runs.specs.Machine.{configured}
+use Rattle.cc_machine.specs.declared.values.TypedValue.{TypedValue}
+use Rattle.cc_machine.specs.Starts.{value_cell, program_store, program_start}
+use Rattle.cc_machine.specs.declared.parts.Cell.{Cell}
+use Rattle.cc_machine.specs.declared.parts.Cell.TheVariants as cell_forms
+use Rattle.cc_machine.specs.declared.parts.Small.TheVariants as smalls
+use Rattle.cc_machine.specs.declared.links.Link.{Link}
+use Rattle.cc_machine.specs.declared.parts.Focus.TheVariants as focuses
+use Rattle.cc_machine.specs.declared.parts.Frame.{Frame}
+use Rattle.cc_machine.specs.declared.parts.Parts.{Parts}
+use Rattle.cc_machine.specs.Environments.{link_before}
+use Rattle.cc_machine.specs.Parts.{cell_in, cell_environment, frame_environment, focus_environment, frame_begun, frame_wanted, store_of, configuration_in, IsLinked, HasRoom}
+use Rattle.cc_machine.specs.Putting.{put_all}
+use Rattle.cc_machine.proofs.Linking.{every-push, store-push, length-store}
+use Rattle.cc_machine.proofs.PutBodies.{put_nothing}
 
 map_reverse : {A B : Type 0} (f : A → B) (xs : List A) → map f (reverse xs) ≡ reverse (map f xs)
 map_reverse f [] = refl

@@ -6,19 +6,19 @@ use Rattle.cc_device.specs.Devices.{Devices}
 use Rattle.cc_device.specs.Endings.{Shown, End, Done, OutOfFuel}
 use Rattle.cc_device.specs.Events.{Event, Operated, IsWellScoped}
 use Rattle.cc_device.specs.declared.events.Event.{Event as DeclaredEvent}
-use Rattle.cc_device.specs.Views.{end_of, event_of}
+use Rattle.cc_device.specs.DeviceViews.{end_of, event_of}
 use Rattle.cc_machine.specs.declared.runs.RunReport.{RunReport}
 use Rattle.cc_machine.specs.Reports.{HasEnd, events_of, IsRunOf, ReportsRuns, TellsFuel, OperatesWhatIsReached, IsWellScopedFrom}
 use Rattle.cc_machine.specs.Standing.{StandsFor, StandsSoundly, with_devices, StepsAlike}
-use Rattle.cc_meta_runs.specs.Answers.{shown}
-use Rattle.cc_meta_runs.specs.Machine.{Configuration, Final, step}
-use Rattle.cc_meta_runs.specs.Runs.{State, Move, IsStuck, IsFinal, Moves, move, closed, with_event, Ends, Run, ended, after_move, end_with, ending_of, run_on, run}
-use Rattle.cc_meta_runs.specs.SoundRuns.{HasShapesOfCells}
-use Rattle.cc_meta_runs.specs.SafeRuns.{IsAmong}
-use Rattle.cc_meta_runs.proofs.Erasure.{erased_move, shown-erased}
-use Rattle.cc_meta_runs.proofs.Finality.{final_exactly_where_answered, final_states_are_answered}
-use Rattle.cc_meta_runs.proofs.RunSteps.{out_of_fuel_exactly}
-use Rattle.cc_meta_runs.proofs.RunTheorems.{operated_devices_are_reached, runs_are_steps, events_are_well_scoped}
+use Rattle.cc_runs.specs.Answers.{shown}
+use Rattle.cc_runs.specs.Machine.{Configuration, Final, step}
+use Rattle.cc_runs.specs.Runs.{State, Move, IsStuck, IsFinal, Moves, move, closed, with_event, Ends, Run, ended, after_move, end_with, ending_of, run_on, run}
+use Rattle.cc_runs.specs.SoundRuns.{HasShapesOfCells}
+use Rattle.cc_runs.specs.SafeRuns.{IsAmong}
+use Rattle.cc_runs.proofs.Erasure.{erased_move, shown-erased}
+use Rattle.cc_runs.proofs.Finality.{final_exactly_where_answered, final_states_are_answered}
+use Rattle.cc_runs.proofs.RunSteps.{out_of_fuel_exactly}
+use Rattle.cc_runs.proofs.RunTheorems.{operated_devices_are_reached, runs_are_steps, events_are_well_scoped}
 use Rattle.cc_machine.proofs.StandingLemmas.{move_held, never_stuck, final_back, sound_state}
 
 -- a run behind events that were there before, and steps that were taken

@@ -9,15 +9,15 @@ use Rattle.cc_core.proofs.Lookups.{lookup-map}
 use Rattle.cc_device.specs.Devices.{Devices}
 use Rattle.cc_device.specs.Events.{Event}
 use Rattle.cc_machine.specs.Standing.{StandsFor, StandsSoundly, with_devices, StepsAlike}
-use Rattle.cc_meta_runs.specs.Alike.{erased_cell}
-use Rattle.cc_meta_runs.specs.Machine.{Configuration, Final, step}
-use Rattle.cc_meta_runs.specs.Runs.{State, Move, IsStuck, IsFinal, Moves, move}
-use Rattle.cc_meta_runs.specs.Soundness.{IsSound}
-use Rattle.cc_meta_runs.specs.SoundRuns.{HasShapesOfCells, IsSoundState, IsSoundMove}
-use Rattle.cc_meta_runs.proofs.Erasure.{erased_state, erased_move, move-erased}
-use Rattle.cc_meta_runs.proofs.Finality.{final_exactly_where_answered, final_states_are_answered}
-use Rattle.cc_meta_runs.proofs.RunTheorems.{fitting_is_by_shapes, moves_are_sound}
-use Rattle.cc_steps.specs.Lines.{MovesAs}
+use Rattle.cc_runs.specs.Alike.{erased_cell}
+use Rattle.cc_runs.specs.Machine.{Configuration, Final, step}
+use Rattle.cc_runs.specs.Runs.{State, Move, IsStuck, IsFinal, Moves, move}
+use Rattle.cc_runs.specs.Soundness.{IsSound}
+use Rattle.cc_runs.specs.SoundRuns.{HasShapesOfCells, IsSoundState, IsSoundMove}
+use Rattle.cc_runs.proofs.Erasure.{erased_state, erased_move, move-erased}
+use Rattle.cc_runs.proofs.Finality.{final_exactly_where_answered, final_states_are_answered}
+use Rattle.cc_runs.proofs.RunTheorems.{fitting_is_by_shapes, moves_are_sound}
+use Rattle.cc_machine.specs.Lines.{MovesAs}
 
 -- devices stand in the same cells
 same_device : (o : Option Cell) (n : ℕ) (b : Base) → option_map erased_cell o ≡ Some (DeviceCell n b) → o ≡ Some (DeviceCell n b)

@@ -7,9 +7,9 @@ use Rattle.cc_core.specs.Stores.{DeviceCell}
 use Rattle.cc_core.specs.Typing.{base_of, base_operated, base_answered}
 use Rattle.cc_device.specs.Events.{Event, Operated, literal_shown}
 use Rattle.cc_machine.specs.Standing.{StandsFor}
-use Rattle.cc_meta_runs.specs.Machine.{Configuration, Next, Ask, step}
-use Rattle.cc_meta_runs.specs.Reach.{SetReaches}
-use Rattle.cc_meta_runs.specs.Soundness.{IsSound, IsSoundStep}
+use Rattle.cc_runs.specs.Machine.{Configuration, Next, Ask, step}
+use Rattle.cc_runs.specs.Reach.{SetReaches}
+use Rattle.cc_runs.specs.Soundness.{IsSound, IsSoundStep}
 
 -- Each configuration that the first one stands for goes on by itself, with the event, to one that the second stands for.
 -- Where it is sound, all is kept that steps of sound configurations keep.

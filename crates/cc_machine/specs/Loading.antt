@@ -3,11 +3,11 @@ use Rattle.std.specs.Prelude.{◌≡◌, ℕ, suc, ◌≤◌, List, [], ◌∷�
 use Rattle.cc_base.specs.declared.literal.Base.{Base}
 use Rattle.cc_core.specs.Stores.{DeviceCell}
 use Rattle.cc_core.specs.Stores.{Cell as PlainCell}
-use Rattle.cc_meta_runs.specs.Alike.{erased_cell}
-use Rattle.cc_program.specs.declared.values.TypedValue.{TypedValue}
-use Rattle.cc_program.specs.Starts.{value_cell}
-use Rattle.cc_steps.specs.declared.parts.Cell.{Cell}
-use Rattle.cc_steps.specs.Parts.{cell_in, cell_environment}
+use Rattle.cc_runs.specs.Alike.{erased_cell}
+use Rattle.cc_machine.specs.declared.values.TypedValue.{TypedValue}
+use Rattle.cc_machine.specs.Starts.{value_cell}
+use Rattle.cc_machine.specs.declared.parts.Cell.{Cell}
+use Rattle.cc_machine.specs.Parts.{cell_in, cell_environment}
 
 -- the cells of devices, from the number on
 abbrev pub numbered_from : ℕ → List Base → List PlainCell

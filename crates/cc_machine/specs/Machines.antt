@@ -1,8 +1,8 @@
 -- What a machine holds.
 use Rattle.std.specs.Prelude.{ℕ, length}
 use Rattle.cc_machine.specs.declared.machine.Machine.{Machine}
-use Rattle.cc_meta_runs.specs.Machine.{Configuration}
-use Rattle.cc_steps.specs.Parts.{configuration_of}
+use Rattle.cc_runs.specs.Machine.{Configuration}
+use Rattle.cc_machine.specs.Parts.{configuration_of}
 
 -- the configuration without types and shapes that are written
 abbrev pub held_by : Machine → Configuration

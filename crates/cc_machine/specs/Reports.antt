@@ -7,16 +7,16 @@ use Rattle.cc_core.specs.Typing.{base_operated}
 use Rattle.cc_device.specs.Devices.{Devices}
 use Rattle.cc_device.specs.Endings.{End, Done, OutOfFuel}
 use Rattle.cc_device.specs.Events.{Event, Operated, IsWellScoped}
-use Rattle.cc_device.specs.Views.{event_of, end_of}
+use Rattle.cc_device.specs.DeviceViews.{event_of, end_of}
 use Rattle.cc_machine.specs.declared.runs.RunReport.{RunReport}
 use Rattle.cc_machine.specs.Standing.{StandsFor, with_devices}
-use Rattle.cc_meta_runs.specs.Answers.{shown}
-use Rattle.cc_meta_runs.specs.Machine.{Configuration, Final, step}
-use Rattle.cc_meta_runs.specs.Reach.{SetReaches, captured_set}
-use Rattle.cc_meta_runs.specs.RunLaws.{StillGoesOn}
-use Rattle.cc_meta_runs.specs.Runs.{Ends, run}
-use Rattle.cc_meta_runs.specs.Soundness.{IsSound}
-use Rattle.cc_meta_runs.specs.SafeRuns.{scopes_of, IsAmong}
+use Rattle.cc_runs.specs.Answers.{shown}
+use Rattle.cc_runs.specs.Machine.{Configuration, Final, step}
+use Rattle.cc_runs.specs.Reach.{SetReaches, captured_set}
+use Rattle.cc_runs.specs.RunLaws.{StillGoesOn}
+use Rattle.cc_runs.specs.Runs.{Ends, run}
+use Rattle.cc_runs.specs.Soundness.{IsSound}
+use Rattle.cc_runs.specs.SafeRuns.{scopes_of, IsAmong}
 
 -- the end of what takes no further step: with what is shown at a final configuration, and out of fuel at any other
 abbrev pub HasEnd : Configuration → End → Type 0

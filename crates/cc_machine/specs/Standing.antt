@@ -4,11 +4,11 @@ use Rattle.std.specs.Prelude.{◌≡◌, ℕ, Option, slice_get}
 use Rattle.std.specs.Option.{option_map}
 use Rattle.cc_device.specs.Devices.{base_of_device, Devices}
 use Rattle.cc_device.specs.Events.{Event}
-use Rattle.cc_meta_runs.specs.Alike.{erased_configuration}
-use Rattle.cc_meta_runs.specs.Machine.{Configuration}
-use Rattle.cc_meta_runs.specs.Runs.{State, Moves, move}
-use Rattle.cc_meta_runs.specs.Soundness.{IsSound}
-use Rattle.cc_meta_runs.specs.SoundRuns.{IsKeptSound}
+use Rattle.cc_runs.specs.Alike.{erased_configuration}
+use Rattle.cc_runs.specs.Machine.{Configuration}
+use Rattle.cc_runs.specs.Runs.{State, Moves, move}
+use Rattle.cc_runs.specs.Soundness.{IsSound}
+use Rattle.cc_runs.specs.SoundRuns.{IsKeptSound}
 
 -- the configuration is one of those
 abbrev pub StandsFor : Configuration → Configuration → Type 0

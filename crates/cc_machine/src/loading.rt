@@ -1,11 +1,10 @@
 //! The cells of a program.
 ghost use Rattle.std.specs.Prelude.{◌≡◌, ◌+◌, ◌<◌, ◌++◌, map, length, OnOk};
-ghost use Rattle.cc_meta_runs.specs.Links.{device_cells};
+ghost use Rattle.cc_runs.specs.Links.{device_cells};
 ghost use Rattle.cc_machine.specs.Loading.{AddsDevices, AddsValues};
 
+use crate::{Cell, TypedValue};
 use cc_base::literal::Base;
-use cc_program::TypedValue;
-use cc_steps::Cell;
 use std::alloc::AllocError;
 
 /// Adds the cells of devices, each with its number. Fails only for want of memory.

@@ -1,12 +1,11 @@
 //! The machine.
 ghost use Rattle.cc_machine.specs.Standing.{StandsSoundly};
-ghost use Rattle.cc_steps.specs.Parts.{configuration_of, IsLinked, HasRoom};
+ghost use Rattle.cc_machine.specs.Parts.{configuration_of, IsLinked, HasRoom};
 
 use crate::loading::{add_devices, add_values};
+use crate::{Cell, Focus, Parts, Program, Small, Wanted};
 use cc_base::literal::Lit;
 use cc_device::{Devices, Event, Shown};
-use cc_program::Program;
-use cc_steps::{Cell, Focus, Parts, Small, Wanted};
 use std::alloc::{AllocError, Global};
 
 /// A machine that runs a program. Each variable is looked up in an environment, and no step copies a term.
@@ -25,19 +24,19 @@ pub struct Machine<'a> {
 impl<'a> Machine<'a> {
     ghost use Rattle.std.specs.Prelude.{◌≡◌, ◌≢◌, ◌<◌, ◌≤◌, ◌+◌, ◌↔◌, max, Some, None, IfOk, IsOk, IsTrue, OnErr, OnOk, option_map};
     ghost use Rattle.cc_base.specs.Literals.{literal_of};
-    ghost use Rattle.cc_device.specs.Views.{event_of, shown_of};
+    ghost use Rattle.cc_device.specs.DeviceViews.{event_of, shown_of};
     ghost use Rattle.cc_machine.specs.Answering.{AdvancesAlike, AnswersAlike, GoesOnWith};
     ghost use Rattle.cc_machine.specs.Machines.{count_cells, held_by, spare_of};
     ghost use Rattle.cc_machine.specs.Standing.{KeepsShapes, StandsFor, StepsAlike, with_devices};
-    ghost use Rattle.cc_meta_runs.specs.Alike.{erased_configuration};
-    ghost use Rattle.cc_meta_runs.specs.Answers.{shown};
-    ghost use Rattle.cc_meta_runs.specs.Machine as table;
-    ghost use Rattle.cc_meta_runs.specs.Machine.{Configuration};
-    ghost use Rattle.cc_meta_runs.specs.Runs.{Moves, move};
-    ghost use Rattle.cc_meta_runs.specs.SoundRuns.{HasShapesOfCells};
-    ghost use Rattle.cc_program.specs.Programs.{start_of};
-    ghost use Rattle.cc_steps.specs.Asking.{IsAnswerTo, asked_text, question_in, question_of};
-    ghost use Rattle.cc_steps.specs.Lines.{IsWriting};
+    ghost use Rattle.cc_runs.specs.Alike.{erased_configuration};
+    ghost use Rattle.cc_runs.specs.Answers.{shown};
+    ghost use Rattle.cc_runs.specs.Machine as table;
+    ghost use Rattle.cc_runs.specs.Machine.{Configuration};
+    ghost use Rattle.cc_runs.specs.Runs.{Moves, move};
+    ghost use Rattle.cc_runs.specs.SoundRuns.{HasShapesOfCells};
+    ghost use Rattle.cc_machine.specs.Programs.{start_of};
+    ghost use Rattle.cc_machine.specs.Asking.{IsAnswerTo, asked_text, question_in, question_of};
+    ghost use Rattle.cc_machine.specs.Lines.{IsWriting};
 
     /// The machine at the start of the program. Fails only for want of memory.
     pub fn load(alloc: Global, program: &'a Program) -> Result<Machine<'a>, AllocError>

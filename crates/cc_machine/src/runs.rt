@@ -1,12 +1,12 @@
 //! Runs of a machine.
 ghost use Rattle.std.specs.Prelude.{◌≢◌, ◌<◌, ◌≤◌, ◌+◌, IfOk};
 ghost use Rattle.std.specs.Bool.{MatchBool};
-ghost use Rattle.cc_device.specs.Views.{end_of};
+ghost use Rattle.cc_device.specs.DeviceViews.{end_of};
 ghost use Rattle.cc_machine.specs.Machines.{count_cells, held_by};
 ghost use Rattle.cc_machine.specs.Reports.{HasEnd, ReportsRuns, TellsFuel, OperatesWhatIsReached, IsWellScopedFrom, events_of};
 ghost use Rattle.cc_machine.specs.Standing.{KeepsShapes};
-ghost use Rattle.cc_meta_runs.specs.Machine as table;
-ghost use Rattle.cc_meta_runs.specs.SoundRuns.{HasShapesOfCells};
+ghost use Rattle.cc_runs.specs.Machine as table;
+ghost use Rattle.cc_runs.specs.SoundRuns.{HasShapesOfCells};
 
 use crate::machine::Machine;
 use cc_device::{Devices, End, Event};

@@ -3,9 +3,9 @@
 use Rattle.std.proofs.Common.{◌≡◌, ℕ, zero, Option, Some, None, refl, subst}
 use Rattle.cc_base.specs.declared.code.Code.{Code}
 use Rattle.cc_base.specs.declared.place.Place.{Place}
-use Rattle.cc_mnf.specs.Steps.{Outcome, Refused, Found, Step, goes_on, followed, gives, refuses, or_refused, new_hole, with_own_holes}
+use Rattle.cc_mnf.specs.Steps.{ElaborationOutcome, Refused, Found, Step, goes_on, followed, gives, refuses, or_refused, new_hole, with_own_holes}
 
-abbrev pub AreAlike : {A B : Type 0} → (A → B → Type 0) → Outcome A → Outcome B → Type 0
+abbrev pub AreAlike : {A B : Type 0} → (A → B → Type 0) → ElaborationOutcome A → ElaborationOutcome B → Type 0
 AreAlike R (Refused code at) (Refused other there) = code ≡ other
 AreAlike R (Refused code at) (Found w holes) = ⊥
 AreAlike R (Found v holes) (Refused other there) = ⊥
@@ -15,7 +15,7 @@ pub record Alike {A B : Type 0} (R : A → B → Type 0) (one : Step A) (other :
   pub alike : (holes : ℕ) → AreAlike R (one holes) (other holes)
 
 go_on_alike : {A B C D : Type 0} (R : A → B → Type 0) (S : C → D → Type 0) (next : A → Step C) (more : B → Step D)
-    (o : Outcome A) (p : Outcome B) → AreAlike R o p → ((v : A) (w : B) → R v w → Alike S (next v) (more w))
+    (o : ElaborationOutcome A) (p : ElaborationOutcome B) → AreAlike R o p → ((v : A) (w : B) → R v w → Alike S (next v) (more w))
     → AreAlike S (goes_on next o) (goes_on more p)
 go_on_alike R S next more (Refused code at) (Refused other there) h n = h
 go_on_alike R S next more (Refused code at) (Found w holes) h n = absurd h
@@ -51,7 +51,7 @@ pub new_holes_alike : Alike (λ v w. v ≡ w) new_hole new_hole
 unfolding new_hole
 new_holes_alike = record { alike = λ holes. (refl, refl) }
 
-own_holes_come_alike : {A B : Type 0} (R : A → B → Type 0) (holes : ℕ) (o : Outcome A) (p : Outcome B) → AreAlike R o p
+own_holes_come_alike : {A B : Type 0} (R : A → B → Type 0) (holes : ℕ) (o : ElaborationOutcome A) (p : ElaborationOutcome B) → AreAlike R o p
     → AreAlike R (goes_on (λ v inner. Found v holes) o) (goes_on (λ v inner. Found v holes) p)
 own_holes_come_alike R holes (Refused code at) (Refused other there) h = h
 own_holes_come_alike R holes (Refused code at) (Found w n) h = absurd h

@@ -17,7 +17,7 @@ use Rattle.cc_grammar.specs.Syntax.{ElementSyntax, SetSyntax, AbsentSet, Omitted
 use Rattle.cc_grammar.specs.Syntax.{ShapeSyntax, BaseShape, AnyShape, NamedShape, ExitShape, BoxShape, ParenthesizedShape, FunctionShape, TypeFunctionShape}
 use Rattle.cc_grammar.specs.Syntax.{ExprSyntax, NameExpr, LiteralExpr, ParenthesizedExpr, ValExpr, FunExpr, TypeFunExpr, IfExpr, BoundaryExpr, OperatorExpr, BoxExpr, UnboxExpr, CallExpr, TypeCallExpr, AskExpr, TellExpr, ExitExpr, RepeatExpr}
 use Rattle.cc_grammar.specs.Syntax.{ImportSyntax, DefSyntax, ModuleSyntax}
-use Rattle.cc_mnf.specs.Steps.{Outcome, Refused, Found, Step, gives, refuses}
+use Rattle.cc_mnf.specs.Steps.{ElaborationOutcome, Refused, Found, Step, gives, refuses}
 use Rattle.cc_mnf.specs.Scopes.{Name, Scope, TermBinder, TypeBinder, outermost, under, term_variable, type_variable}
 use Rattle.cc_mnf.specs.ElaboratedTypes.{named_element, with_elements, elaborated_elements, elaborated_set, parameter_set, noted_set, elaborated_shape, elaborated_type, parameter_type, elaborated_note, optional_note, optional_type, optional_elements}
 use Rattle.cc_mnf.specs.Operands.{PlacedTerm, leaf, NameAt, name_of, start, Operand, IsVariable, IsNamed, behind, operand_of, under_binder, variable_of, past, named, with_operand, with_operands}
@@ -461,7 +461,7 @@ module_alike devices text =
     (λ m n h. then_alike (definitions_alike m n h text.defs)
     (λ c d l. give_alike _ _ (λ i. record { imports = imports_once text.imports i; definitions = l i })))
 
-unplaced_same : (o p : Outcome CoreModule) → AreAlike (λ v w. unplaced_module v ≡ unplaced_module w) o p
+unplaced_same : (o p : ElaborationOutcome CoreModule) → AreAlike (λ v w. unplaced_module v ≡ unplaced_module w) o p
     → unplaced (elaboration_of o) ≡ unplaced (elaboration_of p)
 unplaced_same (Refused code at) (Refused other there) h = ap (λ c. IsRefused c here) h
 unplaced_same (Refused code at) (Found w holes) h = absurd h

@@ -3,17 +3,17 @@
 use Rattle.std.proofs.Common.{◌≡◌, ℕ, zero, ◌+◌, Option, Some, None, refl}
 use Rattle.cc_base.specs.declared.code.Code.{Code}
 use Rattle.cc_base.specs.declared.place.Place.{Place}
-use Rattle.cc_mnf.specs.Steps.{Outcome, Refused, Found, Step, goes_on, followed, gives, refuses, or_refused, new_hole, with_own_holes}
+use Rattle.cc_mnf.specs.Steps.{ElaborationOutcome, Refused, Found, Step, goes_on, followed, gives, refuses, or_refused, new_hole, with_own_holes}
 use Rattle.cc_mnf.proofs.StepFacts.{Finds, Always}
 
-abbrev pub Comes : {A : Type 0} → (A → ℕ → Type 0) → Outcome A → Type 0
+abbrev pub Comes : {A : Type 0} → (A → ℕ → Type 0) → ElaborationOutcome A → Type 0
 Comes P (Refused code at) = Unit {0}
 Comes P (Found value holes) = P value holes
 
 pub record Brings {A : Type 0} (P : A → ℕ → Type 0) (step : Step A) (before : ℕ) : Type 0 where
   pub comes : Comes P (step before)
 
-goes_on_comes : {A B : Type 0} (P : A → ℕ → Type 0) (Q : B → ℕ → Type 0) (next : A → Step B) (o : Outcome A)
+goes_on_comes : {A B : Type 0} (P : A → ℕ → Type 0) (Q : B → ℕ → Type 0) (next : A → Step B) (o : ElaborationOutcome A)
     → Comes P o → ((v : A) (middle : ℕ) → P v middle → Brings Q (next v) middle) → Comes Q (goes_on next o)
 goes_on_comes P Q next (Refused code at) h n = tt
 goes_on_comes P Q next (Found v middle) h n = (n v middle h).comes
@@ -45,7 +45,7 @@ pub new_hole_brings : {before : ℕ}
 unfolding new_hole
 new_hole_brings = record { comes = (refl, refl) }
 
-always_comes : {A : Type 0} (P : A → Type 0) (o : Outcome A) → Finds P o → Comes (λ v after. P v) o
+always_comes : {A : Type 0} (P : A → Type 0) (o : ElaborationOutcome A) → Finds P o → Comes (λ v after. P v) o
 always_comes P (Refused code at) h = tt
 always_comes P (Found v after) h = h
 
@@ -55,7 +55,7 @@ pub always_brings : {A : Type 0} {P : A → Type 0} {step : Step A} {before : �
 always_brings {P = P} {step = step} {before = before} h =
     record { comes = always_comes P (step before) (h.finds before) }
 
-both_come : {A : Type 0} (P Q : A → ℕ → Type 0) (o : Outcome A) → Comes P o → Comes Q o
+both_come : {A : Type 0} (P Q : A → ℕ → Type 0) (o : ElaborationOutcome A) → Comes P o → Comes Q o
     → Comes (λ v after. P v after × Q v after) o
 both_come P Q (Refused code at) h k = tt
 both_come P Q (Found v after) h k = (h, k)
@@ -65,7 +65,7 @@ pub both_brought : {A : Type 0} {P Q : A → ℕ → Type 0} {step : Step A} {be
 both_brought {P = P} {Q = Q} {step = step} {before = before} h k =
     record { comes = both_come P Q (step before) h.comes k.comes }
 
-weaker_comes : {A : Type 0} (P Q : A → ℕ → Type 0) (o : Outcome A)
+weaker_comes : {A : Type 0} (P Q : A → ℕ → Type 0) (o : ElaborationOutcome A)
     → ((v : A) (after : ℕ) → P v after → Q v after) → Comes P o → Comes Q o
 weaker_comes P Q (Refused code at) f h = tt
 weaker_comes P Q (Found v after) f h = f v after h
@@ -75,7 +75,7 @@ pub weaker_brings : {A : Type 0} {P Q : A → ℕ → Type 0} {step : Step A} {b
 weaker_brings {P = P} {Q = Q} {step = step} {before = before} f h =
     record { comes = weaker_comes P Q (step before) f h.comes }
 
-own_holes_come : {A : Type 0} (P : A → Type 0) (before : ℕ) (o : Outcome A) → Comes (λ v after. P v) o
+own_holes_come : {A : Type 0} (P : A → Type 0) (before : ℕ) (o : ElaborationOutcome A) → Comes (λ v after. P v) o
     → Comes (λ v after. P v) (goes_on (λ value holes'. Found value before) o)
 own_holes_come P before (Refused code at) h = tt
 own_holes_come P before (Found v after) h = h

@@ -11,7 +11,7 @@ use Rattle.cc_core.specs.Shapes.{Shape}
 use Rattle.cc_core.specs.WellFormed.{TermKind}
 use Rattle.cc_core.proofs.KindFacts.{IsKindedNote, IsKindedTerm, IsKindedNote-test, IsKindedTerm-test}
 use Rattle.cc_grammar.specs.Syntax.{ImportSyntax, DefSyntax, ModuleSyntax, ExprSyntax}
-use Rattle.cc_mnf.specs.Steps.{Outcome, Refused, Found, Step, gives, refuses}
+use Rattle.cc_mnf.specs.Steps.{ElaborationOutcome, Refused, Found, Step, gives, refuses}
 use Rattle.cc_mnf.specs.Scopes.{Name, outermost}
 use Rattle.cc_mnf.specs.ElaboratedTypes.{optional_note, optional_type}
 use Rattle.cc_mnf.specs.Elaboration.{elaborated}
@@ -63,7 +63,7 @@ heading_kept names with_own definition before =
     anything : {A : Type 0} (step : Step A) (before : ℕ) → Brings (λ v after. Unit {0}) step before
     anything step before = record { comes = nothing (step before) }
       where
-        nothing : {A : Type 0} (o : Outcome A) → Comes (λ v after. Unit {0}) o
+        nothing : {A : Type 0} (o : ElaborationOutcome A) → Comes (λ v after. Unit {0}) o
         nothing (Refused code at) = tt
         nothing (Found v after) = tt
 
@@ -102,7 +102,7 @@ module _ (Q : List Name → CoreDefinition → Type 0)
       (holds_where (names ++ first.name ∷ []) rest d after h.1)
 
 -- what an elaborated module has
-elaborated_has : (P : CoreModule → Type 0) (o : Outcome CoreModule) (found : CoreModule)
+elaborated_has : (P : CoreModule → Type 0) (o : ElaborationOutcome CoreModule) (found : CoreModule)
     → Comes (λ m after. P m) o → elaboration_of o ≡ IsElaborated found → P found
 elaborated_has P (Refused code at) found h e = cc
 elaborated_has P (Found m after) found h e = subst P (elaborated_parts m found e) h

@@ -2,13 +2,13 @@
 use Rattle.std.proofs.Common.{◌≡◌, ℕ, Option, Some, None, refl, sym, subst}
 use Rattle.cc_base.specs.declared.code.Code.{Code}
 use Rattle.cc_base.specs.declared.place.Place.{Place}
-use Rattle.cc_mnf.specs.Steps.{Outcome, Refused, Found, Step, goes_on, followed, gives, refuses, or_refused}
+use Rattle.cc_mnf.specs.Steps.{ElaborationOutcome, Refused, Found, Step, goes_on, followed, gives, refuses, or_refused}
 use Rattle.cc_mnf.proofs.BroughtFacts.{Comes, Brings}
 
 pub record Keeps {A : Type 0} (P : A → Type 0) (step : Step A) : Type 0 where
   pub keeps : (holes : ℕ) → Comes (λ v after. P v × (holes ≡ after)) (step holes)
 
-goes_on_keeps : {A B : Type 0} (P : A → Type 0) (Q : B → Type 0) (next : A → Step B) (holes : ℕ) (o : Outcome A)
+goes_on_keeps : {A B : Type 0} (P : A → Type 0) (Q : B → Type 0) (next : A → Step B) (holes : ℕ) (o : ElaborationOutcome A)
     → Comes (λ v after. P v × (holes ≡ after)) o → ((v : A) → P v → Keeps Q (next v))
     → Comes (λ v after. Q v × (holes ≡ after)) (goes_on next o)
 goes_on_keeps P Q next holes (Refused code at) h n = tt
@@ -22,7 +22,7 @@ unfolding followed
 then_keeps {P = P} {Q = Q} {step = step} {next = next} h n =
     record { keeps = λ holes. goes_on_keeps P Q next holes (step holes) (h.keeps holes) n }
 
-goes_on_from : {A B : Type 0} (P : A → Type 0) (Q : B → ℕ → Type 0) (next : A → Step B) (holes : ℕ) (o : Outcome A)
+goes_on_from : {A B : Type 0} (P : A → Type 0) (Q : B → ℕ → Type 0) (next : A → Step B) (holes : ℕ) (o : ElaborationOutcome A)
     → Comes (λ v after. P v × (holes ≡ after)) o → ((v : A) → P v → Brings Q (next v) holes)
     → Comes Q (goes_on next o)
 goes_on_from P Q next holes (Refused code at) h n = tt
@@ -49,7 +49,7 @@ pub or_refused_keeps : {A : Type 0} (code : Code) (at : Place) (o : Option A)
 or_refused_keeps code at (Some v) = gives_keeps v tt
 or_refused_keeps code at None = refuses_keeps code at
 
-kept_comes : {A : Type 0} (P : A → Type 0) (Q : A → ℕ → Type 0) (holes : ℕ) (o : Outcome A)
+kept_comes : {A : Type 0} (P : A → Type 0) (Q : A → ℕ → Type 0) (holes : ℕ) (o : ElaborationOutcome A)
     → ((v : A) → P v → Q v holes) → Comes (λ v after. P v × (holes ≡ after)) o → Comes Q o
 kept_comes P Q holes (Refused code at) f h = tt
 kept_comes P Q holes (Found v after) f h = subst (Q v) h.1 (f v h.0)

@@ -14,7 +14,7 @@ use Rattle.cc_mnf.specs.declared.stop.Stop.TheVariants as stops
 use Rattle.cc_mnf.specs.ElaboratedModules.{CoreDefinition, with_name, elaborated_definition, elaborated_definitions}
 use Rattle.cc_mnf.specs.Scopes.{Name}
 use Rattle.cc_mnf.specs.StepAnswers.{MeetsWithoutHoles}
-use Rattle.cc_mnf.specs.Steps.{Outcome, Refused, Found, Step, goes_on, followed, gives, refuses, with_own_holes}
+use Rattle.cc_mnf.specs.Steps.{ElaborationOutcome, Refused, Found, Step, goes_on, followed, gives, refuses, with_own_holes}
 use Rattle.cc_mnf.proofs.StepEquations.{followed_gives, followed_refuses}
 
 -- a name that is apart from all that stand behind it is apart from each
@@ -47,7 +47,7 @@ one_name_more names more name rest all distinct whole added =
 abbrev pub behind_done : List CoreDefinition → Step (List CoreDefinition) → Step (List CoreDefinition)
 behind_done done step = followed step (λ others. gives (done ++ others))
 
-none-done-at : (outcome : Outcome (List CoreDefinition)) → goes_on gives outcome ≡ outcome
+none-done-at : (outcome : ElaborationOutcome (List CoreDefinition)) → goes_on gives outcome ≡ outcome
 unfolding gives
 none-done-at (Refused code at) = refl
 none-done-at (Found value holes) = refl
@@ -62,7 +62,7 @@ pub all_done : (done : List CoreDefinition) (names : List Name)
     → behind_done done (elaborated_definitions names []) ≡ gives done
 all_done done names = followed_gives [] (λ others. gives (done ++ others)) ∙ ap gives (append-nil done)
 
-one-done-at : (done : List CoreDefinition) (one : CoreDefinition) (outcome : Outcome (List CoreDefinition))
+one-done-at : (done : List CoreDefinition) (one : CoreDefinition) (outcome : ElaborationOutcome (List CoreDefinition))
     → goes_on (λ others. gives (done ++ others)) (goes_on (λ others. gives (one ∷ others)) outcome)
     ≡ goes_on (λ others. gives ((done ++ one ∷ []) ++ others)) outcome
 unfolding gives

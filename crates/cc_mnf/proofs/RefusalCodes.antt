@@ -6,7 +6,7 @@ use Rattle.cc_base.specs.declared.code.Code.{Code}
 use Rattle.cc_base.specs.declared.code.Code.TheVariants.{E09, E10, E11, E12, E19}
 use Rattle.cc_base.specs.declared.place.Place.{Place}
 use Rattle.cc_grammar.specs.Syntax.{ImportSyntax, DefSyntax, ModuleSyntax}
-use Rattle.cc_mnf.specs.Steps.{Outcome, Refused, Found, Step, goes_on, followed, gives, refuses, with_own_holes}
+use Rattle.cc_mnf.specs.Steps.{ElaborationOutcome, Refused, Found, Step, goes_on, followed, gives, refuses, with_own_holes}
 use Rattle.cc_mnf.specs.Scopes.{Name}
 use Rattle.cc_mnf.specs.ElaboratedModules.{CoreModule, IsRefused, with_name, with_imports, elaborated_definitions, elaborated_module, elaboration_of, elaboration}
 use Rattle.cc_mnf.specs.ElaborationLaws as law
@@ -16,14 +16,14 @@ use Rattle.cc_mnf.proofs.BroughtFacts.{Comes}
 use Rattle.cc_mnf.proofs.ElaboratedDefinitions.{definition_kinded, with_name_brings}
 
 -- a refusal has one of the codes
-abbrev Answers : {A : Type 0} → Outcome A → Type 0
+abbrev Answers : {A : Type 0} → ElaborationOutcome A → Type 0
 Answers (Refused code at) = IsCodeOfElaboration code
 Answers (Found value holes) = Unit {0}
 
 record HasCodes {A : Type 0} (step : Step A) : Type 0 where
   answers : (holes : ℕ) → Answers (step holes)
 
-go_on_answers : {A B : Type 0} (P : A → ℕ → Type 0) (next : A → Step B) (o : Outcome A) → Answers o → Comes P o
+go_on_answers : {A B : Type 0} (P : A → ℕ → Type 0) (next : A → Step B) (o : ElaborationOutcome A) → Answers o → Comes P o
     → ((v : A) (holes : ℕ) → P v holes → HasCodes (next v)) → Answers (goes_on next o)
 go_on_answers P next (Refused code at) h c n = h
 go_on_answers P next (Found v holes) h c n = (n v holes c).answers holes
@@ -38,7 +38,7 @@ then_codes {step = step} {next = next} h n =
           (λ v after u. n v);
     }
   where
-    anything : {A : Type 0} (o : Outcome A) → Comes (λ v after. Unit {0}) o
+    anything : {A : Type 0} (o : ElaborationOutcome A) → Comes (λ v after. Unit {0}) o
     anything (Refused code at) = tt
     anything (Found v holes) = tt
 
@@ -53,11 +53,11 @@ part_code E12 h = tt
 part_code E19 h = tt
 part_code _ h = absurd h
 
-part_answers : {A : Type 0} (P : A → Type 0) (o : Outcome A) → Finds P o → Answers o
+part_answers : {A : Type 0} (P : A → Type 0) (o : ElaborationOutcome A) → Finds P o → Answers o
 part_answers P (Refused code at) h = part_code code h
 part_answers P (Found v holes) h = tt
 
-own_answers : {A : Type 0} (holes : ℕ) (o : Outcome A) → Answers o → Answers (goes_on (λ v inner. Found v holes) o)
+own_answers : {A : Type 0} (holes : ℕ) (o : ElaborationOutcome A) → Answers o → Answers (goes_on (λ v inner. Found v holes) o)
 own_answers holes (Refused code at) h = h
 own_answers holes (Found v after) h = tt
 
@@ -105,7 +105,7 @@ module_codes devices text =
     then_codes (imports_codes devices text.imports)
     (λ names. then_codes (definitions_codes names text.defs) (λ list. gives_codes _))
 
-code_of_refusal : (o : Outcome CoreModule) (code : Code) (at : Place) → elaboration_of o ≡ IsRefused code at → Answers o
+code_of_refusal : (o : ElaborationOutcome CoreModule) (code : Code) (at : Place) → elaboration_of o ≡ IsRefused code at → Answers o
     → IsCodeOfElaboration code
 code_of_refusal (Refused code at) other there e h = subst IsCodeOfElaboration (same code other at there e) h
   where

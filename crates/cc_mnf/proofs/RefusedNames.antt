@@ -6,7 +6,7 @@ use Rattle.cc_base.specs.declared.code.Code.{Code}
 use Rattle.cc_base.specs.declared.code.Code.TheVariants.{E09}
 use Rattle.cc_base.specs.declared.place.Place.{Place}
 use Rattle.cc_grammar.specs.Syntax.{ImportSyntax, DefSyntax, ModuleSyntax}
-use Rattle.cc_mnf.specs.Steps.{Outcome, Refused, Found, Step, goes_on, followed, gives, refuses, with_own_holes}
+use Rattle.cc_mnf.specs.Steps.{ElaborationOutcome, Refused, Found, Step, goes_on, followed, gives, refuses, with_own_holes}
 use Rattle.cc_mnf.specs.Scopes.{Name}
 use Rattle.cc_mnf.specs.ElaboratedModules.{CoreDefinition, CoreModule, IsElaborated, IsRefused, with_imports}
 use Rattle.cc_mnf.specs.ElaboratedModules.{elaborated_definition, elaborated_definitions, elaboration_of, elaboration}
@@ -89,14 +89,14 @@ joined_imports names (first ∷ rest) after holes =
 abbrev then_more : List Name → List DefSyntax → List CoreDefinition → Step (List CoreDefinition)
 then_more names after list = followed (elaborated_definitions names after) (λ others. gives (list ++ others))
 
-more_behind : (one : CoreDefinition) (list : List CoreDefinition) (o : Outcome (List CoreDefinition))
+more_behind : (one : CoreDefinition) (list : List CoreDefinition) (o : ElaborationOutcome (List CoreDefinition))
     → goes_on (λ others. gives (one ∷ others)) (goes_on (λ others. gives (list ++ others)) o)
     ≡ goes_on (λ others. gives ((one ∷ list) ++ others)) o
 unfolding gives
 more_behind one list (Refused code at) = refl
 more_behind one list (Found others holes) = refl
 
-others_behind : (names : List Name) (after : List DefSyntax) (one : CoreDefinition) (o : Outcome (List CoreDefinition))
+others_behind : (names : List Name) (after : List DefSyntax) (one : CoreDefinition) (o : ElaborationOutcome (List CoreDefinition))
     → goes_on (λ others. gives (one ∷ others)) (goes_on (then_more names after) o)
     ≡ goes_on (then_more names after) (goes_on (λ others. gives (one ∷ others)) o)
 unfolding gives followed
@@ -106,7 +106,7 @@ others_behind names after one (Found list holes) = more_behind one list (elabora
 one_behind : (names inner : List Name) (rest after : List DefSyntax)
     → ((holes : ℕ) → elaborated_definitions inner (rest ++ after) holes
     ≡ goes_on (then_more names after) (elaborated_definitions inner rest holes))
-    → (o : Outcome CoreDefinition)
+    → (o : ElaborationOutcome CoreDefinition)
     → goes_on (then_others inner (rest ++ after)) o ≡ goes_on (then_more names after)
     (goes_on (then_others inner rest) o)
 unfolding followed
@@ -129,7 +129,7 @@ definitions_chosen names all first rest after holes false e h =
     ∙ one_behind all (names ++ first.name ∷ []) rest after h (own_definition names first holes)
     ∙ sym (ap (goes_on (then_more all after)) (next_definition names first rest holes e))
 
-nothing_before : (o : Outcome (List CoreDefinition)) → o ≡ goes_on (λ others. gives others) o
+nothing_before : (o : ElaborationOutcome (List CoreDefinition)) → o ≡ goes_on (λ others. gives others) o
 unfolding gives
 nothing_before (Refused code at) = refl
 nothing_before (Found list holes) = refl
@@ -162,16 +162,16 @@ module_parts devices imports definitions = refl
 
 -- refusals
 refused_parts : (code other : Code) (at there : Place) → IsRefused code at ≡ IsRefused other there
-    → ◌≡◌ {A = Outcome CoreModule} (Refused code at) (Refused other there)
+    → ◌≡◌ {A = ElaborationOutcome CoreModule} (Refused code at) (Refused other there)
 refused_parts code other at there e = cc
 
-refused_outcome : (o : Outcome CoreModule) (code : Code) (at : Place) → elaboration_of o ≡ IsRefused code at
+refused_outcome : (o : ElaborationOutcome CoreModule) (code : Code) (at : Place) → elaboration_of o ≡ IsRefused code at
     → o ≡ Refused code at
 refused_outcome (Refused code at) other there e = refused_parts code other at there e
 refused_outcome (Found m holes) other there e = cc
 
 -- imports that are refused alone
-imports_alone_refused : (imports : List ImportSyntax) (o : Outcome (List Name)) (code : Code) (at : Place)
+imports_alone_refused : (imports : List ImportSyntax) (o : ElaborationOutcome (List Name)) (code : Code) (at : Place)
     → goes_on (from_names imports []) o ≡ Refused code at → o ≡ Refused code at
 unfolding followed gives
 imports_alone_refused imports (Refused code at) other there e = cc
@@ -190,13 +190,13 @@ imports_stay devices imports more others code at e =
     ∙ ap (λ o. elaboration_of (goes_on (from_names (imports ++ more) others) o))
     (joined_imports devices imports more zero ∙ ap (goes_on (λ names. with_imports names more)) alone)
 
-finished_refused : (imports : List ImportSyntax) (o : Outcome (List CoreDefinition)) (code : Code) (at : Place)
+finished_refused : (imports : List ImportSyntax) (o : ElaborationOutcome (List CoreDefinition)) (code : Code) (at : Place)
     → goes_on (finished imports) o ≡ Refused code at → o ≡ Refused code at
 unfolding gives
 finished_refused imports (Refused code at) other there e = cc
 finished_refused imports (Found list holes) other there e = cc
 
-definitions_after : (imports : List ImportSyntax) (definitions others : List DefSyntax) (o : Outcome (List Name))
+definitions_after : (imports : List ImportSyntax) (definitions others : List DefSyntax) (o : ElaborationOutcome (List Name))
     (code : Code)
     (at : Place) → goes_on (from_names imports definitions) o ≡ Refused code at
     → goes_on (from_names imports (definitions ++ others)) o ≡ Refused code at
@@ -234,7 +234,7 @@ record TakenImport (names : List Name) (imports : List ImportSyntax) (at : Place
   there : at ≡ one.name_at
 
 refused_at : {A : Type 0} (code other : Code) (at there : Place)
-    → ◌≡◌ {A = Outcome A} (Refused code at) (Refused other there) → (code ≡ other) × (at ≡ there)
+    → ◌≡◌ {A = ElaborationOutcome A} (Refused code at) (Refused other there) → (code ≡ other) × (at ≡ there)
 refused_at code other at there e = (cc, cc)
 
 import_chosen : (names : List Name) (first : ImportSyntax) (rest : List ImportSyntax) (holes : ℕ) (code : Code)
@@ -286,13 +286,13 @@ record TakenDefinition (names : List Name) (definitions : List DefSyntax) (holes
   taken : list_any (bytes_eq one.name) (names ++ defined_names before) ≡ true
   there : at ≡ one.name_at
 
-cons_refused : (one : CoreDefinition) (o : Outcome (List CoreDefinition)) (code : Code) (at : Place)
+cons_refused : (one : CoreDefinition) (o : ElaborationOutcome (List CoreDefinition)) (code : Code) (at : Place)
     → goes_on (λ others. gives (one ∷ others)) o ≡ Refused code at → o ≡ Refused code at
 unfolding gives
 cons_refused one (Refused code at) other there e = cc
 cons_refused one (Found list holes) other there e = cc
 
-own_finds : (P : CoreDefinition → Type 0) (holes : ℕ) (o : Outcome CoreDefinition) → Finds P o
+own_finds : (P : CoreDefinition → Type 0) (holes : ℕ) (o : ElaborationOutcome CoreDefinition) → Finds P o
     → Finds P (goes_on (λ value inner. Found value holes) o)
 own_finds P holes (Refused code at) h = h
 own_finds P holes (Found d after) h = h
@@ -308,7 +308,7 @@ own_chosen : (names : List Name) (first : DefSyntax) (rest : List DefSyntax) (ho
     → list_any (bytes_eq first.name) names ≡ false
     → ((n : ℕ) → elaborated_definitions (names ++ first.name ∷ []) rest n ≡ Refused E09 at
     → TakenDefinition (names ++ first.name ∷ []) rest n at)
-    → (o : Outcome CoreDefinition) → own_definition names first holes ≡ o → Finds (IsWellFormedAfter names) o
+    → (o : ElaborationOutcome CoreDefinition) → own_definition names first holes ≡ o → Finds (IsWellFormedAfter names) o
     → goes_on (then_others (names ++ first.name ∷ []) rest) o ≡ Refused E09 at
     → TakenDefinition names (first ∷ rest) holes at
 unfolding followed gives
@@ -384,13 +384,13 @@ definitions_can devices imports before names holes list last e h = (
       ∙ ap (λ o. elaboration_of (goes_on (finished imports) o)) h,
 )
 
-imports_named : (devices : List Name) (imports : List ImportSyntax) (o : Outcome (List Name))
+imports_named : (devices : List Name) (imports : List ImportSyntax) (o : ElaborationOutcome (List Name))
     → with_imports devices imports zero ≡ o → Comes (λ more after. more ≡ devices ++ import_names imports) o
 imports_named devices imports o e =
     subst (Comes (λ more after. more ≡ devices ++ import_names imports)) e
     (with_imports_bring devices imports zero).comes
 
-second_chosen : (devices : List Name) (text : ModuleSyntax) (at : Place) (o : Outcome (List Name))
+second_chosen : (devices : List Name) (text : ModuleSyntax) (at : Place) (o : ElaborationOutcome (List Name))
     → with_imports devices text.imports zero ≡ o → Comes (λ more after. more ≡ devices ++ import_names text.imports) o
     → goes_on (from_names text.imports text.defs) o ≡ Refused E09 at
     → SecondImport devices text at ⊎ SecondDefinition devices text at
@@ -433,7 +433,7 @@ second_found devices text at e =
     (sym (module_parts devices text.imports text.defs) ∙ e))
 
 -- and the other way round
-imports_were_found : (before : List ImportSyntax) (o : Outcome (List Name)) (part : CoreModule)
+imports_were_found : (before : List ImportSyntax) (o : ElaborationOutcome (List Name)) (part : CoreModule)
     → elaboration_of (goes_on (from_names before []) o) ≡ IsElaborated part
     → (names : List Name) × (holes : ℕ) × (o ≡ Found names holes)
 imports_were_found before (Refused code at) part e = cc
@@ -457,7 +457,7 @@ second_import_refused devices text at s =
     ∙ taken_import found.0 s.one s.after found.1 taken)
     ∙ ap (λ place. IsRefused E09 place) (sym s.there)
 
-record Parts (imports : List ImportSyntax) (before : List DefSyntax) (o : Outcome (List Name)) : Type 0 where
+record Parts (imports : List ImportSyntax) (before : List DefSyntax) (o : ElaborationOutcome (List Name)) : Type 0 where
   names : List Name
   holes : ℕ
   list : List CoreDefinition
@@ -465,13 +465,13 @@ record Parts (imports : List ImportSyntax) (before : List DefSyntax) (o : Outcom
   named : o ≡ Found names holes
   found : elaborated_definitions names before holes ≡ Found list last
 
-list_was_found : (imports : List ImportSyntax) (o : Outcome (List CoreDefinition)) (part : CoreModule)
+list_was_found : (imports : List ImportSyntax) (o : ElaborationOutcome (List CoreDefinition)) (part : CoreModule)
     → elaboration_of (goes_on (finished imports) o) ≡ IsElaborated part
     → (list : List CoreDefinition) × (last : ℕ) × (o ≡ Found list last)
 list_was_found imports (Refused code at) part e = cc
 list_was_found imports (Found list last) part e = (list, last, refl)
 
-parts_were_found : (imports : List ImportSyntax) (before : List DefSyntax) (o : Outcome (List Name)) (part : CoreModule)
+parts_were_found : (imports : List ImportSyntax) (before : List DefSyntax) (o : ElaborationOutcome (List Name)) (part : CoreModule)
     → elaboration_of (goes_on (from_names imports before) o) ≡ IsElaborated part → Parts imports before o
 unfolding followed
 parts_were_found imports before (Refused code at) part e = cc
@@ -508,13 +508,13 @@ second_names_are_refused devices text at = (
 )
 
 -- the beginning of what is elaborated
-found_list : {A : Type 0} (v w : A) (m n : ℕ) → ◌≡◌ {A = Outcome A} (Found v m) (Found w n) → v ≡ w
+found_list : {A : Type 0} (v w : A) (m n : ℕ) → ◌≡◌ {A = ElaborationOutcome A} (Found v m) (Found w n) → v ≡ w
 found_list v w m n e = cc
 
 elaborated_whole : (v w : CoreModule) → IsElaborated v ≡ IsElaborated w → v ≡ w
 elaborated_whole v w e = cc
 
-whole_list : (first : List CoreDefinition) (o : Outcome (List CoreDefinition)) (list : List CoreDefinition) (last : ℕ)
+whole_list : (first : List CoreDefinition) (o : ElaborationOutcome (List CoreDefinition)) (list : List CoreDefinition) (last : ℕ)
     → goes_on (λ others. gives (first ++ others)) o ≡ Found list last
     → (rest : List CoreDefinition) × (list ≡ first ++ rest)
 unfolding gives
@@ -529,7 +529,7 @@ record Beginning (names : List Name) (before : List DefSyntax) (holes : ℕ) (li
   joined : list ≡ first ++ rest
 
 beginning_found : (names all : List Name) (before after : List DefSyntax) (holes : ℕ) (list : List CoreDefinition)
-    (last : ℕ) (o : Outcome (List CoreDefinition)) → elaborated_definitions names before holes ≡ o
+    (last : ℕ) (o : ElaborationOutcome (List CoreDefinition)) → elaborated_definitions names before holes ≡ o
     → goes_on (then_more all after) o ≡ Found list last → Beginning names before holes list
 unfolding followed
 beginning_found names all before after holes list last (Refused code at) e h = cc

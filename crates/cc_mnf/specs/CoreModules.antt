@@ -2,7 +2,7 @@
 use Rattle.std.specs.Prelude.{◌≡◌, List, map, Result, Ok, Err, Vec}
 use Rattle.std.specs.declared.alloc.Global.{Global}
 use Rattle.cc_core.specs.declared.terms.CoreDef.{CoreDef}
-use Rattle.cc_core.specs.Views.{note_of, term_of}
+use Rattle.cc_core.specs.TermViews.{note_of, term_of}
 use Rattle.cc_core.specs.Places.{places_of}
 use Rattle.cc_parse.specs.Trees.{imports_syntax}
 use Rattle.cc_mnf.specs.declared.elaborate.CoreModule.{CoreModule as DeclaredModule}
@@ -22,15 +22,15 @@ definition_of it = record {
 }
 
 -- the definitions, in order
-abbrev pub definitions_of : Vec CoreDef Global → List CoreDefinition
-definitions_of definitions = map definition_of definitions.items
+abbrev pub core_definitions : Vec CoreDef Global → List CoreDefinition
+core_definitions definitions = map definition_of definitions.items
 
 -- the module
-abbrev pub module_of : DeclaredModule → CoreModule
-module_of it = record { imports = imports_syntax it.imports; definitions = definitions_of it.defs }
+abbrev pub core_module : DeclaredModule → CoreModule
+core_module it = record { imports = imports_syntax it.imports; definitions = core_definitions it.defs }
 
 -- The answer is the elaboration, unless there is no memory.
 abbrev pub Elaborates : Result DeclaredModule ElaborateError → Elaboration → Type 0
-Elaborates (Ok it) elaboration = elaboration ≡ IsElaborated (module_of it)
+Elaborates (Ok it) elaboration = elaboration ≡ IsElaborated (core_module it)
 Elaborates (Err (errors.Refused diag)) elaboration = elaboration ≡ IsRefused diag.code diag.place
 Elaborates (Err errors.NoMemory) elaboration = Unit {0}

@@ -16,7 +16,7 @@ use Rattle.cc_mnf.specs.ElaboratedTypes.{optional_note, optional_type}
 use Rattle.cc_mnf.specs.Elaboration.{elaborated}
 use Rattle.cc_mnf.specs.Operands.{PlacedTerm, start}
 use Rattle.cc_mnf.specs.Scopes.{Name, outermost}
-use Rattle.cc_mnf.specs.Steps.{Outcome, Refused, Found, Step, ◌>>=◌, ◌>>◌, gives, refuses, with_own_holes}
+use Rattle.cc_mnf.specs.Steps.{ElaborationOutcome, Refused, Found, Step, ◌>>=◌, ◌>>◌, gives, refuses, with_own_holes}
 
 -- An elaborated definition: its name with its place, the type written for it, whether its name is visible in its own
 -- right side, and the right side with its places.
@@ -99,7 +99,7 @@ elaborated_module devices text = do
   gives (record { imports = text.imports; definitions = definitions })
 
 -- what an outcome says of a module
-abbrev pub elaboration_of : Outcome CoreModule → Elaboration
+abbrev pub elaboration_of : ElaborationOutcome CoreModule → Elaboration
 elaboration_of (Refused code at) = IsRefused code at
 elaboration_of (Found elaboration holes) = IsElaborated elaboration
 

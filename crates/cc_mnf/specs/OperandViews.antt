@@ -2,7 +2,7 @@
 use Rattle.cc_base.specs.declared.place.Place.{Place}
 use Rattle.cc_core.specs.declared.terms.Node.{Node}
 use Rattle.cc_core.specs.Places.{places_of}
-use Rattle.cc_core.specs.Views.{term_of}
+use Rattle.cc_core.specs.TermViews.{term_of}
 use Rattle.cc_mnf.specs.declared.operands.NameAt.{NameAt as DeclaredNameAt}
 use Rattle.cc_mnf.specs.declared.operands.Operand.{Operand as DeclaredOperand}
 use Rattle.cc_mnf.specs.declared.operands.Operand.TheVariants as operands

@@ -2,10 +2,10 @@
 use Rattle.std.specs.Prelude.{◌≡◌, ℕ, Result, Ok, Err}
 use Rattle.cc_mnf.specs.declared.stop.Stop.{Stop}
 use Rattle.cc_mnf.specs.declared.stop.Stop.TheVariants as stops
-use Rattle.cc_mnf.specs.Steps.{Outcome, Refused, Found, Step, gives, refuses}
+use Rattle.cc_mnf.specs.Steps.{ElaborationOutcome, Refused, Found, Step, gives, refuses}
 
 -- The answer is the outcome: a value that is seen so, with the number of holes after it, or the same refusal.
-abbrev pub Meets : {A B : Type 0} → (A → B) → ℕ → Result A Stop → Outcome B → Type 0
+abbrev pub Meets : {A B : Type 0} → (A → B) → ℕ → Result A Stop → ElaborationOutcome B → Type 0
 Meets view holes (Ok value) outcome = outcome ≡ Found (view value) holes
 Meets view holes (Err (stops.Refused code at)) outcome = outcome ≡ Refused code at
 Meets view holes (Err stops.NoMemory) outcome = Unit {0}

@@ -4,16 +4,16 @@ use Rattle.cc_base.specs.declared.code.Code.{Code}
 use Rattle.cc_base.specs.declared.place.Place.{Place}
 
 -- what a step comes to: a refusal with its code and its place, or a value and the number of holes after it
-pub data Outcome (A : Type 0) : Type 0 where
-  Refused : (code : Code) (at : Place) → Outcome A
-  Found : (value : A) (holes : ℕ) → Outcome A
+pub data ElaborationOutcome (A : Type 0) : Type 0 where
+  Refused : (code : Code) (at : Place) → ElaborationOutcome A
+  Found : (value : A) (holes : ℕ) → ElaborationOutcome A
 
 -- a step, which is told the number of holes before it
 abbrev pub Step : Type 0 → Type 0
-Step A = ℕ → Outcome A
+Step A = ℕ → ElaborationOutcome A
 
 -- what comes after an outcome: nothing after a refusal
-abbrev pub goes_on : {A B : Type 0} → (A → Step B) → Outcome A → Outcome B
+abbrev pub goes_on : {A B : Type 0} → (A → Step B) → ElaborationOutcome A → ElaborationOutcome B
 goes_on next (Refused code at) = Refused code at
 goes_on next (Found value holes) = next value holes
 

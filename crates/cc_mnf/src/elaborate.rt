@@ -4,8 +4,8 @@
 ghost use Rattle.std.specs.Prelude.{◌≡◌, false, [], ◌∷◌, ◌++◌, IfOk, OnOk, map, if◌then◌else◌};
 ghost use Rattle.std.specs.List.{IsDistinct, list_any};
 ghost use Rattle.std.specs.Str.{bytes_eq};
-ghost use Rattle.cc_core.specs.Views.{note_of, term_of};
-ghost use Rattle.cc_mnf.specs.CoreModules.{definition_of, definitions_of, module_of, Elaborates};
+ghost use Rattle.cc_core.specs.TermViews.{note_of, term_of};
+ghost use Rattle.cc_mnf.specs.CoreModules.{definition_of, core_definitions, core_module, Elaborates};
 ghost use Rattle.cc_mnf.specs.ElaboratedModules.{device_names};
 ghost use Rattle.cc_mnf.specs.ElaboratedModules as plain;
 ghost use Rattle.cc_mnf.specs.Elaboration as expressions;
@@ -143,7 +143,7 @@ fn definition(alloc: Global, names: &mut Names, def: &Def) -> Result<CoreDef, St
 
 /// The definitions behind the names, which theirs join.
 fn definitions(alloc: Global, names: &mut Names, defs: &[Def]) -> Result<Vec<CoreDef>, Stop>
-    ensures { MeetsWithoutHoles definitions_of result (plain.elaborated_definitions names.old (map def_syntax defs.now)) }
+    ensures { MeetsWithoutHoles core_definitions result (plain.elaborated_definitions names.old (map def_syntax defs.now)) }
 {
     let mut definitions = Vec::with_capacity(alloc, defs.len())?;
     for def in defs {
@@ -183,7 +183,7 @@ fn elaborated_module(
     devices: &[DeviceDecl],
 ) -> Result<CoreModule, Stop>
     requires { IsDistinct bytes_eq (device_names devices.now) }
-    ensures { MeetsWithoutHoles module_of result (plain.elaborated_module (device_names devices.now) (module_syntax «module».now)) }
+    ensures { MeetsWithoutHoles core_module result (plain.elaborated_module (device_names devices.now) (module_syntax «module».now)) }
 {
     let mut names = names_of(alloc, devices)?;
     add_imports(&mut names, &module.imports)?;

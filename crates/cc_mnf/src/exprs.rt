@@ -4,7 +4,7 @@ ghost use Rattle.std.specs.Prelude.{◌≡◌, IfOk};
 ghost use Rattle.cc_base.specs.declared.place.Place.{Place};
 ghost use Rattle.cc_core.specs.Places.{Between, spots_at};
 ghost use Rattle.cc_core.specs.Terms as terms;
-ghost use Rattle.cc_core.specs.Views.{note_of, type_of};
+ghost use Rattle.cc_core.specs.TermViews.{note_of, type_of};
 ghost use Rattle.cc_mnf.specs.Elaboration as plain;
 ghost use Rattle.cc_mnf.specs.Operands as operands;
 ghost use Rattle.cc_mnf.specs.OperandViews.{operand_seen, placed_of};

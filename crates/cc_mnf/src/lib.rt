@@ -2,9 +2,9 @@
 #![tactic(auto)]
 
 pub mod elaborate;
+pub mod elaboration_laws;
 pub mod error;
 mod exprs;
-pub mod laws;
 mod names;
 mod operands;
 mod scope;

@@ -2,7 +2,7 @@
 
 ghost use Rattle.std.specs.Prelude.{◌≡◌, IfOk, option_map};
 ghost use Rattle.cc_core.specs.Places.{spots_at, places_around};
-ghost use Rattle.cc_core.specs.Views.{form_of};
+ghost use Rattle.cc_core.specs.TermViews.{form_of};
 ghost use Rattle.cc_mnf.specs.Elaboration as elaboration;
 ghost use Rattle.cc_mnf.specs.Operands as plain;
 ghost use Rattle.cc_mnf.specs.OperandViews.{name_seen, operand_seen, placed_of};

@@ -4,7 +4,7 @@
 ghost use Rattle.std.specs.Prelude.{◌≡◌, ℕ, ◌+◌, IfOk, OnOk, option_map};
 ghost use Rattle.cc_capture.specs.declared.var.Elem.TheVariants.{Hole};
 ghost use Rattle.cc_core.specs.Substitution.{single};
-ghost use Rattle.cc_core.specs.Views.{shape_of, type_of, note_of};
+ghost use Rattle.cc_core.specs.TermViews.{shape_of, type_of, note_of};
 ghost use Rattle.cc_mnf.specs.ElaboratedTypes as plain;
 ghost use Rattle.cc_mnf.specs.ScopeViews.{scope_of};
 ghost use Rattle.cc_mnf.specs.StepAnswers.{Meets, MeetsWithoutHoles};

@@ -6,7 +6,7 @@ use Rattle.cc_base.specs.declared.literal.Import.{Import}
 use Rattle.cc_core.specs.Contexts.{Context}
 use Rattle.cc_core.specs.Programs.{device_entry}
 use Rattle.cc_device.specs.Declarations.{declared_base, declared_bases}
-use Rattle.cc_meta_modules.specs.ModuleVerdicts.{Refusal, declared_context, code_of, missing_or, first_missing}
+use Rattle.cc_verdicts.specs.ModuleVerdicts.{Refusal, declared_context, code_of, missing_or, first_missing}
 use Rattle.cc_module.specs.declared.finding.Finding.{Finding as DeclaredFinding}
 use Rattle.cc_module.specs.Findings.{finding_of}
 use Rattle.cc_parse.specs.Trees.{import_syntax}

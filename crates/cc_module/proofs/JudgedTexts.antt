@@ -8,17 +8,17 @@ use Rattle.cc_check.specs.declared.error.CheckError.TheVariants as errors
 use Rattle.cc_check.specs.Definitions.{accepted_of}
 use Rattle.cc_core.specs.declared.terms.CoreDef.{CoreDef}
 use Rattle.cc_core.specs.Contexts.{Context, entry_of}
-use Rattle.cc_core.specs.Views.{type_of}
-use Rattle.cc_sets.specs.Verdicts.{Accepted}
-use Rattle.cc_sets.specs.Verdicts as definitions
+use Rattle.cc_core.specs.TermViews.{type_of}
+use Rattle.cc_checking.specs.Verdicts.{Accepted}
+use Rattle.cc_checking.specs.Verdicts as definitions
 use Rattle.cc_mnf.specs.CoreModules.{definition_of}
 use Rattle.cc_mnf.specs.ElaboratedModules.{CoreDefinition}
 use Rattle.cc_module.specs.declared.judgement.CheckedDef.{CheckedDef}
 use Rattle.cc_module.specs.Judgements.{checked_definition_of, JudgesOne, JudgesAll}
 use Rattle.cc_module.proofs.ContextLoops.{drop_next}
-use Rattle.cc_meta_modules.specs.ModuleVerdicts.{CheckedDefinition, ModuleVerdict, IsAccepted, IsRefused, to_be_checked, checked_as, after_definition, AreJudged, no_more, refused_first, accepted_first}
-use Rattle.cc_meta_modules.specs.ReadyDefinitions.{AreReady}
-use Rattle.cc_meta_modules.proofs.JudgedDefinitions.{ready_more}
+use Rattle.cc_verdicts.specs.ModuleVerdicts.{CheckedDefinition, ModuleVerdict, IsAccepted, IsRefused, to_be_checked, checked_as, after_definition, AreJudged, no_more, refused_first, accepted_first}
+use Rattle.cc_verdicts.specs.ReadyDefinitions.{AreReady}
+use Rattle.cc_verdicts.proofs.JudgedDefinitions.{ready_more}
 
 -- the verdict with accepted definitions before the others
 abbrev pub behind : List CheckedDefinition → ModuleVerdict → ModuleVerdict

@@ -9,19 +9,19 @@ use Rattle.cc_base.specs.declared.literal.Import.{Import}
 use Rattle.cc_core.specs.declared.terms.CoreDef.{CoreDef}
 use Rattle.cc_core.proofs.Lookups.{length_map}
 use Rattle.cc_grammar.specs.Syntax.{ModuleSyntax}
-use Rattle.cc_mnf.specs.CoreModules.{definition_of, module_of}
+use Rattle.cc_mnf.specs.CoreModules.{definition_of, core_module}
 use Rattle.cc_mnf.specs.declared.elaborate.CoreModule.{CoreModule as DeclaredModule}
 use Rattle.cc_mnf.specs.ElaboratedModules.{elaboration, device_names}
 use Rattle.cc_mnf.specs.ElaboratedModules as elaborated
 use Rattle.cc_parse.specs.declared.tree.Module.{Module}
 use Rattle.cc_parse.specs.Trees.{import_syntax, module_syntax}
-use Rattle.cc_meta_modules.specs.ModuleLaws.{AreFit, FitsDevices, NamesOfDevicesDiffer}
-use Rattle.cc_meta_modules.specs.ModuleVerdicts.{Finding, ModuleVerdict, IsAccepted, IsRefused, first_missing, declared_context, with_findings, AreJudged, HasModuleVerdict, is_no_module, import_is_missing, is_not_elaborated, is_judged}
-use Rattle.cc_meta_modules.specs.ReadyDefinitions.{AreReady}
-use Rattle.cc_meta_modules.specs.Readings.{IsTree, IsNoModule, HasReading, reading_of_text}
-use Rattle.cc_meta_modules.proofs.GlobalContexts.{module_ready}
-use Rattle.cc_meta_modules.proofs.ModuleVerdictLaws.{accepted_modules_are_sound}
-use Rattle.cc_meta_modules.proofs.ReadingLaws.{text_has_one_reading}
+use Rattle.cc_verdicts.specs.ModuleLaws.{AreFit, FitsDevices, NamesOfDevicesDiffer}
+use Rattle.cc_verdicts.specs.ModuleVerdicts.{Finding, ModuleVerdict, IsAccepted, IsRefused, first_missing, declared_context, with_findings, AreJudged, HasModuleVerdict, is_no_module, import_is_missing, is_not_elaborated, is_judged}
+use Rattle.cc_verdicts.specs.ReadyDefinitions.{AreReady}
+use Rattle.cc_verdicts.specs.Readings.{IsTree, IsNoModule, HasReading, reading_of_text}
+use Rattle.cc_verdicts.proofs.GlobalContexts.{module_ready}
+use Rattle.cc_verdicts.proofs.ModuleVerdictLaws.{accepted_modules_are_sound}
+use Rattle.cc_verdicts.proofs.ReadingLaws.{text_has_one_reading}
 use Rattle.cc_module.specs.declared.finding.Finding.{Finding as DeclaredFinding}
 use Rattle.cc_module.specs.declared.judgement.ModuleVerdict.{ModuleVerdict as DeclaredVerdict}
 use Rattle.cc_module.specs.declared.reading.TextReading.{TextReading as DeclaredReading}
@@ -35,18 +35,18 @@ pub core_ready : (devices : List DeviceDecl) (tree : Module) (findings : List De
     (defs : List CoreDef) → length findings ≡ length tree.imports.items
     → AllByRecursion (FitsDevices devices) (map finding_of findings)
     → first_missing (module_syntax tree).imports (map finding_of findings) ≡ None
-    → elaboration (device_names devices) (module_syntax tree) ≡ elaborated.IsElaborated (module_of core)
+    → elaboration (device_names devices) (module_syntax tree) ≡ elaborated.IsElaborated (core_module core)
     → defs ≡ core.defs.items
     → AreReady (with_findings (declared_context devices) (map finding_of findings)) (map definition_of defs)
 core_ready devices tree findings core defs each fit found e is =
     subst (λ l. AreReady (with_findings (declared_context devices) (map finding_of findings)) (map definition_of l)) (sym is)
-    (module_ready devices (module_syntax tree) (map finding_of findings) (module_of core)
+    (module_ready devices (module_syntax tree) (map finding_of findings) (core_module core)
     (length_map finding_of findings ∙ each ∙ sym (length_map import_syntax tree.imports.items)) fit found e)
 
 pub core_judged : (devices : List DeviceDecl) (tree : Module) (findings : List DeclaredFinding) (core : DeclaredModule)
     (defs : List CoreDef) (answer : Result DeclaredVerdict AllocError)
     → first_missing (module_syntax tree).imports (map finding_of findings) ≡ None
-    → elaboration (device_names devices) (module_syntax tree) ≡ elaborated.IsElaborated (module_of core)
+    → elaboration (device_names devices) (module_syntax tree) ≡ elaborated.IsElaborated (core_module core)
     → defs ≡ core.defs.items
     → IfOk answer (λ v. AreJudged (length devices) (with_findings (declared_context devices) (map finding_of findings)) (map definition_of defs) (module_verdict_of v))
     → IfOk answer (λ v. (text : List ℕ) → HasReading text (IsTree (module_syntax tree)) → HasModuleVerdict devices text (map finding_of findings) (module_verdict_of v))

@@ -5,8 +5,8 @@ use Rattle.std.proofs.lemmas.Option.{slice_get_read}
 use Rattle.std.specs.List.{slice_get}
 use Rattle.std.specs.Option.{option_map}
 use Rattle.std.specs.Str.{bytes_eq}
-use Rattle.cc_meta_modules.specs.ModuleVerdicts.{CheckedDefinition}
-use Rattle.cc_meta_modules.specs.PresentTexts.{definition_named}
+use Rattle.cc_verdicts.specs.ModuleVerdicts.{CheckedDefinition}
+use Rattle.cc_verdicts.specs.PresentTexts.{definition_named}
 use Rattle.cc_module.specs.DefinitionPlaces.{place_in, first_named, definition_at}
 use Rattle.cc_module.specs.Judgements.{checked_definition_of}
 use Rattle.cc_module.specs.declared.judgement.CheckedDef.{CheckedDef}

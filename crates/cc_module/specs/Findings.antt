@@ -1,7 +1,7 @@
 -- What the program finds for an import.
-use Rattle.cc_core.specs.Views.{type_of}
-use Rattle.cc_meta_modules.specs.ModuleVerdicts.{Finding, FoundDefinition, NoModule, InCycle, RefusedModule}
-use Rattle.cc_meta_modules.specs.ModuleVerdicts.{NoDefinition}
+use Rattle.cc_core.specs.TermViews.{type_of}
+use Rattle.cc_verdicts.specs.ModuleVerdicts.{Finding, FoundDefinition, NoModule, InCycle, RefusedModule}
+use Rattle.cc_verdicts.specs.ModuleVerdicts.{NoDefinition}
 use Rattle.cc_module.specs.declared.finding.Finding.{Finding as DeclaredFinding}
 use Rattle.cc_module.specs.declared.finding.Finding.TheVariants as findings
 

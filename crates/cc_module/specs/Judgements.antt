@@ -7,16 +7,16 @@ use Rattle.cc_check.specs.declared.error.CheckError.{CheckError}
 use Rattle.cc_check.specs.declared.error.CheckError.TheVariants as errors
 use Rattle.cc_check.specs.Definitions.{accepted_of}
 use Rattle.cc_core.specs.Contexts.{Context}
-use Rattle.cc_meta_modules.specs.ModuleLaws.{AreSound}
-use Rattle.cc_meta_modules.specs.ModuleVerdicts.{Finding, Refusal, CheckedDefinition, ModuleVerdict, IsAccepted}
-use Rattle.cc_meta_modules.specs.ModuleVerdicts.{IsRefused, AreJudged, to_be_checked, checked_as}
-use Rattle.cc_meta_modules.specs.PresentTexts.{definition_named}
+use Rattle.cc_verdicts.specs.ModuleLaws.{AreSound}
+use Rattle.cc_verdicts.specs.ModuleVerdicts.{Finding, Refusal, CheckedDefinition, ModuleVerdict, IsAccepted}
+use Rattle.cc_verdicts.specs.ModuleVerdicts.{IsRefused, AreJudged, to_be_checked, checked_as}
+use Rattle.cc_verdicts.specs.PresentTexts.{definition_named}
 use Rattle.cc_mnf.specs.ElaboratedModules.{CoreDefinition}
 use Rattle.cc_module.specs.declared.judgement.CheckedDef.{CheckedDef}
 use Rattle.cc_module.specs.declared.judgement.Judgement.{Judgement}
 use Rattle.cc_module.specs.declared.judgement.Judgement.TheVariants as judgements
 use Rattle.cc_module.specs.declared.judgement.ModuleVerdict.{ModuleVerdict as DeclaredVerdict}
-use Rattle.cc_sets.specs.Verdicts as definitions
+use Rattle.cc_checking.specs.Verdicts as definitions
 
 -- the refusal
 abbrev pub refusal_of : Diag → Refusal

@@ -1,5 +1,5 @@
 -- What the program reads a text as.
-use Rattle.cc_meta_modules.specs.Readings.{TextReading, IsTree, IsNoModule}
+use Rattle.cc_verdicts.specs.Readings.{TextReading, IsTree, IsNoModule}
 use Rattle.cc_module.specs.declared.reading.TextReading.{TextReading as DeclaredReading}
 use Rattle.cc_module.specs.declared.reading.TextReading.TheVariants as readings
 use Rattle.cc_parse.specs.Trees.{module_syntax}

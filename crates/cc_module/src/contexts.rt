@@ -3,9 +3,9 @@
 ghost use Rattle.std.specs.Prelude.{◌≡◌, ◌∷◌, map, IfOk};
 ghost use Rattle.cc_core.specs.Contexts.{entry_of};
 ghost use Rattle.cc_core.specs.Programs.{device_entry};
-ghost use Rattle.cc_core.specs.Views.{type_of, context_of};
+ghost use Rattle.cc_core.specs.TermViews.{type_of, context_of};
 ghost use Rattle.cc_device.specs.Declarations.{declared_base};
-ghost use Rattle.cc_meta_modules.specs.ModuleVerdicts as plain;
+ghost use Rattle.cc_verdicts.specs.ModuleVerdicts as plain;
 ghost use Rattle.cc_module.specs.Findings.{finding_of};
 
 use crate::finding::Finding;

@@ -1,7 +1,7 @@
 //! What is found for an import, before the module is judged.
 
 ghost use Rattle.std.specs.Prelude.{◌≡◌};
-ghost use Rattle.cc_meta_modules.specs.ModuleVerdicts as plain;
+ghost use Rattle.cc_verdicts.specs.ModuleVerdicts as plain;
 ghost use Rattle.cc_module.specs.Findings.{finding_of};
 
 use cc_base::code::Code;

@@ -1,7 +1,7 @@
 //! The imports of a text.
 
 ghost use Rattle.std.specs.Prelude.{◌≡◌, IfOk, option_map};
-ghost use Rattle.cc_meta_modules.specs.Readings as readings;
+ghost use Rattle.cc_verdicts.specs.Readings as readings;
 ghost use Rattle.cc_module.specs.TextReadings.{text_reading_of};
 ghost use Rattle.cc_parse.specs.Trees.{imports_syntax};
 

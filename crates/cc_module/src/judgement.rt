@@ -1,7 +1,7 @@
 //! Verdicts of modules.
 
 ghost use Rattle.std.specs.Prelude.{◌≡◌, map, option_map, IfOk, IfErr};
-ghost use Rattle.cc_meta_modules.specs.ModuleVerdicts.{IsAccepted, IsRefused};
+ghost use Rattle.cc_verdicts.specs.ModuleVerdicts.{IsAccepted, IsRefused};
 ghost use Rattle.cc_module.specs.Judgements.{checked_definition_of, module_verdict_of, FindsDefinition};
 
 use crate::definitions::Definitions;

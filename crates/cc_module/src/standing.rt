@@ -2,8 +2,8 @@
 
 ghost use Rattle.std.specs.Prelude.{◌≡◌, ◌++◌, ◌∷◌, [], map, IfOk, OnOk, if◌then◌else◌};
 ghost use Rattle.cc_core.specs.Contexts.{entry_of};
-ghost use Rattle.cc_core.specs.Views.{type_of, context_of};
-ghost use Rattle.cc_meta_modules.specs.StandingDefinitions as plain;
+ghost use Rattle.cc_core.specs.TermViews.{type_of, context_of};
+ghost use Rattle.cc_verdicts.specs.StandingDefinitions as plain;
 ghost use Rattle.cc_mnf.specs.ElaboratedModules.{import_names, device_names};
 ghost use Rattle.cc_module.specs.Findings.{finding_of};
 ghost use Rattle.cc_module.specs.Judgements.{checked_definition_of};

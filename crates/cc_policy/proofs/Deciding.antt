@@ -5,7 +5,7 @@ use Rattle.std.proofs.lemmas.Bool.{cases_Bool}
 use Rattle.std.proofs.lemmas.Slice.Eq.{bytes_eq-Decides}
 use Rattle.cc_policy.specs.declared.policy.Rule.{Rule}
 use Rattle.cc_policy.specs.declared.policy.Decision.{Decision}
-use Rattle.cc_policy.specs.Laws.{RulesDecide, RulesDecideOnce}
+use Rattle.cc_policy.specs.PolicyLaws.{RulesDecide, RulesDecideOnce}
 use Rattle.cc_policy.specs.Policies.{IsOf, Matches, Decides, by_rule, denial, is_of, matches, decision_from}
 
 both : (a b : Bool) → (a && b) ≡ true → (a ≡ true) × (b ≡ true)

@@ -1,3 +1,3 @@
 pub mod Policies
-pub mod Laws
-pub mod Examples
+pub mod PolicyLaws
+pub mod PolicyExamples

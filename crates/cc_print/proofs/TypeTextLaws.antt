@@ -17,7 +17,7 @@ use Rattle.cc_core.proofs.Conditions.{Gives, MeetsInType-along}
 use Rattle.cc_core.specs.Shapes.{Shape, BaseShape, AnyShape, TypeVariable, FunctionShape, TypeFunctionShape, BoxShape}
 use Rattle.cc_core.specs.Shapes.{ExitShape, CapturingType}
 use Rattle.cc_print.specs.TypeTexts.{numbered, elements_text, is_arrow, before_set, with_elements, shape_under, type_under}
-use Rattle.cc_print.specs.Laws.{IsBoundOrListed, IsFinished, finished, DifferentTypesHaveDifferentTexts}
+use Rattle.cc_print.specs.TypeTextLaws.{IsBoundOrListed, IsFinished, finished, DifferentTypesHaveDifferentTexts}
 use Rattle.cc_print.proofs.Words.{EndsWord, Begins, begins_append, clash, rest_same}
 use Rattle.cc_print.proofs.ElementTexts.{IsPlaced, IsPlacedElement, placed, ends_differ, variable_same, elements_same}
 use Rattle.cc_print.proofs.ShapeWords.{unlike, base_same, words_same, kind_same, front, arrow_begins}

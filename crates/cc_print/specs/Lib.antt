@@ -1,4 +1,4 @@
-pub mod Examples
-pub mod Laws
 pub mod TermTexts
+pub mod TypeTextExamples
+pub mod TypeTextLaws
 pub mod TypeTexts

@@ -2,7 +2,7 @@
 
 ghost use Rattle.std.specs.Prelude.{◌≡◌, ◌+◌, ◌++◌, OnOk, IfOk};
 ghost use Rattle.std.specs.String.{string_bytes};
-ghost use Rattle.cc_core.specs.Views as views;
+ghost use Rattle.cc_core.specs.TermViews as views;
 ghost use Rattle.cc_print.specs.TypeTexts as plain;
 
 use crate::names::Names;

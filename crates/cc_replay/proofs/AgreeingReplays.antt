@@ -4,8 +4,8 @@ use Rattle.cc_base.specs.Literals.{Literal}
 use Rattle.cc_base.specs.declared.literal.Op.{Op}
 use Rattle.cc_core.specs.Typing.{base_of}
 use Rattle.cc_device.specs.Events.{Event, Operated, literal_shown}
-use Rattle.cc_meta_runs.specs.Machine.{Configuration, Outcome, Stuck, Final, Next, Ask, step}
-use Rattle.cc_meta_runs.specs.Runs.{Ending, with_event}
+use Rattle.cc_runs.specs.Machine.{Configuration, StepOutcome, Stuck, Final, Next, Ask, step}
+use Rattle.cc_runs.specs.Runs.{Ending, with_event}
 use Rattle.cc_replay.specs.AnsweredRuns.{IsAnswerOf, GoesTo, by_itself, by_answer, GoesOnTo, TakesNoStep, AnsweredRun, trace_lines, ending_after, trace_of}
 use Rattle.cc_replay.specs.AnsweredRuns as answered
 use Rattle.cc_replay.specs.ReplayLaws.{AgreeingLinesAreTraces}
@@ -13,8 +13,8 @@ use Rattle.cc_replay.specs.Replays.{Comparison, event_next, answer_in, answered_
 use Rattle.cc_replay.specs.declared.replaying.Replayed.TheVariants.{Agrees}
 use Rattle.cc_replay.proofs.AnswersInLines.{answer_fits, answer_back}
 use Rattle.cc_replay.proofs.Comparisons.{text_agrees, nothing_agrees, text_is_met, BeginsWith}
-use Rattle.cc_meta_runs.proofs.Finality.{asks_rightly}
-use Rattle.cc_run_texts.specs.RunTexts.{event_text, end_text}
+use Rattle.cc_runs.proofs.Finality.{asks_rightly}
+use Rattle.cc_replay.specs.RunTexts.{event_text, end_text}
 use Rattle.cc_words.specs.Lines.{Line}
 
 -- the line of an event, if there is one, before others
@@ -87,7 +87,7 @@ module _ (names : List (List ℕ)) where
     by_operation n op argument resume (line ∷ others) asks e =
         by_line n op argument resume (answer_in names n op line) (line ∷ others) asks (λ answer is. answer_fits names n op line answer is) e
 
-    by_outcome : (x : Outcome) (lines : List Line) → step c ≡ x → replay_on names steps (replay_from names (suc steps) fuel) c x lines ≡ Agrees → TraceFrom steps (suc fuel) c lines
+    by_outcome : (x : StepOutcome) (lines : List Line) → step c ≡ x → replay_on names steps (replay_from names (suc steps) fuel) c x lines ≡ Agrees → TraceFrom steps (suc fuel) c lines
     by_outcome Stuck lines is e = ends_here steps (suc fuel) c lines (inr (subst TakesNoStep (sym is) tt)) (ap (λ x. end_next names steps c x lines) is ∙ e)
     by_outcome Final lines is e = ends_here steps (suc fuel) c lines (inr (subst TakesNoStep (sym is) tt)) (ap (λ x. end_next names steps c x lines) is ∙ e)
     by_outcome (Next event next) lines is e = by_event event next lines (by_itself is) e
@@ -98,7 +98,7 @@ module _ (names : List (List ℕ)) where
   agrees_from steps (suc fuel) c lines e = by_outcome steps fuel c (agrees_from (suc steps) fuel) (step c) lines refl e
 
   -- the other way round
-  over_here : (steps : ℕ) (c : Configuration) (x : Outcome) (rest : Configuration → Comparison) → TakesNoStep x
+  over_here : (steps : ℕ) (c : Configuration) (x : StepOutcome) (rest : Configuration → Comparison) → TakesNoStep x
       → replay_on names steps rest c x (end_text names (ending_in c x) steps ∷ []) ≡ Agrees
   over_here steps c Stuck rest over = text_is_met (end_text names (ending_in c Stuck) steps) no_line [] refl
   over_here steps c Final rest over = text_is_met (end_text names (ending_in c Final) steps) no_line [] refl

@@ -9,10 +9,10 @@ use Rattle.cc_base.specs.declared.literal.Op.{Op}
 use Rattle.cc_base.specs.declared.literal.Op.TheVariants as operations
 use Rattle.cc_core.specs.Typing.{base_of, base_taken}
 use Rattle.cc_device.specs.Events.{Operated, literal_shown}
-use Rattle.cc_meta_runs.specs.Machine.{is_taken}
+use Rattle.cc_runs.specs.Machine.{is_taken}
 use Rattle.cc_replay.specs.AnsweredRuns.{fits_64_bits, IsAnswerOf}
 use Rattle.cc_replay.specs.Replays.{answer_in}
-use Rattle.cc_run_texts.specs.RunTexts.{operated_text, event_text}
+use Rattle.cc_replay.specs.RunTexts.{operated_text, event_text}
 use Rattle.cc_words.specs.Lines.{Line}
 use Rattle.cc_words.specs.Words.{after_prefix, has_64_bits, signed_of}
 use Rattle.cc_words.proofs.Numbers.{signed_of_gives, signed_of-decimal}

@@ -9,7 +9,7 @@ use Rattle.cc_base.specs.declared.literal.Op.{Op}
 use Rattle.cc_base.specs.declared.literal.Op.TheVariants as operations
 use Rattle.cc_core.specs.Typing.{base_taken}
 use Rattle.cc_device.specs.Events.{Event, Operated, literal_shown}
-use Rattle.cc_meta_runs.specs.Machine.{Configuration, Outcome, Stuck, Final, Next, Ask, is_taken, step}
+use Rattle.cc_runs.specs.Machine.{Configuration, StepOutcome, Stuck, Final, Next, Ask, is_taken, step}
 use Rattle.cc_replay.specs.AnsweredRuns.{IsAnswerOf, AnsweredRun, trace_of}
 use Rattle.cc_replay.specs.ReplayLaws.{BeginTrace, BeginNoTraceWith, IsFirstDifference, ReplaysDifferFirst}
 use Rattle.cc_replay.specs.Replays.{Comparison, behind_line, no_line, others_decide, text_next, event_next, answer_in, answered_next, operation_next, ending_in, end_next, replay_on, replay_from, replay}
@@ -18,8 +18,8 @@ use Rattle.cc_replay.specs.declared.replaying.Replayed.TheVariants.{Agrees, Diff
 use Rattle.cc_replay.proofs.AgreeingReplays.{agreeing_lines_are_traces}
 use Rattle.cc_replay.proofs.AnswersInLines.{answer_fits, answer_back}
 use Rattle.cc_replay.proofs.Comparisons.{text_agrees, text_is_met}
-use Rattle.cc_meta_runs.proofs.Finality.{asks_rightly}
-use Rattle.cc_run_texts.specs.RunTexts.{event_text, end_text}
+use Rattle.cc_runs.proofs.Finality.{asks_rightly}
+use Rattle.cc_replay.specs.RunTexts.{event_text, end_text}
 use Rattle.cc_words.specs.Lines.{Line}
 
 -- nothing that agrees begins with the lines and the next one
@@ -196,10 +196,10 @@ module _ (names : List (List ℕ)) where
         first [] at e = at_once asking [] at some_lines some_agree (λ agrees. never 1 agrees) (same_line 1 at e)
         first (line ∷ others) at e = by_answer (answer_in names n op line) line others at refl e
 
-  exact_end : (steps : ℕ) (c : Configuration) (x : Outcome) → IsExact (end_next names steps c x)
+  exact_end : (steps : ℕ) (c : Configuration) (x : StepOutcome) → IsExact (end_next names steps c x)
   exact_end steps c x = exact_text (end_text names (ending_in c x) steps) no_line exact_no_line
 
-  exact_on : (steps : ℕ) (rest : Configuration → Comparison) (c : Configuration) (x : Outcome) → step c ≡ x → ((next : Configuration) → IsExact (rest next)) → IsExact (replay_on names steps rest c x)
+  exact_on : (steps : ℕ) (rest : Configuration → Comparison) (c : Configuration) (x : StepOutcome) → step c ≡ x → ((next : Configuration) → IsExact (rest next)) → IsExact (replay_on names steps rest c x)
   exact_on steps rest c Stuck is exact = exact_end steps c Stuck
   exact_on steps rest c Final is exact = exact_end steps c Final
   exact_on steps rest c (Next event next) is exact = exact_event event (rest next) (exact next)

@@ -7,5 +7,6 @@ pub mod LineByLine
 pub mod LineSteps
 pub mod ReplayedRuns
 pub mod SafeTraces
+pub mod TextPieces
 pub mod WorkedReplays
 pub mod WrittenRuns

@@ -11,21 +11,21 @@ use Rattle.cc_device.specs.Events.{Event, Operated, literal_shown}
 use Rattle.cc_machine.specs.Answering.{GoesOnWith}
 use Rattle.cc_machine.specs.Reports.{HasEnd}
 use Rattle.cc_machine.specs.Standing.{StandsFor, StandsSoundly}
-use Rattle.cc_meta_runs.specs.Machine.{Configuration, Outcome, Stuck, Final, Next, Ask, step}
-use Rattle.cc_meta_runs.specs.Answers.{shown}
-use Rattle.cc_meta_runs.specs.Runs.{Ending, Ends, end_with}
-use Rattle.cc_meta_runs.specs.Soundness.{IsSoundOutcome}
-use Rattle.cc_meta_runs.proofs.Erasure.{erased_outcome, term-erased}
-use Rattle.cc_meta_runs.proofs.StepTheorem.{steps_are_sound}
+use Rattle.cc_runs.specs.Machine.{Configuration, StepOutcome, Stuck, Final, Next, Ask, step}
+use Rattle.cc_runs.specs.Answers.{shown}
+use Rattle.cc_runs.specs.Runs.{Ending, Ends, end_with}
+use Rattle.cc_runs.specs.Soundness.{IsSoundOutcome}
+use Rattle.cc_runs.proofs.Erasure.{erased_outcome, term-erased}
+use Rattle.cc_runs.proofs.StepTheorem.{steps_are_sound}
 use Rattle.cc_replay.specs.Comparing.{behind_lines}
 use Rattle.cc_replay.specs.Replays.{Comparison, behind_line, no_line, others_decide, text_next, answer_in, answered_next, operation_next, ending_in, end_next, replay_on, replay_from}
 use Rattle.cc_replay.specs.declared.replaying.Replayed.{Replayed}
 use Rattle.cc_replay.specs.declared.replaying.Replayed.TheVariants.{Agrees, Differs}
-use Rattle.cc_meta_runs.specs.Alike.{erased_configuration}
+use Rattle.cc_runs.specs.Alike.{erased_configuration}
 use Rattle.cc_replay.proofs.AlikeReplays.{replay-erased}
 use Rattle.cc_replay.proofs.AnswersInLines.{answer_fits}
-use Rattle.cc_run_texts.specs.RunTexts.{event_text, end_text}
-use Rattle.cc_steps.specs.Asking.{Question, question_in, IsAnswerTo}
+use Rattle.cc_replay.specs.RunTexts.{event_text, end_text}
+use Rattle.cc_machine.specs.Asking.{Question, question_in, IsAnswerTo}
 use Rattle.cc_words.specs.Lines.{Line, lines_of, next_line}
 use Rattle.cc_words.proofs.LineLists.{next_line-first}
 
@@ -69,7 +69,7 @@ module _ (names : List (List ℕ)) (held : Configuration) (q : Question) (asks :
       ∙ (λ i. text_next (event_text names (told_by i)) (rest (goes.resumes i)) (line ∷ others))
       ∙ ap (text_next (event_text names event) (rest held')) (sym first)
 
-  pub unanswered : (x : Outcome) → Some q ≡ question_in x → (others : List Line) → answer_in names q.device q.operation line ≡ None → (steps : ℕ) (rest : Configuration → Comparison)
+  pub unanswered : (x : StepOutcome) → Some q ≡ question_in x → (others : List Line) → answer_in names q.device q.operation line ≡ None → (steps : ℕ) (rest : Configuration → Comparison)
       → replay_on names steps rest held x (line ∷ others) ≡ Differs 1
   unanswered Stuck asked others is steps rest = cc
   unanswered Final asked others is steps rest = cc
@@ -86,13 +86,13 @@ stuck_nowhere held sound is = ∥∥₁_elim sound (hlevel) (λ s. by_outcome s.
     step_held : (c : Configuration) → StandsFor held c → step held ≡ erased_outcome (step c)
     step_held c stands = sym (ap step stands) ∙ term-erased c.store c.stack c.labels_made c.term
 
-    by_outcome : (c : Configuration) (x : Outcome) → step c ≡ x → IsSoundOutcome c (step c) → erased_outcome (step c) ≡ Stuck → ⊥
+    by_outcome : (c : Configuration) (x : StepOutcome) → step c ≡ x → IsSoundOutcome c (step c) → erased_outcome (step c) ≡ Stuck → ⊥
     by_outcome c Stuck at sound e = subst (IsSoundOutcome c) at sound
     by_outcome c Final at sound e = let clash : Final ≡ Stuck = sym (ap erased_outcome at) ∙ e in cc
     by_outcome c (Next event next) at sound e = let clash : erased_outcome (Next event next) ≡ Stuck = sym (ap erased_outcome at) ∙ e in cc
     by_outcome c (Ask n op a resume) at sound e = let clash : erased_outcome (Ask n op a resume) ≡ Stuck = sym (ap erased_outcome at) ∙ e in cc
 
-unfinished : (held : Configuration) (x : Outcome) → (x ≡ Stuck → ⊥) → (x ≡ Final → ⊥) → ending_in held x ≡ Ends OutOfFuel
+unfinished : (held : Configuration) (x : StepOutcome) → (x ≡ Stuck → ⊥) → (x ≡ Final → ⊥) → ending_in held x ≡ Ends OutOfFuel
 unfinished held Stuck stuck final = absurd (stuck refl)
 unfinished held Final stuck final = absurd (final refl)
 unfinished held (Next event next) stuck final = refl
@@ -186,7 +186,7 @@ module _ (names : List (List ℕ)) (fuel : ℕ) (start : Configuration) (lines :
   spent : fuel ≤ steps → replay_from names steps (fuel - steps) held (lines_of rest) ≡ end_next names steps held (step held) (lines_of rest)
   spent none = let zero_left : fuel - steps ≡ 0 = omega arith in ap (λ n. replay_from names steps n held (lines_of rest)) zero_left
 
-  by_outcome : (x : Outcome) → step held ≡ x → ((step held ≡ Final → ⊥) → fuel ≤ steps) → replay_from names steps (fuel - steps) held (lines_of rest) ≡ end_next names steps held (step held) (lines_of rest)
+  by_outcome : (x : StepOutcome) → step held ≡ x → ((step held ≡ Final → ⊥) → fuel ≤ steps) → replay_from names steps (fuel - steps) held (lines_of rest) ≡ end_next names steps held (step held) (lines_of rest)
   by_outcome Stuck is over = spent (over (λ e. let clash : Stuck ≡ Final = sym is ∙ e in cc))
   by_outcome Final is over = final_stays (fuel - steps) is
   by_outcome (Next event next) is over = spent (over (λ e. let clash : Next event next ≡ Final = sym is ∙ e in cc))

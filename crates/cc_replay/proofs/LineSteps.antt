@@ -22,10 +22,10 @@ use Rattle.cc_core.specs.Typing.{base_operated, base_taken}
 use Rattle.cc_device.specs.Devices.{DeviceState, Console, File, Counter, Devices, Answer, answer_of, read_at, Reply, replying, reply_of, operate}
 use Rattle.cc_device.specs.Endings.{Shown, ShownLiteral, ShownFunction, ShownTypeFunction, ShownBox, ShownDevice, ShownLabel}
 use Rattle.cc_device.specs.Events.{Event, Operated, Entered, Ended, Exited, literal_shown}
-use Rattle.cc_meta_runs.specs.Answers.{shown_value, shown_cell, shown_answer, shown}
-use Rattle.cc_meta_runs.specs.Machine.{Frame, LetFrame, ScopeFrame, RepetitionFrame, Stack, Configuration, configured, Outcome, Stuck, Final, Next, Ask, going, put_in, bound_to_new, call_with_number, let_step, apply_step, type_apply_step, unbox_step, literal_in, result_of, primitive_step, conditional_step, repetition_step, repeat_step, same_base, is_taken, argument_at, operation_step, below_scope, exit_to, exit_step, boundary_step, variable_step, value_step, term_step, step}
-use Rattle.cc_meta_runs.specs.Runs as runs
-use Rattle.cc_meta_runs.specs.Runs.{State, Move, IsStuck, IsFinal, Moves, answered, closed, move, with_event, LeadsIn}
+use Rattle.cc_runs.specs.Answers.{shown_value, shown_cell, shown_answer, shown}
+use Rattle.cc_runs.specs.Machine.{Frame, LetFrame, ScopeFrame, RepetitionFrame, Stack, Configuration, configured, StepOutcome, Stuck, Final, Next, Ask, going, put_in, bound_to_new, call_with_number, let_step, apply_step, type_apply_step, unbox_step, literal_in, result_of, primitive_step, conditional_step, repetition_step, repeat_step, same_base, is_taken, argument_at, operation_step, below_scope, exit_to, exit_step, boundary_step, variable_step, value_step, term_step, step}
+use Rattle.cc_runs.specs.Runs as runs
+use Rattle.cc_runs.specs.Runs.{State, Move, IsStuck, IsFinal, Moves, answered, closed, move, with_event, LeadsIn}
 use Rattle.cc_replay.specs.LineLiterals.{StandsInLine, HasLineLiterals, IsLineCell, IsLineFrame, IsLineDevice, IsLineConfiguration, IsLineState}
 use Rattle.cc_words.specs.Words.{has_64_bits}
 
@@ -107,14 +107,14 @@ IsLineEvent (Some (Ended label)) = Unit {0}
 IsLineEvent (Some (Exited label)) = Unit {0}
 
 -- what an outcome keeps
-abbrev KeepsLiterals : Outcome → Type 0
+abbrev KeepsLiterals : StepOutcome → Type 0
 KeepsLiterals Stuck = Unit {0}
 KeepsLiterals Final = Unit {0}
 KeepsLiterals (Next event next) = IsLineEvent event × IsLineConfiguration next
 KeepsLiterals (Ask device operation argument resume) =
     IsLineLiteral argument × ((answer : Literal) → StandsInLine answer → IsLineConfiguration (resume answer))
 
-either_keeps : (t : Bool) (x y : Outcome) → KeepsLiterals x → KeepsLiterals y → KeepsLiterals (cond t x y)
+either_keeps : (t : Bool) (x y : StepOutcome) → KeepsLiterals x → KeepsLiterals y → KeepsLiterals (cond t x y)
 either_keeps true x y h k = h
 either_keeps false x y h k = k
 
@@ -365,7 +365,7 @@ answered_keeps n op a resume None h g r = tt
 answered_keeps n op a resume (Some reply) h g r =
     (shown_fits a reply.literal h r.0, record { configuration = g reply.literal r.0; devices = r.1 })
 
-closed_keeps : (devices : Devices) (x : Outcome) → AllByRecursion IsLineDevice devices → KeepsLiterals x → KeptByMove (closed devices x)
+closed_keeps : (devices : Devices) (x : StepOutcome) → AllByRecursion IsLineDevice devices → KeepsLiterals x → KeptByMove (closed devices x)
 closed_keeps devices Stuck h k = tt
 closed_keeps devices Final h k = tt
 closed_keeps devices (Next event next) h k = (k.0, record { configuration = k.1; devices = h })

@@ -9,21 +9,21 @@ use Rattle.cc_base.specs.declared.literal.Op.TheVariants as operations
 use Rattle.cc_core.specs.Typing.{base_of, base_answered, base_taken}
 use Rattle.cc_device.specs.Devices.{DeviceState, Devices, Answer, answer_of, Reply, replying, reply_of, operate}
 use Rattle.cc_device.specs.Events.{Event, Operated, literal_shown}
-use Rattle.cc_meta_runs.specs.Machine.{Configuration, Outcome, Stuck, Final, Next, Ask, is_taken, step}
-use Rattle.cc_meta_runs.specs.Runs.{State, Move, IsStuck, IsFinal, Moves, answered, closed, move, with_event, Ending, ending_of, LeadsIn, run}
-use Rattle.cc_meta_runs.specs.Runs as runs
-use Rattle.cc_meta_runs.specs.RunLaws.{GoesOn}
-use Rattle.cc_meta_runs.specs.SoundRuns.{IsSoundState}
-use Rattle.cc_meta_runs.specs.SafeRuns.{IsAmong}
-use Rattle.cc_meta_runs.proofs.DeviceTable.{devices_answer_what_suits}
-use Rattle.cc_meta_runs.proofs.RunSteps.{runs_are_exact}
-use Rattle.cc_meta_runs.proofs.RunTheorems.{soundness_is_kept, sound_states_never_get_stuck}
+use Rattle.cc_runs.specs.Machine.{Configuration, StepOutcome, Stuck, Final, Next, Ask, is_taken, step}
+use Rattle.cc_runs.specs.Runs.{State, Move, IsStuck, IsFinal, Moves, answered, closed, move, with_event, Ending, ending_of, LeadsIn, run}
+use Rattle.cc_runs.specs.Runs as runs
+use Rattle.cc_runs.specs.RunLaws.{GoesOn}
+use Rattle.cc_runs.specs.SoundRuns.{IsSoundState}
+use Rattle.cc_runs.specs.SafeRuns.{IsAmong}
+use Rattle.cc_runs.proofs.DeviceTable.{devices_answer_what_suits}
+use Rattle.cc_runs.proofs.RunSteps.{runs_are_exact}
+use Rattle.cc_runs.proofs.RunTheorems.{soundness_is_kept, sound_states_never_get_stuck}
 use Rattle.cc_replay.specs.AnsweredRuns.{fits_64_bits, IsAnswerOf, GoesTo, by_itself, by_answer, GoesOnTo, TakesNoStep, AnsweredRun, trace_lines, ending_after}
 use Rattle.cc_replay.specs.AnsweredRuns as given
 use Rattle.cc_replay.specs.ReplayLaws.{HasAnswersOf64Bits, lines_of_run, RunsAreReplayed}
 use Rattle.cc_replay.specs.Replays.{ending_in}
 use Rattle.cc_replay.proofs.AgreeingReplays.{agreeing_lines_are_traces}
-use Rattle.cc_meta_runs.proofs.Finality.{asks_rightly}
+use Rattle.cc_runs.proofs.Finality.{asks_rightly}
 
 -- a reply is an answer of the operation's kind
 replied_kind : (devices : Devices) (n : ℕ) (op : Op) (argument : Option Literal) (o : Option DeviceState) (reply : Reply) → reply_of devices n op argument o ≡ Some reply
@@ -73,7 +73,7 @@ module _ (state : State) (event : Option Event) (next : State) (others : List Ev
       (subst (λ m. GoesTo state.configuration (Some (Operated n op (literal_shown argument reply.literal))) m.configuration) parts.1
       (by_answer reply.literal asks (of_kind, fits)))
 
-  by_move : (x : Outcome) → step state.configuration ≡ x → closed state.devices x ≡ Moves event next → HasAnswersOf64Bits (with_event event others)
+  by_move : (x : StepOutcome) → step state.configuration ≡ x → closed state.devices x ≡ Moves event next → HasAnswersOf64Bits (with_event event others)
       → GoesTo state.configuration event next.configuration
   by_move Stuck at is small = cc
   by_move Final at is small = cc
@@ -95,7 +95,7 @@ moves_are_answered (runs.more {state = a} {next = m} {event = e} {events = es} i
 
 -- a state that does not go on takes no step, and it ends as its configuration does
 module _ (state : State) (never_stuck : move state ≡ IsStuck → ⊥) where
-  ends_so : (x : Outcome) → step state.configuration ≡ x → ending_of state (closed state.devices x) ≡ ending_in state.configuration x
+  ends_so : (x : StepOutcome) → step state.configuration ≡ x → ending_of state (closed state.devices x) ≡ ending_in state.configuration x
   ends_so Stuck at = refl
   ends_so Final at = refl
   ends_so (Next e m) at = refl
@@ -105,7 +105,7 @@ module _ (state : State) (never_stuck : move state ≡ IsStuck → ⊥) where
       by_answered (Some reply) is = refl
       by_answered None is = absurd (never_stuck (ap (closed state.devices) at ∙ ap (answered n op argument resume) is))
 
-  takes_none : (x : Outcome) → step state.configuration ≡ x → (GoesOn state → ⊥) → TakesNoStep x
+  takes_none : (x : StepOutcome) → step state.configuration ≡ x → (GoesOn state → ⊥) → TakesNoStep x
   takes_none Stuck at over = tt
   takes_none Final at over = tt
   takes_none (Next e m) at over = over (e, record { configuration = m; devices = state.devices }, ap (closed state.devices) at)

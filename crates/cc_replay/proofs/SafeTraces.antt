@@ -15,20 +15,20 @@ use Rattle.cc_core.specs.Typing.{base_operated}
 use Rattle.cc_device.specs.Devices.{DeviceState, Console, File, Counter, Devices, base_of_device}
 use Rattle.cc_device.specs.Endings.{Shown}
 use Rattle.cc_device.specs.Events.{Event, Operated, literal_shown, operated, Follows, FollowsAll, no_event, IsWellScoped}
-use Rattle.cc_meta_runs.specs.Answers.{shown}
-use Rattle.cc_meta_runs.specs.Links.{program_start}
-use Rattle.cc_meta_runs.specs.Machine.{Configuration, Outcome, Stuck, Final, Next, Ask, step}
-use Rattle.cc_meta_runs.specs.Reach.{SetReaches, captured_set, captured_by_stack}
-use Rattle.cc_meta_runs.specs.Runs.{State, with_event, IsStopped, end_with}
-use Rattle.cc_meta_runs.specs.Soundness.{IsSound, ReachesNoNewDevice, FitsScopes, OperatesNoDevice, IsSoundOutcome, IsSoundStep}
-use Rattle.cc_meta_runs.specs.SafeRuns.{scopes_of, IsListed, IsAmong}
-use Rattle.cc_meta_runs.proofs.Finality.{final_exactly_where_answered}
-use Rattle.cc_meta_runs.proofs.LinkedPrograms.{program_starts}
-use Rattle.cc_meta_runs.proofs.ReachLemmas.{set_reaches-left}
-use Rattle.cc_meta_runs.proofs.RunTheorems.{follow}
-use Rattle.cc_meta_runs.proofs.SafeRuns.{start_reaches}
-use Rattle.cc_meta_runs.proofs.ShownAnswers.{shown_from}
-use Rattle.cc_meta_runs.proofs.StepTheorem.{steps_are_sound}
+use Rattle.cc_runs.specs.Answers.{shown}
+use Rattle.cc_runs.specs.Links.{program_start}
+use Rattle.cc_runs.specs.Machine.{Configuration, StepOutcome, Stuck, Final, Next, Ask, step}
+use Rattle.cc_runs.specs.Reach.{SetReaches, captured_set, captured_by_stack}
+use Rattle.cc_runs.specs.Runs.{State, with_event, IsStopped, end_with}
+use Rattle.cc_runs.specs.Soundness.{IsSound, ReachesNoNewDevice, FitsScopes, OperatesNoDevice, IsSoundOutcome, IsSoundStep}
+use Rattle.cc_runs.specs.SafeRuns.{scopes_of, IsListed, IsAmong}
+use Rattle.cc_runs.proofs.Finality.{final_exactly_where_answered}
+use Rattle.cc_runs.proofs.LinkedPrograms.{program_starts}
+use Rattle.cc_runs.proofs.ReachLemmas.{set_reaches-left}
+use Rattle.cc_runs.proofs.RunTheorems.{follow}
+use Rattle.cc_runs.proofs.SafeRuns.{start_reaches}
+use Rattle.cc_runs.proofs.ShownAnswers.{shown_from}
+use Rattle.cc_runs.proofs.StepTheorem.{steps_are_sound}
 use Rattle.cc_replay.specs.AnsweredRuns.{GoesTo, by_itself, by_answer, GoesOnTo, AnsweredRun, ending_after}
 use Rattle.cc_replay.specs.AnsweredRuns as answered
 use Rattle.cc_replay.specs.ReplayLaws.{IsSafeFrom, IsSafelyTraced, AgreeingTracesAreSafe, AgreeingTracesKeepTheAuthority}
@@ -104,7 +104,7 @@ shows_something : (o : Option Shown) (shows : Shown) → o ≡ Some shows → en
 shows_something (Some s) shows is e = cc
 shows_something None shows is e = cc
 
-sound_ending : (c : Configuration) → IsSound c → (x : Outcome) → step c ≡ x → ending_in c x ≡ IsStopped → ⊥
+sound_ending : (c : Configuration) → IsSound c → (x : StepOutcome) → step c ≡ x → ending_in c x ≡ IsStopped → ⊥
 sound_ending c sound Stuck is e = subst (IsSoundOutcome c) is (steps_are_sound c sound)
 sound_ending c sound Final is e =
     let shows = shown_from c sound ((final_exactly_where_answered c).0 is).0 in shows_something (shown c) shows.0 shows.1 e

@@ -4,7 +4,7 @@ use Rattle.std.specs.Fmt.{digits}
 use Rattle.std.specs.Int.{int_wrap}
 use lib.Utf8.{encode}
 use Rattle.cc_words.specs.Words.{number_of, signed_of}
-use Rattle.cc_replay.specs.Examples as example
+use Rattle.cc_replay.specs.TraceExamples as example
 
 pub answers_come_from_lines : example.AnswersComeFromLines
 unfolding encode digits int_wrap signed_of number_of

@@ -9,15 +9,15 @@ use Rattle.cc_base.specs.Literals.{Literal, UnitLiteral, TruthLiteral, NumberLit
 use Rattle.cc_base.specs.declared.literal.Base.TheVariants as bases
 use Rattle.cc_base.specs.declared.literal.Op.{Op}
 use Rattle.cc_base.specs.declared.literal.Op.TheVariants as operations
-use Rattle.cc_certificate.specs.Laws.{IsOneLine}
-use Rattle.cc_certificate.proofs.OneLine.{joined, by_test, one_if, decimal_one, signed_one, truth_one, quoted_one}
+use Rattle.cc_certificate_writing.specs.CertificateTextLaws.{IsOneLine}
+use Rattle.cc_certificate_writing.proofs.OneLine.{joined, by_test, one_if, decimal_one, signed_one, truth_one, quoted_one}
 use Rattle.cc_core.specs.Typing.{base_answered}
 use Rattle.cc_device.specs.Endings.{Shown, ShownLiteral, ShownFunction, ShownTypeFunction, ShownBox, ShownDevice, ShownLabel, End, Done, OutOfFuel}
 use Rattle.cc_device.specs.Events.{Event, Operated, Entered, Ended, Exited}
-use Rattle.cc_meta_runs.specs.Answers.{shown}
-use Rattle.cc_meta_runs.specs.Runs.{State, Move, IsStuck, IsFinal, Moves, move, Ending, Ends, IsStopped, end_with, ending_of, run}
-use Rattle.cc_meta_runs.specs.SafeRuns.{IsAmong}
-use Rattle.cc_meta_runs.proofs.RunSteps.{runs_are_exact}
+use Rattle.cc_runs.specs.Answers.{shown}
+use Rattle.cc_runs.specs.Runs.{State, Move, IsStuck, IsFinal, Moves, move, Ending, Ends, IsStopped, end_with, ending_of, run}
+use Rattle.cc_runs.specs.SafeRuns.{IsAmong}
+use Rattle.cc_runs.proofs.RunSteps.{runs_are_exact}
 use Rattle.cc_print.specs.TermTexts.{quoted, literal_text}
 use Rattle.cc_print.specs.TypeTexts.{numbered, position_text}
 use Rattle.cc_replay.specs.AnsweredRuns.{trace_lines}
@@ -26,7 +26,7 @@ use Rattle.cc_replay.specs.ReplayLaws.{HasAnswersOf64Bits, lines_of_run, written
 use Rattle.cc_replay.specs.Replays.{replay}
 use Rattle.cc_replay.proofs.LineSteps.{IsLineEvent, IsLineShown, events_stand_in_lines, shown_stands_in_line}
 use Rattle.cc_replay.proofs.ReplayedRuns.{runs_are_replayed}
-use Rattle.cc_run_texts.specs.RunTexts.{device_text, operation_text, operated_text, operand_text, event_text, shown_text, ending_text, end_text}
+use Rattle.cc_replay.specs.RunTexts.{device_text, operation_text, operated_text, operand_text, event_text, shown_text, ending_text, end_text}
 use Rattle.cc_words.specs.Lines.{Line, lines_of}
 use Rattle.cc_words.specs.Words.{has_64_bits}
 use Rattle.cc_words.proofs.LineLists.{terminated, lines_of-terminated}

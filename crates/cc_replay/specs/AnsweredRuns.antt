@@ -4,10 +4,10 @@ use Rattle.cc_base.specs.Literals.{Literal, UnitLiteral, TruthLiteral, NumberLit
 use Rattle.cc_base.specs.declared.literal.Op.{Op}
 use Rattle.cc_core.specs.Typing.{base_of, base_answered}
 use Rattle.cc_device.specs.Events.{Event, Operated, literal_shown}
-use Rattle.cc_meta_runs.specs.Machine.{Configuration, Outcome, Stuck, Final, Next, Ask, step}
-use Rattle.cc_meta_runs.specs.Runs.{Ending, with_event}
+use Rattle.cc_runs.specs.Machine.{Configuration, StepOutcome, Stuck, Final, Next, Ask, step}
+use Rattle.cc_runs.specs.Runs.{Ending, with_event}
 use Rattle.cc_replay.specs.Replays.{ending_in}
-use Rattle.cc_run_texts.specs.RunTexts.{event_text, end_text}
+use Rattle.cc_replay.specs.RunTexts.{event_text, end_text}
 use Rattle.cc_words.specs.Lines.{Line}
 use Rattle.cc_words.specs.Words.{has_64_bits}
 
@@ -37,7 +37,7 @@ pub data GoesOnTo : ℕ → Configuration → List Event → Configuration → T
       → GoesOnTo (suc steps) before (with_event event events) last
 
 -- no step is taken from what comes to this
-abbrev pub TakesNoStep : Outcome → Type 0
+abbrev pub TakesNoStep : StepOutcome → Type 0
 TakesNoStep Stuck = Unit {0}
 TakesNoStep Final = Unit {0}
 TakesNoStep (Next event next) = ⊥

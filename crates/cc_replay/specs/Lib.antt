@@ -1,6 +1,7 @@
 pub mod AnsweredRuns
 pub mod Comparing
-pub mod Examples
 pub mod LineLiterals
 pub mod ReplayLaws
 pub mod Replays
+pub mod RunTexts
+pub mod TraceExamples

@@ -2,14 +2,14 @@
 use Rattle.std.specs.Prelude.{◌≤◌, ℕ, pos, IsTrue, List, encode_utf8_all}
 use Rattle.std.specs.List.{AllByRecursion}
 use Rattle.cc_base.specs.Literals.{Literal, UnitLiteral, TruthLiteral, NumberLiteral, TextLiteral}
-use Rattle.cc_certificate.specs.Laws.{IsOneLine}
+use Rattle.cc_certificate_writing.specs.CertificateTextLaws.{IsOneLine}
 use Rattle.cc_core.specs.Stores.{Cell, ValueCell, DeviceCell, LabelCell}
 use Rattle.cc_core.specs.Terms.{Term, VariableTerm, LiteralTerm, FunctionTerm, TypeFunctionTerm, BoxTerm, Application}
 use Rattle.cc_core.specs.Terms.{TypeApplication, Unboxing, Let, Primitive, Conditional, Repetition, Operation, Boundary}
 use Rattle.cc_core.specs.Terms.{Leave}
 use Rattle.cc_device.specs.Devices.{DeviceState, Console, File, Counter}
-use Rattle.cc_meta_runs.specs.Machine.{Frame, LetFrame, ScopeFrame, RepetitionFrame, Configuration}
-use Rattle.cc_meta_runs.specs.Runs.{State}
+use Rattle.cc_runs.specs.Machine.{Frame, LetFrame, ScopeFrame, RepetitionFrame, Configuration}
+use Rattle.cc_runs.specs.Runs.{State}
 use Rattle.cc_words.specs.Words.{has_64_bits}
 
 -- the literal is a number of 64 bits, a text without a line feed, or neither

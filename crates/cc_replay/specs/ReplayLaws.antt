@@ -4,19 +4,19 @@ use Rattle.std.specs.List.{AllByRecursion, flat_map}
 use Rattle.cc_base.specs.Literals.{Literal, NumberLiteral}
 use Rattle.cc_base.specs.declared.literal.Base.TheVariants as bases
 use Rattle.cc_base.specs.declared.literal.Op.{Op}
-use Rattle.cc_certificate.specs.Laws.{IsOneLine}
+use Rattle.cc_certificate_writing.specs.CertificateTextLaws.{IsOneLine}
 use Rattle.cc_core.specs.Programs.{Entry, IsEntry}
 use Rattle.cc_core.specs.Stores.{DeviceCell}
 use Rattle.cc_core.specs.Typing.{base_operated, base_answered}
 use Rattle.cc_device.specs.Events.{Event, Operated, FollowsAll, IsWellScoped}
-use Rattle.cc_meta_runs.specs.Alike.{IsAlike}
-use Rattle.cc_meta_runs.specs.Links.{program_start}
-use Rattle.cc_meta_runs.specs.Machine.{Configuration, step, Stuck}
-use Rattle.cc_meta_runs.specs.Reach.{SetReaches, captured_set}
-use Rattle.cc_meta_runs.specs.Runs.{State, IsStopped, Run, run}
-use Rattle.cc_meta_runs.specs.Soundness.{IsSound}
-use Rattle.cc_meta_runs.specs.SafeRuns.{scopes_of, IsListed, IsAmong}
-use Rattle.cc_meta_runs.specs.SoundRuns.{IsSoundState}
+use Rattle.cc_runs.specs.Alike.{IsAlike}
+use Rattle.cc_runs.specs.Links.{program_start}
+use Rattle.cc_runs.specs.Machine.{Configuration, step, Stuck}
+use Rattle.cc_runs.specs.Reach.{SetReaches, captured_set}
+use Rattle.cc_runs.specs.Runs.{State, IsStopped, Run, run}
+use Rattle.cc_runs.specs.Soundness.{IsSound}
+use Rattle.cc_runs.specs.SafeRuns.{scopes_of, IsListed, IsAmong}
+use Rattle.cc_runs.specs.SoundRuns.{IsSoundState}
 use Rattle.cc_replay.specs.AnsweredRuns.{GoesOnTo, AnsweredRun, ending_after, trace_lines, trace_of}
 use Rattle.cc_replay.specs.LineLiterals.{IsLineState}
 use Rattle.cc_replay.specs.Replays.{replay}

@@ -7,12 +7,12 @@ use Rattle.cc_base.specs.declared.literal.Op.{Op}
 use Rattle.cc_base.specs.declared.literal.Op.TheVariants as operations
 use Rattle.cc_device.specs.Endings.{OutOfFuel}
 use Rattle.cc_device.specs.Events.{Event, Operated, literal_shown}
-use Rattle.cc_meta_runs.specs.Answers.{shown}
-use Rattle.cc_meta_runs.specs.Machine.{Configuration, Outcome, Stuck, Final, Next, Ask, step}
-use Rattle.cc_meta_runs.specs.Runs.{Ending, Ends, IsStopped, end_with}
+use Rattle.cc_runs.specs.Answers.{shown}
+use Rattle.cc_runs.specs.Machine.{Configuration, StepOutcome, Stuck, Final, Next, Ask, step}
+use Rattle.cc_runs.specs.Runs.{Ending, Ends, IsStopped, end_with}
 use Rattle.cc_replay.specs.declared.replaying.Replayed.{Replayed}
 use Rattle.cc_replay.specs.declared.replaying.Replayed.TheVariants.{Agrees, Differs}
-use Rattle.cc_run_texts.specs.RunTexts.{operated_text, event_text, end_text}
+use Rattle.cc_replay.specs.RunTexts.{operated_text, event_text, end_text}
 use Rattle.cc_words.specs.Lines.{Line}
 use Rattle.cc_words.specs.Words.{after_prefix, signed_of}
 
@@ -74,19 +74,19 @@ operation_next names device operation argument rest (line ∷ others) =
     answered_next names device operation argument rest (answer_in names device operation line) (line ∷ others)
 
 -- the end of a run that takes no further step, by what would come of its last configuration
-abbrev pub ending_in : Configuration → Outcome → Ending
+abbrev pub ending_in : Configuration → StepOutcome → Ending
 ending_in configuration Stuck = IsStopped
 ending_in configuration Final = end_with (shown configuration)
 ending_in configuration (Next event next) = Ends OutOfFuel
 ending_in configuration (Ask device operation argument resume) = Ends OutOfFuel
 
 -- the end after so many steps must be the last line
-abbrev pub end_next : List (List ℕ) → ℕ → Configuration → Outcome → Comparison
+abbrev pub end_next : List (List ℕ) → ℕ → Configuration → StepOutcome → Comparison
 end_next names steps configuration outcome lines =
     text_next (end_text names (ending_in configuration outcome) steps) no_line lines
 
 -- what comes of the replay on from a configuration, by what comes of the configuration
-abbrev pub replay_on : List (List ℕ) → ℕ → (Configuration → Comparison) → Configuration → Outcome → Comparison
+abbrev pub replay_on : List (List ℕ) → ℕ → (Configuration → Comparison) → Configuration → StepOutcome → Comparison
 replay_on names steps rest configuration (Next event next) lines = event_next names event (rest next) lines
 replay_on names steps rest configuration (Ask device operation argument resume) lines =
     operation_next names device operation argument (λ answer. rest (resume answer)) lines

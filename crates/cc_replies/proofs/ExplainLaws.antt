@@ -9,12 +9,12 @@ use Rattle.cc_base.specs.declared.device.DeviceDecl.{DeviceDecl}
 use Rattle.cc_capture.proofs.Membership.{Member-list}
 use Rattle.cc_capture.specs.declared.var.Elem.{Elem}
 use Rattle.cc_explain.specs.Chains.{IsFirstShortest}
-use Rattle.cc_meta_links.proofs.Linked.{elements_are_linked}
-use Rattle.cc_meta_links.specs.PresentLinks.{Target, DefinitionOf, DeviceAt, Universal, element_of, entry_or_none, entry_in}
-use Rattle.cc_meta_modules.specs.ModuleLaws.{NamesOfDevicesDiffer}
-use Rattle.cc_meta_modules.specs.ModuleVerdicts.{ModuleVerdict}
-use Rattle.cc_meta_modules.specs.PresentTexts.{Texts, ArePresent, AreVerdicts}
-use Rattle.cc_meta_modules.specs.StandingDefinitions.{Standing, standing_in}
+use Rattle.cc_entry_laws.proofs.Linked.{elements_are_linked}
+use Rattle.cc_entry_laws.specs.PresentLinks.{Target, DefinitionOf, DeviceAt, Universal, element_of, entry_or_none, entry_in}
+use Rattle.cc_verdicts.specs.ModuleLaws.{NamesOfDevicesDiffer}
+use Rattle.cc_verdicts.specs.ModuleVerdicts.{ModuleVerdict}
+use Rattle.cc_verdicts.specs.PresentTexts.{Texts, ArePresent, AreVerdicts}
+use Rattle.cc_verdicts.specs.StandingDefinitions.{Standing, standing_in}
 use Rattle.cc_replies.proofs.FirstChains.{first_chains_are_one, first_chains_exist}
 use Rattle.cc_replies.specs.ExplainReplies.{Explains, AreExplained, IsExplainAnswer}
 use Rattle.cc_replies.specs.ReplyTexts.{Reply, Explanation, Explained, ExplainRefused}

@@ -4,7 +4,7 @@ use Rattle.cc_mnf.specs.ElaboratedModules.{device_names}
 use Rattle.cc_replies.specs.ReplyTexts.{reply_text, is_refusal}
 use Rattle.cc_replies.specs.Replies.{after}
 use Rattle.cc_replies.specs.Outputs.{IsOutput}
-use Rattle.cc_replies.specs.Laws.{OutputsExist, OutputsAreUnique, OutputsAreJoined}
+use Rattle.cc_replies.specs.ReplyLaws.{OutputsExist, OutputsAreUnique, OutputsAreJoined}
 use Rattle.cc_replies.proofs.PresentAfter.{texts_stay_present}
 use Rattle.cc_replies.proofs.ReplyLaws.{replies_exist, replies_are_unique}
 

@@ -6,7 +6,7 @@ use Rattle.cc_mnf.specs.ElaboratedModules.{device_names}
 use Rattle.cc_policy.specs.declared.policy.Rule.{Rule}
 use Rattle.cc_policy.specs.Policies.{decision_of, denial}
 use Rattle.cc_policy.proofs.Deciding.{rules_decide, rules_decide_once}
-use Rattle.cc_replies.specs.Laws.{ToldDecisionsAreDecided, PermissionIsTested, PermittedEntriesAreRun, OtherEntriesAreNotRun}
+use Rattle.cc_replies.specs.ReplyLaws.{ToldDecisionsAreDecided, PermissionIsTested, PermittedEntriesAreRun, OtherEntriesAreNotRun}
 use Rattle.cc_replies.specs.PolicyReplies.{Allows, decision_named, decision_for, are_allowed}
 use Rattle.cc_replies.specs.ReplyTexts.{Reply}
 

@@ -11,11 +11,11 @@ use Rattle.std.specs.declared.cmp.Ordering.{Ordering}
 use Rattle.std.specs.declared.cmp.Ordering.TheVariants.{Less, Equal, Greater}
 use Rattle.std.proofs.lemmas.Cmp.{on_total, nat_list_cmp_total}
 use Rattle.cc_base.specs.Names.{compare_names}
-use Rattle.cc_meta_modules.specs.PresentTexts.{Texts, ArePresent}
+use Rattle.cc_verdicts.specs.PresentTexts.{Texts, ArePresent}
 use Rattle.cc_replies.specs.ReplyTexts.{is_refusal}
 use Rattle.cc_replies.specs.Replies.{put_reply}
 use Rattle.cc_replies.specs.Requests.{PutText, DropModule, SetPolicy, VerifyText, Ask}
-use Rattle.cc_replies.specs.Laws.{TextsStayPresent}
+use Rattle.cc_replies.specs.ReplyLaws.{TextsStayPresent}
 
 names_total : IsTotalOrder compare_names
 names_total = on_total encode_utf8_all nat_list_cmp_total

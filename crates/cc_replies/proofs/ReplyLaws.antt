@@ -7,15 +7,15 @@ use Rattle.std.proofs.lemmas.Slice.Eq.{bytes_eq-Decides}
 use Rattle.cc_base.specs.declared.code.Code.{Code}
 use Rattle.cc_base.specs.declared.code.Code.TheVariants.{E32}
 use Rattle.cc_base.specs.declared.device.DeviceDecl.{DeviceDecl}
-use Rattle.cc_meta_entries.specs.PresentEntries.{CheckedEntry, started_in, IsEntryOf}
-use Rattle.cc_meta_entries.proofs.MadeEntries.{entries_exist}
-use Rattle.cc_meta_entries.proofs.AnyVerdicts.{started_definitions_are_one, entries_are_one}
-use Rattle.cc_meta_modules.specs.ModuleLaws.{NamesOfDevicesDiffer}
-use Rattle.cc_meta_modules.specs.ModuleVerdicts.{CheckedDefinition, ModuleVerdict}
-use Rattle.cc_meta_modules.specs.PresentTexts.{Texts, ArePresent, text_of, AreVerdicts}
-use Rattle.cc_meta_modules.specs.StandingDefinitions.{standing_in}
-use Rattle.cc_meta_modules.proofs.PresentLaws.{present_verdicts_exist, present_verdicts_are_unique}
-use Rattle.cc_meta_modules.proofs.FoundStanding.{found_by_texts}
+use Rattle.cc_entry_laws.specs.PresentEntries.{CheckedEntry, started_in, IsEntryOf}
+use Rattle.cc_entry_laws.proofs.MadeEntries.{entries_exist}
+use Rattle.cc_entry_laws.proofs.AnyVerdicts.{started_definitions_are_one, entries_are_one}
+use Rattle.cc_verdicts.specs.ModuleLaws.{NamesOfDevicesDiffer}
+use Rattle.cc_verdicts.specs.ModuleVerdicts.{CheckedDefinition, ModuleVerdict}
+use Rattle.cc_verdicts.specs.PresentTexts.{Texts, ArePresent, text_of, AreVerdicts}
+use Rattle.cc_verdicts.specs.StandingDefinitions.{standing_in}
+use Rattle.cc_verdicts.proofs.PresentLaws.{present_verdicts_exist, present_verdicts_are_unique}
+use Rattle.cc_verdicts.proofs.FoundStanding.{found_by_texts}
 use Rattle.cc_mnf.specs.ElaboratedModules.{device_names}
 use Rattle.cc_policy.specs.declared.policy.Rule.{Rule}
 use Rattle.cc_certificate_judging.proofs.BytesFound.{something_is_found, one_thing_is_found}
@@ -24,7 +24,7 @@ use Rattle.cc_replies.specs.ReplyTexts.{Reply, PolicySet, Verified, SignaturesRe
 use Rattle.cc_replies.specs.Requests.{Question, CheckModules, ShowSignature, ShowDerivation, RunDefinition, RunTasks, AuditDefinition, GuardDefinition, ExplainDefinition, ReplayDefinition, PutText, DropModule, SetPolicy, VerifyText, Ask}
 use Rattle.cc_replies.specs.Replies.{put_reply, drop_reply, check_reply, definitions_reply, signature_reply, derivation_reply, IsAnswer}
 use Rattle.cc_replies.specs.RunReplies.{declared_run, run_told, IsEntryAnswer, Unstarted, unstarted_or, first_unstarted, HasEntry, HaveEntries, tasks_told, IsTasksAnswer}
-use Rattle.cc_replies.specs.Laws.{RepliesExist, RepliesAreUnique}
+use Rattle.cc_replies.specs.ReplyLaws.{RepliesExist, RepliesAreUnique}
 use Rattle.cc_replies.specs.ReplayReplies.{replay_told}
 use Rattle.cc_replies.proofs.ExplainLaws.{explain_alike, explain_answer}
 

@@ -9,12 +9,12 @@ use Rattle.cc_base.specs.declared.device.DeviceDecl.{DeviceDecl}
 use Rattle.cc_graph.specs.Graph.{reaches}
 use Rattle.cc_grammar.specs.Syntax.{ImportSyntax}
 use Rattle.cc_judge.specs.Judgements.{Judgement, judgement_in, judgements, is_stale, stale_count}
-use Rattle.cc_meta_modules.specs.ModuleLaws.{NamesOfDevicesDiffer}
-use Rattle.cc_meta_modules.proofs.PresentLaws.{present_verdicts_exist, present_verdicts_are_unique}
-use Rattle.cc_meta_modules.specs.ModuleVerdicts.{Finding, InCycle, NoModule, ModuleVerdict}
-use Rattle.cc_meta_modules.specs.PresentTexts.{Texts, ArePresent, text_of, graph_of, finding_in, finding_for, findings_for, AreVerdicts}
-use Rattle.cc_meta_modules.specs.Readings.{imports_of}
-use Rattle.cc_replies.specs.Laws.{StaleModulesAreCounted, StaleModulesAreCountedOnce}
+use Rattle.cc_verdicts.specs.ModuleLaws.{NamesOfDevicesDiffer}
+use Rattle.cc_verdicts.proofs.PresentLaws.{present_verdicts_exist, present_verdicts_are_unique}
+use Rattle.cc_verdicts.specs.ModuleVerdicts.{Finding, InCycle, NoModule, ModuleVerdict}
+use Rattle.cc_verdicts.specs.PresentTexts.{Texts, ArePresent, text_of, graph_of, finding_in, finding_for, findings_for, AreVerdicts}
+use Rattle.cc_verdicts.specs.Readings.{imports_of}
+use Rattle.cc_replies.specs.ReplyLaws.{StaleModulesAreCounted, StaleModulesAreCountedOnce}
 use Rattle.cc_replies.specs.Replies.{after}
 use Rattle.cc_replies.specs.Requests.{Request, PutText, DropModule, SetPolicy, VerifyText, Ask, JobState}
 use Rattle.cc_replies.specs.StaleModules.{Checks, FindsStale, AreStale}

@@ -13,9 +13,9 @@ use Rattle.cc_grammar.specs.Syntax.{ModuleSyntax}
 use Rattle.cc_grammar.specs.Tests.{operation_named}
 use Rattle.cc_grammar.specs.Reading.{reading_of, module_at, imports_at, import_at, defs_at, def_at, def_rule_at, part_at, expr_over, links_at, next_link, link_at, dot_at, operation_at, link_rule_at, expr_start_at, fun_at, expr_rule_at, type_over, shape_over, shape_start_at, paren_at, named_at, shape_rule_at, one_part_at, written_at, captures_at, set_at, caret_at, elements_at, name_at, placed_name_at, symbol_at, word_at}
 use Rattle.cc_lex.specs.Cutting.{word_of, short_symbol, pair_symbol, front_of, blank_of, token_of, number_of}
-use Rattle.cc_meta_modules.specs.ModuleVerdicts.{ModuleVerdict, IsAccepted, IsRefused, import_is_missing}
-use Rattle.cc_meta_modules.specs.PresentTexts.{Texts, graph_of, finding_for, AreVerdicts}
-use Rattle.cc_meta_modules.specs.Readings.{IsTree, IsNoModule, reading_of_text}
+use Rattle.cc_verdicts.specs.ModuleVerdicts.{ModuleVerdict, IsAccepted, IsRefused, import_is_missing}
+use Rattle.cc_verdicts.specs.PresentTexts.{Texts, graph_of, finding_for, AreVerdicts}
+use Rattle.cc_verdicts.specs.Readings.{IsTree, IsNoModule, reading_of_text}
 use Rattle.cc_replies.specs.ReplyTexts.{PutDone, PutRefused, DropRefused, SignaturesRefused, line}
 use Rattle.cc_replies.specs.Replies.{check_reply}
 use Rattle.cc_replies.specs.RefusalExamples as example

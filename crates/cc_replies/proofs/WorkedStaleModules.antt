@@ -6,9 +6,9 @@ use Rattle.cc_grammar.specs.Syntax.{ModuleSyntax}
 use Rattle.cc_grammar.specs.Reading.{reading_of, module_at, imports_at, import_at, defs_at, def_at, def_rule_at, one_part_at, name_at, placed_name_at, symbol_at, word_at}
 use Rattle.cc_judge.specs.Judgements.{Judgement, judgements}
 use Rattle.cc_lex.specs.Cutting.{word_of, short_symbol, pair_symbol, front_of, blank_of, token_of, number_of}
-use Rattle.cc_meta_modules.specs.ModuleVerdicts.{ModuleVerdict, IsAccepted, HasModuleVerdict, is_judged, no_more}
-use Rattle.cc_meta_modules.specs.PresentTexts.{Texts, AreVerdicts}
-use Rattle.cc_meta_modules.specs.Readings.{IsTree, reading_of_text}
+use Rattle.cc_verdicts.specs.ModuleVerdicts.{ModuleVerdict, IsAccepted, HasModuleVerdict, is_judged, no_more}
+use Rattle.cc_verdicts.specs.PresentTexts.{Texts, AreVerdicts}
+use Rattle.cc_verdicts.specs.Readings.{IsTree, reading_of_text}
 use Rattle.cc_mnf.specs.Elaboration.{elaborated}
 use Rattle.cc_mnf.specs.ElaboratedModules.{IsElaborated, elaboration, device_names}
 use Rattle.cc_mnf.specs.Steps.{followed, gives, refuses, new_hole, with_own_holes}

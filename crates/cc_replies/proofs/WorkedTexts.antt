@@ -9,10 +9,10 @@ use Rattle.cc_base.specs.declared.device.DeviceDecl.{DeviceDecl}
 use Rattle.cc_base.specs.declared.place.Place.{Place}
 use Rattle.cc_graph.proofs.NameLemmas.{same_name}
 use Rattle.cc_grammar.specs.Syntax.{ModuleSyntax}
-use Rattle.cc_meta_modules.specs.ModuleVerdicts.{Finding, ModuleVerdict, IsAccepted, IsRefused, HasModuleVerdict, is_no_module}
-use Rattle.cc_meta_modules.specs.PresentTexts.{Texts, text_of, findings_for, AreVerdicts}
-use Rattle.cc_meta_modules.specs.Readings.{IsTree, IsNoModule, HasReading, reading_of_text}
-use Rattle.cc_meta_modules.proofs.ReadingLaws.{text_has_one_reading}
+use Rattle.cc_verdicts.specs.ModuleVerdicts.{Finding, ModuleVerdict, IsAccepted, IsRefused, HasModuleVerdict, is_no_module}
+use Rattle.cc_verdicts.specs.PresentTexts.{Texts, text_of, findings_for, AreVerdicts}
+use Rattle.cc_verdicts.specs.Readings.{IsTree, IsNoModule, HasReading, reading_of_text}
+use Rattle.cc_verdicts.proofs.ReadingLaws.{text_has_one_reading}
 
 -- what holds of each present text holds of the text of a name
 of_text : (P : List ℕ → List ℕ → Type 0) (texts : Texts) → AllByRecursion (λ one. P one.0 one.1) texts

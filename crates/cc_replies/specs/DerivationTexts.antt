@@ -1,10 +1,10 @@
 -- How the derivation of a definition is shown.
 use Rattle.std.specs.Prelude.{ℕ, nat_le, List, [], Option, Some, None, if◌then◌else◌}
-use Rattle.cc_certificate.specs.DefinitionCertificates.{definition_certificate_lines}
+use Rattle.cc_certificate_writing.specs.DefinitionCertificates.{definition_certificate_lines}
 use Rattle.cc_core.specs.Contexts.{Context}
-use Rattle.cc_meta_checking.specs.AcceptedDefinitions.{accepted_derived}
-use Rattle.cc_sets.specs.DerivationSizes.{nodes}
-use Rattle.cc_sets.specs.Verdicts.{Accepted}
+use Rattle.cc_checking_laws.specs.AcceptedDefinitions.{accepted_derived}
+use Rattle.cc_checking.specs.DerivationSizes.{nodes}
+use Rattle.cc_checking.specs.Verdicts.{Accepted}
 use Rattle.cc_replies.specs.ReplyTexts.{Derived, reply_text}
 
 -- The text of the reply that shows the certificate of the accepted definition, in the context with these names, where

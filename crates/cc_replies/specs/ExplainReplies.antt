@@ -4,10 +4,10 @@ use Rattle.cc_base.specs.declared.code.Code.{Code}
 use Rattle.cc_base.specs.declared.device.DeviceDecl.{DeviceDecl}
 use Rattle.cc_capture.specs.declared.var.Elem.{Elem}
 use Rattle.cc_explain.specs.Chains.{IsFirstShortest}
-use Rattle.cc_meta_links.specs.PresentLinks.{Target, DefinitionOf, element_of, entry_in}
-use Rattle.cc_meta_modules.specs.ModuleVerdicts.{ModuleVerdict}
-use Rattle.cc_meta_modules.specs.PresentTexts.{Texts}
-use Rattle.cc_meta_modules.specs.StandingDefinitions.{Standing}
+use Rattle.cc_entry_laws.specs.PresentLinks.{Target, DefinitionOf, element_of, entry_in}
+use Rattle.cc_verdicts.specs.ModuleVerdicts.{ModuleVerdict}
+use Rattle.cc_verdicts.specs.PresentTexts.{Texts}
+use Rattle.cc_verdicts.specs.StandingDefinitions.{Standing}
 use Rattle.cc_replies.specs.ReplyTexts.{Reply, Explanation, Explained, ExplainRefused}
 
 -- The explanation of an element: its target is the element, and its chain is the first of the shortest ones that lead to it

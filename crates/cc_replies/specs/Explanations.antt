@@ -2,7 +2,7 @@
 use Rattle.std.specs.Prelude.{ℕ, List, [], map, Option, Some, None, slice_get}
 use Rattle.cc_explain.specs.declared.target.Target.{Target as NumberedTarget}
 use Rattle.cc_explain.specs.declared.target.Target.TheVariants.{Definition, Device, Cap}
-use Rattle.cc_meta_links.specs.PresentLinks.{Target, DefinitionOf, DeviceAt, Universal}
+use Rattle.cc_entry_laws.specs.PresentLinks.{Target, DefinitionOf, DeviceAt, Universal}
 use Rattle.cc_replies.specs.ReplyTexts.{Explanation}
 use Rattle.cc_replies.specs.declared.chains.DefinitionName.{DefinitionName}
 use Rattle.cc_replies.specs.declared.chains.FoundChain.{FoundChain}

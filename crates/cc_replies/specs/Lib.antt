@@ -1,9 +1,9 @@
 pub mod CertificateTexts
 pub mod DerivationTexts
-pub mod Examples
+pub mod ReplyExamples
 pub mod ExplainReplies
 pub mod Explanations
-pub mod Laws
+pub mod ReplyLaws
 pub mod Outputs
 pub mod PolicyReplies
 pub mod Replies

@@ -4,10 +4,10 @@ use Rattle.std.specs.List.{AllByRecursion, list_all}
 use Rattle.cc_base.specs.declared.code.Code.{Code}
 use Rattle.cc_base.specs.declared.code.Code.TheVariants.{E37}
 use Rattle.cc_base.specs.declared.device.DeviceDecl.{DeviceDecl}
-use Rattle.cc_meta_entries.specs.PresentEntries.{CheckedEntry}
-use Rattle.cc_meta_modules.specs.ModuleVerdicts.{CheckedDefinition, ModuleVerdict}
-use Rattle.cc_meta_modules.specs.PresentTexts.{Texts}
-use Rattle.cc_meta_runs.specs.Runs.{Run}
+use Rattle.cc_entry_laws.specs.PresentEntries.{CheckedEntry}
+use Rattle.cc_verdicts.specs.ModuleVerdicts.{CheckedDefinition, ModuleVerdict}
+use Rattle.cc_verdicts.specs.PresentTexts.{Texts}
+use Rattle.cc_runs.specs.Runs.{Run}
 use Rattle.cc_mnf.specs.ElaboratedModules.{device_names}
 use Rattle.cc_policy.specs.declared.policy.Decision.{Decision}
 use Rattle.cc_policy.specs.declared.policy.Rule.{Rule}

@@ -4,7 +4,7 @@ use Rattle.std.specs.Prelude.{◌≡◌, ℕ, Bool, true, false, List, [], ◌�
 use Rattle.std.specs.List.{flat_map}
 use Rattle.cc_base.specs.Texts.{code_text}
 use Rattle.cc_base.specs.declared.code.Code.TheVariants as code
-use Rattle.cc_meta_modules.specs.PresentTexts.{Texts}
+use Rattle.cc_verdicts.specs.PresentTexts.{Texts}
 use Rattle.cc_replies.specs.ReplyTexts.{line}
 use Rattle.cc_replies.specs.Requests.{CheckModules, ShowSignature, Request, PutText, DropModule, Ask, holding}
 use Rattle.cc_replies.specs.Outputs.{IsOutput}

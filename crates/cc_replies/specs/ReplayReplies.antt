@@ -2,10 +2,10 @@
 use Rattle.std.specs.Prelude.{ℕ, List, Result}
 use Rattle.cc_base.specs.declared.code.Code.{Code}
 use Rattle.cc_base.specs.declared.device.DeviceDecl.{DeviceDecl}
-use Rattle.cc_meta_entries.specs.PresentEntries.{CheckedEntry, program_entry}
-use Rattle.cc_meta_modules.specs.ModuleVerdicts.{CheckedDefinition, ModuleVerdict}
-use Rattle.cc_meta_modules.specs.PresentTexts.{Texts}
-use Rattle.cc_meta_runs.specs.Links.{program_start}
+use Rattle.cc_entry_laws.specs.PresentEntries.{CheckedEntry, program_entry}
+use Rattle.cc_verdicts.specs.ModuleVerdicts.{CheckedDefinition, ModuleVerdict}
+use Rattle.cc_verdicts.specs.PresentTexts.{Texts}
+use Rattle.cc_runs.specs.Links.{program_start}
 use Rattle.cc_mnf.specs.ElaboratedModules.{device_names}
 use Rattle.cc_replay.specs.Replays.{replay}
 use Rattle.cc_replies.specs.ReplyTexts.{Reply, Replayed, ReplayRefused}

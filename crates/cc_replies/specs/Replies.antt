@@ -7,13 +7,13 @@ use Rattle.std.specs.Str.{bytes_eq}
 use Rattle.cc_base.specs.declared.code.Code.{Code}
 use Rattle.cc_base.specs.declared.code.Code.TheVariants.{E30, E31, E32, E34, E36}
 use Rattle.cc_base.specs.declared.device.DeviceDecl.{DeviceDecl}
-use Rattle.cc_certificate.specs.DefinitionCertificates.{definition_certificate_lines}
+use Rattle.cc_certificate_writing.specs.DefinitionCertificates.{definition_certificate_lines}
 use Rattle.cc_base.specs.Names.{compare_names}
-use Rattle.cc_meta_checking.specs.AcceptedDefinitions.{accepted_derived}
-use Rattle.cc_meta_entries.specs.PresentEntries.{started_in}
-use Rattle.cc_meta_modules.specs.ModuleVerdicts.{ModuleVerdict, IsAccepted, IsRefused}
-use Rattle.cc_meta_modules.specs.PresentTexts.{Texts, text_of, AreVerdicts, others_present, longest_text, most_modules}
-use Rattle.cc_meta_modules.specs.StandingDefinitions.{Standing, standing_context, standing_names, standing_in}
+use Rattle.cc_checking_laws.specs.AcceptedDefinitions.{accepted_derived}
+use Rattle.cc_entry_laws.specs.PresentEntries.{started_in}
+use Rattle.cc_verdicts.specs.ModuleVerdicts.{ModuleVerdict, IsAccepted, IsRefused}
+use Rattle.cc_verdicts.specs.PresentTexts.{Texts, text_of, AreVerdicts, others_present, longest_text, most_modules}
+use Rattle.cc_verdicts.specs.StandingDefinitions.{Standing, standing_context, standing_names, standing_in}
 use Rattle.cc_policy.specs.declared.policy.Rule.{Rule}
 use Rattle.cc_replies.specs.ReplyTexts.{Reply, PutDone, PutRefused, DropDone, DropRefused, Verdicts, Signatures}
 use Rattle.cc_replies.specs.ReplyTexts.{PolicySet, Verified, SignaturesRefused, Derived, DerivationRefused, is_refusal}
@@ -25,7 +25,7 @@ use Rattle.cc_replies.specs.Requests.{Question, CheckModules, ShowSignature, Sho
 use Rattle.cc_replies.specs.Requests.{AuditDefinition, GuardDefinition, ExplainDefinition, ReplayDefinition}
 use Rattle.cc_replies.specs.Requests.{Request, PutText, DropModule, SetPolicy, VerifyText, Ask, JobState}
 use Rattle.cc_replies.specs.RunReplies.{IsRunAnswer, first_unstarted, IsTasksAnswer}
-use Rattle.cc_sets.specs.DerivationSizes.{nodes}
+use Rattle.cc_checking.specs.DerivationSizes.{nodes}
 
 -- the text is put unless it is too long, or no more modules may be present
 abbrev pub put_reply : Texts → List ℕ → List ℕ → Reply

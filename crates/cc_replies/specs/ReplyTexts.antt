@@ -8,16 +8,16 @@ use Rattle.cc_base.specs.declared.place.Place.{Place}
 use Rattle.cc_device.specs.Endings.{Done, OutOfFuel}
 use Rattle.cc_device.specs.Events.{Event}
 use Rattle.cc_print.specs.TypeTexts.{type_text}
-use Rattle.cc_meta_links.specs.PresentLinks.{Target, DefinitionOf, DeviceAt, Universal}
-use Rattle.cc_meta_runs.specs.Interleavings.{Report}
-use Rattle.cc_meta_runs.specs.Runs.{Ending, Ends, IsStopped}
-use Rattle.cc_meta_modules.specs.ModuleVerdicts.{CheckedDefinition, ModuleVerdict, IsAccepted, IsRefused}
+use Rattle.cc_entry_laws.specs.PresentLinks.{Target, DefinitionOf, DeviceAt, Universal}
+use Rattle.cc_runs.specs.Interleavings.{Report}
+use Rattle.cc_runs.specs.Runs.{Ending, Ends, IsStopped}
+use Rattle.cc_verdicts.specs.ModuleVerdicts.{CheckedDefinition, ModuleVerdict, IsAccepted, IsRefused}
 use Rattle.cc_policy.specs.declared.policy.Decision.{Decision}
 use Rattle.cc_certificate_judging.specs.Answers.{Found, found_text, is_valid}
 use Rattle.cc_replay.specs.declared.replaying.Replayed.{Replayed as Outcome}
 use Rattle.cc_replay.specs.declared.replaying.Replayed.TheVariants.{Agrees, Differs}
 use Rattle.cc_replies.specs.TaskTexts.{task_lines}
-use Rattle.cc_run_texts.specs.RunTexts.{device_text, run_lines}
+use Rattle.cc_replay.specs.RunTexts.{device_text, run_lines}
 
 -- why an element stands in a set: what it is, and a chain of links that leads to it
 pub record Explanation : Type 0 where

@@ -1,6 +1,6 @@
 -- What the commands of a job ask for, and what they change.
 use Rattle.std.specs.Prelude.{ℕ, List, []}
-use Rattle.cc_meta_modules.specs.PresentTexts.{Texts}
+use Rattle.cc_verdicts.specs.PresentTexts.{Texts}
 use Rattle.cc_policy.specs.declared.policy.Rule.{Rule}
 
 -- What is asked of the present modules, once they are checked: the verdicts of all; the signatures of a module; the

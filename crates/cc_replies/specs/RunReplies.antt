@@ -3,12 +3,12 @@ use Rattle.std.specs.Prelude.{◌≡◌, ℕ, List, [], ◌∷◌, map, Option, 
 use Rattle.cc_base.specs.declared.code.Code.{Code}
 use Rattle.cc_base.specs.declared.device.DeviceDecl.{DeviceDecl}
 use Rattle.cc_device.specs.Declarations.{declared_devices}
-use Rattle.cc_meta_entries.specs.PresentEntries.{CheckedEntry, program_entry, started_in, IsEntryOf}
-use Rattle.cc_meta_modules.specs.ModuleVerdicts.{CheckedDefinition, ModuleVerdict}
-use Rattle.cc_meta_modules.specs.PresentTexts.{Texts}
-use Rattle.cc_meta_runs.specs.Interleavings.{state_of, interleaved_run}
-use Rattle.cc_meta_runs.specs.Links.{program_start}
-use Rattle.cc_meta_runs.specs.Runs.{Run, run}
+use Rattle.cc_entry_laws.specs.PresentEntries.{CheckedEntry, program_entry, started_in, IsEntryOf}
+use Rattle.cc_verdicts.specs.ModuleVerdicts.{CheckedDefinition, ModuleVerdict}
+use Rattle.cc_verdicts.specs.PresentTexts.{Texts}
+use Rattle.cc_runs.specs.Interleavings.{state_of, interleaved_run}
+use Rattle.cc_runs.specs.Links.{program_start}
+use Rattle.cc_runs.specs.Runs.{Run, run}
 use Rattle.cc_replies.specs.ReplyTexts.{Reply, Ran, RunRefused, TasksRan, TasksRefused}
 
 -- What is answered about a definition that is to be started: what is told of its entry, where there is this one to be

@@ -2,7 +2,7 @@
 use Rattle.std.specs.Prelude.{◌≡◌, ℕ, List, [], ◌∷◌, codes}
 use Rattle.cc_base.specs.declared.device.DeviceDecl.{DeviceDecl}
 use Rattle.cc_judge.specs.Judgements.{Judgement}
-use Rattle.cc_meta_modules.specs.PresentTexts.{Texts}
+use Rattle.cc_verdicts.specs.PresentTexts.{Texts}
 use Rattle.cc_policy.specs.declared.policy.Rule.{Rule}
 use Rattle.cc_replies.specs.Requests.{CheckModules, ShowSignature, AuditDefinition, GuardDefinition, PutText, DropModule}
 use Rattle.cc_replies.specs.Requests.{SetPolicy, VerifyText, Ask, JobState, no_module}

@@ -2,9 +2,9 @@
 use Rattle.std.specs.Prelude.{ℕ, suc, List, [], ◌∷◌, ◌++◌, map, codes}
 use Rattle.std.specs.Fmt.{decimal}
 use Rattle.cc_device.specs.Events.{Event}
-use Rattle.cc_meta_runs.specs.Interleavings.{Report}
-use Rattle.cc_meta_runs.specs.Runs.{Ending}
-use Rattle.cc_run_texts.specs.RunTexts.{authority_text, event_text, end_text}
+use Rattle.cc_runs.specs.Interleavings.{Report}
+use Rattle.cc_runs.specs.Runs.{Ending}
+use Rattle.cc_replay.specs.RunTexts.{authority_text, event_text, end_text}
 
 -- the number of a task, and what is told of it
 abbrev pub of_task : ℕ → List ℕ → List ℕ

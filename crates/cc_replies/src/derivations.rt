@@ -2,16 +2,16 @@
 
 ghost use Rattle.std.specs.Prelude.{◌≡◌, [], IfOk, option_map};
 ghost use Rattle.std.specs.String.{string_bytes};
-ghost use Rattle.cc_certificate.specs.DefinitionCertificates.{definition_certificate_lines};
+ghost use Rattle.cc_certificate_writing.specs.DefinitionCertificates.{definition_certificate_lines};
 ghost use Rattle.cc_check.specs.Definitions.{accepted_of};
-ghost use Rattle.cc_core.specs.Views.{context_of};
+ghost use Rattle.cc_core.specs.TermViews.{context_of};
 ghost use Rattle.cc_derive.specs.Accepting.{IsAcceptedIn};
 ghost use Rattle.cc_replies.specs.DerivationTexts.{shown_derivation};
 ghost use Rattle.cc_replies.specs.ReplyTexts.{Derived, DerivationRefused, reply_text};
 
 use cc_base::code::Code;
 use cc_base::name::Name;
-use cc_certificate::put_cert;
+use cc_certificate_writing::put_cert;
 use cc_core::{Checked, Ctx};
 use cc_derive::{derive, has_more_nodes};
 use cc_print::Names;

@@ -10,7 +10,7 @@ ghost use Rattle.cc_replies.specs.ReplyTexts.{Explained, ExplainRefused, reply_t
 use crate::chains::{DefinitionName, FoundChain};
 use cc_base::code::Code;
 use cc_base::name::Name;
-use cc_certificate::writing::{put, put_position};
+use cc_certificate_writing::writing::{put, put_position};
 use cc_explain::target::Target;
 use cc_print::Names;
 use std::alloc::{AllocError, Global};

@@ -5,12 +5,12 @@
 pub mod certificates;
 pub mod chains;
 pub mod derivations;
-pub mod examples;
 pub mod explanations;
-pub mod laws;
 pub mod modules;
 pub mod policies;
 pub mod replays;
+pub mod reply_examples;
+pub mod reply_laws;
 pub mod runs;
 pub mod signatures;
 pub mod tasks;

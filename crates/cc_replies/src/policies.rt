@@ -7,7 +7,7 @@ ghost use Rattle.cc_replies.specs.ReplyTexts.{PolicySet, Audited, AuditRefused, 
 
 use cc_base::code::Code;
 use cc_base::name::Name;
-use cc_certificate::writing::{put, put_position};
+use cc_certificate_writing::writing::{put, put_position};
 use cc_policy::policy::{Decision, Policy, decide};
 use cc_print::Names;
 use std::alloc::{AllocError, Global};

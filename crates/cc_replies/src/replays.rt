@@ -7,7 +7,7 @@ ghost use Rattle.cc_replies.specs.ReplyTexts.{Replayed as TellsOutcome, ReplayRe
 
 use cc_base::code::Code;
 use cc_base::name::Name;
-use cc_certificate::writing::put;
+use cc_certificate_writing::writing::put;
 use cc_replay::Replayed;
 use std::alloc::{AllocError, Global};
 

@@ -3,19 +3,19 @@
 ghost use Rattle.std.specs.Prelude.{◌≡◌, ◌++◌, [], map, IfOk, OnOk};
 ghost use Rattle.std.specs.List.{flat_map};
 ghost use Rattle.std.specs.String.{string_bytes};
-ghost use Rattle.cc_device.specs.Views.{event_of, end_of};
+ghost use Rattle.cc_device.specs.DeviceViews.{event_of, end_of};
 ghost use Rattle.cc_machine.specs.Reports.{events_of};
-ghost use Rattle.cc_meta_runs.specs.Runs.{Ends};
+ghost use Rattle.cc_runs.specs.Runs.{Ends};
 ghost use Rattle.cc_replies.specs.ReplyTexts.{RunRefused, inner_line, reply_text, run_text, is_unfinished};
-ghost use Rattle.cc_run_texts.specs.RunTexts as plain;
+ghost use Rattle.cc_replay.specs.RunTexts as plain;
 
 use cc_base::code::Code;
 use cc_base::name::Name;
-use cc_certificate::writing::put;
+use cc_certificate_writing::writing::put;
 use cc_device::{End, Event};
 use cc_machine::RunReport;
 use cc_print::Names;
-use cc_run_texts::texts::{put_authority, put_end, put_event};
+use cc_replay::run_texts::{put_authority, put_end, put_event};
 use std::alloc::{AllocError, Global};
 
 // Adds the line of an event.

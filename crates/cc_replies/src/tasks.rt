@@ -6,17 +6,17 @@ ghost use Rattle.std.specs.List.{flat_map, list_any};
 ghost use Rattle.std.specs.String.{string_bytes};
 ghost use Rattle.cc_replies.specs.ReplyTexts.{TasksRan, TasksRefused, inner_line, pair_text, reply_text, is_refusal, is_unfinished};
 ghost use Rattle.cc_replies.specs.TaskTexts as plain;
-ghost use Rattle.cc_run_texts.specs.RunTexts.{authority_text};
+ghost use Rattle.cc_replay.specs.RunTexts.{authority_text};
 ghost use Rattle.cc_tasks.specs.Reports.{told_by, told_event, told_end};
 
 use crate::runs::is_cut_short;
 use cc_base::code::Code;
 use cc_base::name::Name;
-use cc_certificate::writing::put;
+use cc_certificate_writing::writing::put;
 use cc_device::{End, Event};
-use cc_entry::Entry;
 use cc_print::Names;
-use cc_run_texts::texts::{put_authority, put_end, put_event};
+use cc_replay::run_texts::{put_authority, put_end, put_event};
+use cc_session::Entry;
 use cc_tasks::TaskReport;
 use std::alloc::{AllocError, Global};
 

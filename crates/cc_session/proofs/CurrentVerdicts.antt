@@ -9,22 +9,22 @@ use Rattle.std.specs.Str.{bytes_eq}
 use Rattle.cc_base.specs.declared.code.Code.{Code}
 use Rattle.cc_base.specs.declared.code.Code.TheVariants.{E32}
 use Rattle.cc_base.specs.declared.device.DeviceDecl.{DeviceDecl}
-use Rattle.cc_meta_entries.specs.PresentEntries.{started_or, started_by, started_in}
+use Rattle.cc_entry_laws.specs.PresentEntries.{started_or, started_by, started_in}
 use Rattle.cc_graph.proofs.NameLemmas.{same_name, is_same_name}
 use Rattle.cc_graph.proofs.Paths.{IsAmong}
 use Rattle.cc_judge.specs.declared.grounds.Grounds.{Grounds}
 use Rattle.cc_judge.specs.Judgements.{Judgement, judgement_in, AreCurrent}
 use Rattle.cc_judge.specs.declared.last.Last.{Last}
 use Rattle.cc_judge.specs.Kept.{judgements_from, judgements_of}
-use Rattle.cc_meta_modules.specs.ModuleVerdicts.{CheckedDefinition, ModuleVerdict, IsAccepted, IsRefused}
-use Rattle.cc_meta_modules.specs.PresentTexts.{Texts, ArePresent, text_of, AreVerdicts, definition_named}
-use Rattle.cc_meta_modules.proofs.Asking.{map_same}
-use Rattle.cc_meta_modules.proofs.PresentLaws.{present_verdicts_are_unique}
+use Rattle.cc_verdicts.specs.ModuleVerdicts.{CheckedDefinition, ModuleVerdict, IsAccepted, IsRefused}
+use Rattle.cc_verdicts.specs.PresentTexts.{Texts, ArePresent, text_of, AreVerdicts, definition_named}
+use Rattle.cc_verdicts.proofs.Asking.{map_same}
+use Rattle.cc_verdicts.proofs.PresentLaws.{present_verdicts_are_unique}
 use Rattle.cc_module.specs.declared.judgement.ModuleVerdict.{ModuleVerdict as DeclaredVerdict}
 use Rattle.cc_module.specs.Judgements.{module_verdict_of}
 use Rattle.cc_session.specs.EntryParts.{HaveVerdicts, HaveCurrentVerdicts, IsDefinitionOf}
 use Rattle.cc_session.specs.Sessions.{SessionState, IsUpToDate, IsSession}
-use Rattle.cc_session.specs.Signatures.{verdict_named, definitions_of, definitions_or, definition_or, definition_among}
+use Rattle.cc_session.specs.Signatures.{verdict_named, shown_definitions, definitions_or, definition_or, definition_among}
 use Rattle.cc_session.specs.Signatures.{definition_in}
 
 -- what stands among the texts has one
@@ -96,12 +96,12 @@ found_none (Some one) code is = cc
 found_none None code is = cc
 
 found_by_verdict : (verdict : ModuleVerdict) (name : List ℕ) (found : CheckedDefinition)
-    → definition_among name (definitions_of verdict) ≡ Ok found → started_by verdict name ≡ started_or (Some found)
+    → definition_among name (shown_definitions verdict) ≡ Ok found → started_by verdict name ≡ started_or (Some found)
 found_by_verdict (IsAccepted definitions) name found is = found_some (definition_named name definitions) found is
 found_by_verdict (IsRefused code at) name found is = cc
 
 refused_by_verdict : (verdict : ModuleVerdict) (name : List ℕ) (code : Code)
-    → definition_among name (definitions_of verdict) ≡ Err code → started_by verdict name ≡ Err code
+    → definition_among name (shown_definitions verdict) ≡ Err code → started_by verdict name ≡ Err code
 refused_by_verdict (IsAccepted definitions) name code is = found_none (definition_named name definitions) code is
 refused_by_verdict (IsRefused other at) name code is = cc
 

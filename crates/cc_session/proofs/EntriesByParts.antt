@@ -5,17 +5,17 @@ use Rattle.cc_base.specs.declared.literal.Base.{Base}
 use Rattle.cc_core.specs.Programs.{IsEntry}
 use Rattle.cc_core.specs.Stores.{authority}
 use Rattle.cc_device.specs.Declarations.{declared_bases}
-use Rattle.cc_entry.specs.declared.modules.EntryModule.{EntryModule}
-use Rattle.cc_entry.specs.Modules.{entry_in}
-use Rattle.cc_meta_entries.specs.PresentEntries.{program_entry, takes_unit, started_or}
-use Rattle.cc_meta_modules.specs.ModuleLaws.{NamesOfDevicesDiffer}
-use Rattle.cc_meta_modules.specs.ModuleVerdicts.{CheckedDefinition}
-use Rattle.cc_meta_modules.specs.PresentTexts.{Texts, ArePresent}
+use Rattle.cc_session.specs.declared.modules.EntryModule.{EntryModule}
+use Rattle.cc_session.specs.Modules.{entry_in}
+use Rattle.cc_entry_laws.specs.PresentEntries.{program_entry, takes_unit, started_or}
+use Rattle.cc_verdicts.specs.ModuleLaws.{NamesOfDevicesDiffer}
+use Rattle.cc_verdicts.specs.ModuleVerdicts.{CheckedDefinition}
+use Rattle.cc_verdicts.specs.PresentTexts.{Texts, ArePresent}
 use Rattle.cc_module.specs.declared.judgement.ModuleVerdict.{ModuleVerdict as DeclaredVerdict}
 use Rattle.cc_session.specs.EntryParts.{AreReachedModules, HaveCurrentVerdicts, IsStarted, IsCurrentEntry}
-use Rattle.cc_meta_entries.proofs.AcceptedEntries.{present_entries}
+use Rattle.cc_entry_laws.proofs.AcceptedEntries.{present_entries}
 use Rattle.cc_session.proofs.CurrentVerdicts.{have_verdicts}
-use Rattle.cc_meta_entries.proofs.MadeEntries.{made_entry}
+use Rattle.cc_entry_laws.proofs.MadeEntries.{made_entry}
 
 module _ (devices : List DeviceDecl) (texts : Texts) (verdicts : List (List ℕ × DeclaredVerdict))
     (differ : NamesOfDevicesDiffer devices) (sorted : ArePresent texts)

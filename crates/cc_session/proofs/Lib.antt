@@ -1,6 +1,7 @@
-pub mod SessionFacts
-pub mod TextChanges
 pub mod CurrentVerdicts
-pub mod PresentModules
 pub mod EntriesByParts
+pub mod Lists
+pub mod PresentModules
+pub mod SessionFacts
 pub mod StandingFacts
+pub mod TextChanges

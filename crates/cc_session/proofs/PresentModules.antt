@@ -7,17 +7,17 @@ use Rattle.std.proofs.lemmas.List.Elements.{filter-append}
 use Rattle.std.specs.List.{AllByRecursion, filter, slice_get}
 use Rattle.std.specs.Map.{keys_of}
 use Rattle.std.specs.Option.{unwrap_or}
-use Rattle.cc_entry.specs.declared.modules.EntryModule.{EntryModule}
-use Rattle.cc_entry.specs.Modules.{module_of}
+use Rattle.cc_session.specs.declared.modules.EntryModule.{EntryModule}
+use Rattle.cc_session.specs.Modules.{module_of}
 use Rattle.cc_grammar.specs.Syntax.{ImportSyntax}
-use Rattle.cc_meta_entries.specs.PresentEntries.{definitions_of, present_module}
+use Rattle.cc_entry_laws.specs.PresentEntries.{definitions_of, present_module}
 use Rattle.cc_judge.specs.Dependencies.{AreRead}
 use Rattle.cc_judge.specs.Places.{entry_at}
 use Rattle.cc_judge.proofs.Graphs.{reading_of_place}
 use Rattle.cc_judge.proofs.TextPlaces.{text_of_place, place_of_key}
-use Rattle.cc_meta_modules.specs.ModuleVerdicts.{ModuleVerdict}
-use Rattle.cc_meta_modules.specs.PresentTexts.{Texts, ArePresent, text_of}
-use Rattle.cc_meta_modules.specs.Readings.{imports_of}
+use Rattle.cc_verdicts.specs.ModuleVerdicts.{ModuleVerdict}
+use Rattle.cc_verdicts.specs.PresentTexts.{Texts, ArePresent, text_of}
+use Rattle.cc_verdicts.specs.Readings.{imports_of}
 use Rattle.cc_module.specs.declared.judgement.ModuleVerdict.{ModuleVerdict as DeclaredVerdict}
 use Rattle.cc_module.specs.Judgements.{checked_definition_of, module_verdict_of}
 use Rattle.cc_parse.specs.Trees.{import_syntax}

@@ -19,19 +19,19 @@ use Rattle.cc_judge.specs.declared.last.Last.{Last}
 use Rattle.cc_judge.specs.Judgements.{AreJudged, verdicts_of}
 use Rattle.cc_judge.specs.Kept.{named_verdict, named_verdicts, judgements_from, judgements_of, IsKept}
 use Rattle.cc_judge.specs.Places.{IsAbsentKey}
-use Rattle.cc_meta_modules.specs.ModuleLaws.{NamesOfDevicesDiffer}
+use Rattle.cc_verdicts.specs.ModuleLaws.{NamesOfDevicesDiffer}
 use Rattle.cc_base.specs.declared.code.Code.{Code}
 use Rattle.cc_base.specs.declared.code.Code.TheVariants.{E32, E34}
 use Rattle.cc_base.specs.declared.place.Place.{Place}
 use Rattle.cc_base.specs.Names.{compare_names}
 use Rattle.cc_judge.specs.Places.{text_at}
 use Rattle.cc_judge.proofs.TextPlaces.{text_of_place, place_of_key, distinct_keys}
-use Rattle.cc_meta_modules.specs.ModuleVerdicts.{CheckedDefinition, IsAccepted, IsRefused}
-use Rattle.cc_meta_modules.specs.PresentTexts.{Texts, ArePresent, text_of, most_modules}
+use Rattle.cc_verdicts.specs.ModuleVerdicts.{CheckedDefinition, IsAccepted, IsRefused}
+use Rattle.cc_verdicts.specs.PresentTexts.{Texts, ArePresent, text_of, most_modules}
 use Rattle.cc_module.specs.declared.judgement.ModuleVerdict.{ModuleVerdict}
 use Rattle.cc_module.specs.Judgements.{module_verdict_of}
 use Rattle.cc_session.specs.Sessions.{SessionState, IsSession}
-use Rattle.cc_session.specs.Signatures.{verdict_named, definitions_of, definitions_or, signature_of}
+use Rattle.cc_session.specs.Signatures.{verdict_named, shown_definitions, definitions_or, signature_of}
 
 -- the session that keeps these judgements
 abbrev pub state : List DeviceDecl → Texts → Bool → Last → SessionState
@@ -152,7 +152,7 @@ sig_accepted verdicts grounds at name entry definitions same sorted named is acc
     ap definitions_or
     (verdict_at_name verdicts grounds at name entry same (distinct_keys verdicts sorted) named
     (slice_get_read verdicts (length verdicts) at entry refl within is))
-    ∙ ap definitions_of accepted
+    ∙ ap shown_definitions accepted
 
 pub sig_refused : (verdicts : List (List ℕ × ModuleVerdict)) (grounds : List Grounds) (at : ℕ) (name : List ℕ)
     (entry : List ℕ × ModuleVerdict) (code : Code) (place : Place) → length grounds ≡ length verdicts
@@ -168,7 +168,7 @@ sig_refused verdicts grounds at name entry code place same sorted named is refus
     ap definitions_or
     (verdict_at_name verdicts grounds at name entry same (distinct_keys verdicts sorted) named
     (slice_get_read verdicts (length verdicts) at entry refl within is))
-    ∙ ap definitions_of refused
+    ∙ ap shown_definitions refused
 
 pub sig_absent : (verdicts : List (List ℕ × ModuleVerdict)) (grounds : List Grounds) (name : List ℕ)
     → length grounds ≡ length verdicts → IsAbsentKey (keys_of verdicts) name

@@ -18,7 +18,7 @@ use Rattle.cc_base.specs.declared.code.Code.TheVariants.{E32, E34}
 use Rattle.cc_base.specs.declared.device.DeviceDecl.{DeviceDecl}
 use Rattle.cc_base.specs.declared.place.Place.{Place}
 use Rattle.cc_check.specs.Definitions.{accepted_of}
-use Rattle.cc_core.specs.Views.{context_of}
+use Rattle.cc_core.specs.TermViews.{context_of}
 use Rattle.cc_derive.specs.Accepting.{IsAcceptedIn}
 use Rattle.cc_base.specs.Names.{compare_names}
 use Rattle.cc_graph.proofs.NameLemmas.{same_name, is_same_name}
@@ -27,20 +27,20 @@ use Rattle.cc_judge.specs.Judgements.{Judgement, judgement_in, AreCurrent}
 use Rattle.cc_judge.specs.Kept.{judged_on, judgements_from}
 use Rattle.cc_judge.specs.Places.{IsAbsentKey}
 use Rattle.cc_judge.proofs.TextPlaces.{distinct_keys}
-use Rattle.cc_meta_checking.specs.AcceptedDefinitions.{definition_context}
-use Rattle.cc_meta_modules.specs.ModuleLaws.{NamesOfDevicesDiffer}
-use Rattle.cc_meta_modules.specs.ModuleVerdicts.{CheckedDefinition, ModuleVerdict, IsAccepted, IsRefused}
-use Rattle.cc_meta_modules.specs.PresentTexts.{Texts, ArePresent, text_of, AreVerdicts}
-use Rattle.cc_meta_modules.specs.Readings.{imports_of}
-use Rattle.cc_meta_modules.specs.StandingDefinitions.{Standing, first_named, standing_by, standing_from, standing_in}
-use Rattle.cc_meta_modules.proofs.FoundStanding.{found_by_texts}
-use Rattle.cc_meta_modules.proofs.PlacedDefinitions.{standing_accepted}
+use Rattle.cc_checking_laws.specs.AcceptedDefinitions.{definition_context}
+use Rattle.cc_verdicts.specs.ModuleLaws.{NamesOfDevicesDiffer}
+use Rattle.cc_verdicts.specs.ModuleVerdicts.{CheckedDefinition, ModuleVerdict, IsAccepted, IsRefused}
+use Rattle.cc_verdicts.specs.PresentTexts.{Texts, ArePresent, text_of, AreVerdicts}
+use Rattle.cc_verdicts.specs.Readings.{imports_of}
+use Rattle.cc_verdicts.specs.StandingDefinitions.{Standing, first_named, standing_by, standing_from, standing_in}
+use Rattle.cc_verdicts.proofs.FoundStanding.{found_by_texts}
+use Rattle.cc_verdicts.proofs.PlacedDefinitions.{standing_accepted}
 use Rattle.cc_module.specs.declared.judgement.CheckedDef.{CheckedDef}
 use Rattle.cc_module.specs.declared.judgement.ModuleVerdict.{ModuleVerdict as DeclaredVerdict}
 use Rattle.cc_module.specs.Findings.{finding_of}
 use Rattle.cc_module.specs.Judgements.{checked_definition_of, module_verdict_of}
-use Rattle.cc_sets.specs.Verdicts.{Accepted, HasVerdict}
-use Rattle.cc_sets.specs.Verdicts as definitions
+use Rattle.cc_checking.specs.Verdicts.{Accepted, HasVerdict}
+use Rattle.cc_checking.specs.Verdicts as definitions
 use Rattle.cc_session.specs.StandingAnswers.{IsStanding, AnswersStanding, judgement_named, standing_judged, standing_last}
 use Rattle.cc_session.specs.declared.standing.Standing.{Standing as DeclaredStanding}
 use Rattle.cc_session.specs.declared.standing.StandingError.{StandingError}

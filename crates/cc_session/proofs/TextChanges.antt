@@ -19,7 +19,7 @@ use Rattle.cc_base.specs.Names.{compare_names}
 use Rattle.cc_graph.proofs.NameLemmas.{names_total, turned, is_same_name}
 use Rattle.cc_judge.specs.Places.{IsGap, IsAbsentKey}
 use Rattle.cc_judge.proofs.Entries.{turned_back}
-use Rattle.cc_meta_modules.specs.PresentTexts.{Texts, ArePresent, others_present}
+use Rattle.cc_verdicts.specs.PresentTexts.{Texts, ArePresent, others_present}
 
 later_gap : (key : List ℕ) (keys : List (List ℕ)) (name : List ℕ) (gap : ℕ) → IsGap (key ∷ keys) name (suc gap)
     → IsGap keys name gap

@@ -15,11 +15,11 @@ use Rattle.cc_core.specs.Shapes.{ExitShape, CapturingType}
 use Rattle.cc_core.specs.Terms.{Note, Absent, Written, Own, Term, VariableTerm, LiteralTerm, FunctionTerm}
 use Rattle.cc_core.specs.Terms.{TypeFunctionTerm, BoxTerm, Application, TypeApplication, Unboxing, Let, Primitive}
 use Rattle.cc_core.specs.Terms.{Conditional, Repetition, Operation, Boundary, Leave}
-use Rattle.cc_sets.specs.Verdicts.{Accepted}
+use Rattle.cc_checking.specs.Verdicts.{Accepted}
 use Rattle.cc_judge.specs.Judgements.{Judgement}
 use Rattle.cc_judge.specs.StoredTrees.{front, back, tag, apart, literal_tree, one_literal}
-use Rattle.cc_meta_modules.specs.ModuleVerdicts.{Finding, FoundDefinition, NoModule, InCycle, RefusedModule}
-use Rattle.cc_meta_modules.specs.ModuleVerdicts.{NoDefinition, CheckedDefinition, ModuleVerdict, IsAccepted, IsRefused}
+use Rattle.cc_verdicts.specs.ModuleVerdicts.{Finding, FoundDefinition, NoModule, InCycle, RefusedModule}
+use Rattle.cc_verdicts.specs.ModuleVerdicts.{NoDefinition, CheckedDefinition, ModuleVerdict, IsAccepted, IsRefused}
 
 -- the codes of what is not made of other trees
 pub record LeafCodes : Type 0 where

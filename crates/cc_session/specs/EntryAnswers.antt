@@ -1,13 +1,13 @@
 -- What is answered where an entry is asked for.
 use Rattle.std.specs.Prelude.{◌≡◌, ℕ, List, Result, Ok, Err}
 use Rattle.cc_base.specs.declared.device.DeviceDecl.{DeviceDecl}
-use Rattle.cc_entry.specs.declared.entry.Entry.{Entry}
-use Rattle.cc_entry.specs.Entries.{entry_of}
-use Rattle.cc_meta_entries.specs.PresentEntries.{started_in, IsEntryOf}
-use Rattle.cc_meta_modules.specs.ModuleVerdicts.{CheckedDefinition, ModuleVerdict}
-use Rattle.cc_meta_modules.specs.PresentTexts.{Texts, AreVerdicts}
-use Rattle.cc_session.specs.declared.entry.EntryError.{EntryError}
-use Rattle.cc_session.specs.declared.entry.EntryError.TheVariants as errors
+use Rattle.cc_session.specs.declared.entry.Entry.{Entry}
+use Rattle.cc_session.specs.Entries.{entry_of}
+use Rattle.cc_entry_laws.specs.PresentEntries.{started_in, IsEntryOf}
+use Rattle.cc_verdicts.specs.ModuleVerdicts.{CheckedDefinition, ModuleVerdict}
+use Rattle.cc_verdicts.specs.PresentTexts.{Texts, AreVerdicts}
+use Rattle.cc_session.specs.declared.present_entries.EntryError.{EntryError}
+use Rattle.cc_session.specs.declared.present_entries.EntryError.TheVariants as errors
 
 -- The entry of the definition that is run is answered where there is one, and else why there is none, where modules
 -- have these verdicts. Memory is wanting only where there is one.

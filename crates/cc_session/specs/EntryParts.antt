@@ -1,15 +1,15 @@
 -- The parts of an entry as the code makes them. It serves the code alone.
 use Rattle.std.specs.Prelude.{◌≡◌, ℕ, List, ◌++◌, filter, map, Some, Ok}
 use Rattle.cc_base.specs.declared.device.DeviceDecl.{DeviceDecl}
-use Rattle.cc_entry.specs.declared.modules.EntryModule.{EntryModule}
-use Rattle.cc_entry.specs.Modules.{module_of}
-use Rattle.cc_meta_entries.specs.PresentEntries.{CheckedEntry, started_or, started_in, present_module, IsEntryOf}
+use Rattle.cc_session.specs.declared.modules.EntryModule.{EntryModule}
+use Rattle.cc_session.specs.Modules.{module_of}
+use Rattle.cc_entry_laws.specs.PresentEntries.{CheckedEntry, started_or, started_in, present_module, IsEntryOf}
 use Rattle.cc_graph.specs.Graph.{IsOrder}
-use Rattle.cc_meta_modules.specs.ModuleVerdicts.{CheckedDefinition, ModuleVerdict}
-use Rattle.cc_meta_modules.specs.PresentTexts.{Texts, graph_of, AreVerdicts}
+use Rattle.cc_verdicts.specs.ModuleVerdicts.{CheckedDefinition, ModuleVerdict}
+use Rattle.cc_verdicts.specs.PresentTexts.{Texts, graph_of, AreVerdicts}
 use Rattle.cc_module.specs.declared.judgement.ModuleVerdict.{ModuleVerdict as DeclaredVerdict}
 use Rattle.cc_module.specs.Judgements.{module_verdict_of}
-use Rattle.cc_meta_entries.specs.LinkOrders.{is_reached}
+use Rattle.cc_entry_laws.specs.LinkOrders.{is_reached}
 
 -- the present modules have these verdicts, in order
 abbrev pub HaveVerdicts : Texts → (List ℕ → ModuleVerdict) → List (List ℕ × DeclaredVerdict) → Type 0

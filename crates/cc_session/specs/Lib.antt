@@ -1,7 +1,9 @@
 pub mod Codes
-pub mod Sessions
-pub mod Signatures
+pub mod Entries
 pub mod EntryAnswers
 pub mod EntryParts
 pub mod LinkedModules
+pub mod Modules
+pub mod Sessions
+pub mod Signatures
 pub mod StandingAnswers

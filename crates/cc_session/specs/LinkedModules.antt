@@ -2,10 +2,10 @@
 use Rattle.std.specs.Prelude.{◌≡◌, ℕ, List, filter, map}
 use Rattle.cc_base.specs.declared.device.DeviceDecl.{DeviceDecl}
 use Rattle.cc_graph.specs.Graph.{IsOrder}
-use Rattle.cc_meta_entries.specs.LinkOrders.{is_reached}
-use Rattle.cc_meta_entries.specs.PresentEntries.{CheckedModule, present_module}
-use Rattle.cc_meta_modules.specs.ModuleVerdicts.{ModuleVerdict}
-use Rattle.cc_meta_modules.specs.PresentTexts.{Texts, graph_of, AreVerdicts}
+use Rattle.cc_entry_laws.specs.LinkOrders.{is_reached}
+use Rattle.cc_entry_laws.specs.PresentEntries.{CheckedModule, present_module}
+use Rattle.cc_verdicts.specs.ModuleVerdicts.{ModuleVerdict}
+use Rattle.cc_verdicts.specs.PresentTexts.{Texts, graph_of, AreVerdicts}
 
 -- They are the module and all that it reaches, in the order of the import graph, where modules have the verdicts of the
 -- present texts.

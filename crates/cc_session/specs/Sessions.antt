@@ -4,8 +4,8 @@ use Rattle.cc_base.specs.declared.device.DeviceDecl.{DeviceDecl}
 use Rattle.cc_judge.specs.declared.last.Last.{Last}
 use Rattle.cc_judge.specs.Judgements.{Judgement, AreCurrent}
 use Rattle.cc_judge.specs.Kept.{IsKept}
-use Rattle.cc_meta_modules.specs.ModuleLaws.{NamesOfDevicesDiffer}
-use Rattle.cc_meta_modules.specs.PresentTexts.{Texts, ArePresent, most_modules}
+use Rattle.cc_verdicts.specs.ModuleLaws.{NamesOfDevicesDiffer}
+use Rattle.cc_verdicts.specs.PresentTexts.{Texts, ArePresent, most_modules}
 
 -- A session: the devices, the present modules with their texts, whether it is checked, and the judgements of the last
 -- check that answered Ok, in order of name.

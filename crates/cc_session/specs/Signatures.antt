@@ -4,8 +4,8 @@ use Rattle.std.specs.Str.{bytes_eq}
 use Rattle.cc_base.specs.declared.code.Code.{Code}
 use Rattle.cc_base.specs.declared.code.Code.TheVariants.{E32, E33, E34}
 use Rattle.cc_judge.specs.Judgements.{Judgement}
-use Rattle.cc_meta_modules.specs.ModuleVerdicts.{CheckedDefinition, ModuleVerdict, IsAccepted, IsRefused}
-use Rattle.cc_meta_modules.specs.PresentTexts.{definition_named}
+use Rattle.cc_verdicts.specs.ModuleVerdicts.{CheckedDefinition, ModuleVerdict, IsAccepted, IsRefused}
+use Rattle.cc_verdicts.specs.PresentTexts.{definition_named}
 
 -- the verdict of the module, if it was judged
 abbrev pub verdict_named : List ℕ → List Judgement → Option ModuleVerdict
@@ -13,13 +13,13 @@ verdict_named name [] = None
 verdict_named name (first ∷ rest) = if bytes_eq name first.name then Some first.verdict else verdict_named name rest
 
 -- the definitions of an accepted module
-abbrev pub definitions_of : ModuleVerdict → Result (List CheckedDefinition) Code
-definitions_of (IsAccepted definitions) = Ok definitions
-definitions_of (IsRefused code at) = Err E34
+abbrev pub shown_definitions : ModuleVerdict → Result (List CheckedDefinition) Code
+shown_definitions (IsAccepted definitions) = Ok definitions
+shown_definitions (IsRefused code at) = Err E34
 
 -- those of the module with this verdict, if there is one
 abbrev pub definitions_or : Option ModuleVerdict → Result (List CheckedDefinition) Code
-definitions_or (Some verdict) = definitions_of verdict
+definitions_or (Some verdict) = shown_definitions verdict
 definitions_or None = Err E32
 
 -- the definitions of the module, or why there are none: there is no such module, or it is not accepted

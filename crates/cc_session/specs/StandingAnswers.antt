@@ -6,11 +6,11 @@ use Rattle.std.specs.Str.{bytes_eq}
 use Rattle.cc_base.specs.declared.code.Code.{Code}
 use Rattle.cc_base.specs.declared.code.Code.TheVariants.{E32}
 use Rattle.cc_base.specs.declared.device.DeviceDecl.{DeviceDecl}
-use Rattle.cc_core.specs.Views.{context_of}
+use Rattle.cc_core.specs.TermViews.{context_of}
 use Rattle.cc_judge.specs.Judgements.{Judgement}
-use Rattle.cc_meta_modules.specs.Readings.{imports_of}
-use Rattle.cc_meta_modules.specs.StandingDefinitions.{Standing, standing_context, standing_names, first_named}
-use Rattle.cc_meta_modules.specs.StandingDefinitions.{standing_by}
+use Rattle.cc_verdicts.specs.Readings.{imports_of}
+use Rattle.cc_verdicts.specs.StandingDefinitions.{Standing, standing_context, standing_names, first_named}
+use Rattle.cc_verdicts.specs.StandingDefinitions.{standing_by}
 use Rattle.cc_module.specs.declared.judgement.CheckedDef.{CheckedDef}
 use Rattle.cc_module.specs.Judgements.{checked_definition_of}
 use Rattle.cc_session.specs.declared.standing.Standing.{Standing as DeclaredStanding}

@@ -3,9 +3,9 @@
 ghost use Rattle.std.specs.Prelude.{◌≡◌, [], map, MatchOption, None, IfOk};
 ghost use Rattle.std.specs.Option.{unwrap_or};
 ghost use Rattle.cc_judge.specs.Kept.{judgements_of, IsKept};
-ghost use Rattle.cc_meta_modules.specs.ModuleVerdicts.{IsAccepted};
-ghost use Rattle.cc_meta_modules.specs.Readings.{imports_of};
-ghost use Rattle.cc_meta_modules.specs.StandingDefinitions as plain;
+ghost use Rattle.cc_verdicts.specs.ModuleVerdicts.{IsAccepted};
+ghost use Rattle.cc_verdicts.specs.Readings.{imports_of};
+ghost use Rattle.cc_verdicts.specs.StandingDefinitions as plain;
 ghost use Rattle.cc_module.specs.Findings.{finding_of};
 ghost use Rattle.cc_module.specs.Judgements.{checked_definition_of};
 ghost use Rattle.cc_parse.specs.Trees.{import_syntax};

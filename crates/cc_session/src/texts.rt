@@ -6,7 +6,7 @@ ghost use Rattle.std.specs.List.{slice_get};
 ghost use Rattle.std.specs.Map.{keys_of, remove_entry};
 ghost use Rattle.std.specs.Str.{bytes_eq};
 ghost use Rattle.cc_base.specs.Names.{compare_names};
-ghost use Rattle.cc_meta_modules.specs.PresentTexts.{ArePresent, text_of, others_present, longest_text, most_modules};
+ghost use Rattle.cc_verdicts.specs.PresentTexts.{ArePresent, text_of, others_present, longest_text, most_modules};
 ghost use Rattle.cc_judge.specs.Places.{IsGap};
 
 use crate::refusals::{NoSuchModule, PutRefused};

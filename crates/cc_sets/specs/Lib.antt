@@ -1,15 +1,3 @@
-pub mod Avoidance
-pub mod CanonicalDerivations
-pub mod Comparison
-pub mod DerivationSizes
-pub mod ExampleChecks
-pub mod Examples
-pub mod Exposing
-pub mod Fillings
-pub mod Inference
 pub mod Marked
 pub mod Marking
-pub mod Outcomes
 pub mod Reaching
-pub mod Verdicts
-pub mod Weights

@@ -3,7 +3,7 @@
 ghost use Rattle.std.specs.Prelude.{◌≡◌, ◌↔◌, ℕ, ◌+◌, ◌<◌, ◌≤◌, Some, IsTrue, false, length, slice_set};
 ghost use Rattle.cc_core.specs.Contexts.{lookup};
 ghost use Rattle.cc_core.specs.Subcapturing.{SubcapturesSet};
-ghost use Rattle.cc_core.specs.Views.{bind_of, context_of};
+ghost use Rattle.cc_core.specs.TermViews.{bind_of, context_of};
 ghost use Rattle.cc_core.specs.WellFormed.{IsWellFormedContext, IsWellFormedSet};
 ghost use Rattle.cc_sets.specs.Marked.{is_marked, IsClear};
 ghost use Rattle.cc_sets.specs.Marking.{HasRoom, HasRoomFor, HasRoomForEntry, IsThatMissing, MarksThose, MarksEntry};

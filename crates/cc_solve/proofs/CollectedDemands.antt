@@ -11,12 +11,12 @@ use Rattle.cc_core.specs.declared.context.Bind.{Bind as DeclaredBind}
 use Rattle.cc_core.specs.Shapes.{Shape}
 use Rattle.cc_core.specs.Contexts.{TermEntry, Context, lookup}
 use Rattle.cc_core.specs.Substitution.{single}
-use Rattle.cc_core.specs.Views.{context_of}
+use Rattle.cc_core.specs.TermViews.{context_of}
 use Rattle.cc_core.specs.WellFormed.{IsWellFormedContext, IsWellFormedSet}
 use Rattle.cc_core.proofs.Moving.{Member-single_itself}
-use Rattle.cc_sets.specs.Comparison.{Demand, demanded}
-use Rattle.cc_sets.specs.Outcomes.{Asked, IsBelow, IsCapless, Placed, placed_at}
-use Rattle.cc_sets.specs.Fillings.{IsAskedIn}
+use Rattle.cc_checking.specs.Comparison.{Demand, demanded}
+use Rattle.cc_checking.specs.Outcomes.{Asked, IsBelow, IsCapless, Placed, placed_at}
+use Rattle.cc_checking.specs.Fillings.{IsAskedIn}
 use Rattle.cc_subty.specs.declared.demands.Demand.{Demand as DeclaredDemand}
 use Rattle.cc_subty.specs.Demands.{demand_of, asked_of}
 use Rattle.cc_solve.specs.Adding.{AddsThose, Brings, IsSeed, IsFlow, IsSeedOf, IsFlowOf}

@@ -8,12 +8,12 @@ use Rattle.cc_capture.specs.Sets.{Set, Member, contains, empty}
 use Rattle.cc_capture.proofs.Membership.{Member-empty}
 use Rattle.cc_core.specs.Substitution.{single, filled_element, filled_set}
 use Rattle.cc_core.proofs.Moving.{Member-single, Member-single_itself}
-use Rattle.cc_sets.specs.Fillings.{Filling}
+use Rattle.cc_checking.specs.Fillings.{Filling}
 use Rattle.cc_sets.specs.Marking.{HasRoomFor, MarksThose, IsThatMissing}
 use Rattle.cc_sets.specs.Reaching.{IsMissing}
 use Rattle.cc_sets.proofs.Markings.{marks_then, marks_as, marks_none, listed_last, listed_before, listed_itself}
 use Rattle.cc_sets.proofs.Markings.{HasRoom-same}
-use Rattle.cc_meta_checking.proofs.LeastFillings.{Member-filled, Member-from_filled}
+use Rattle.cc_checking_laws.proofs.LeastFillings.{Member-filled, Member-from_filled}
 use Rattle.cc_solve.specs.Solutions.{filling_of, set_or_none}
 
 -- what becomes of the elements of a list, and the right set does not have

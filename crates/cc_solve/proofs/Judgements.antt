@@ -12,19 +12,19 @@ use Rattle.cc_core.specs.declared.context.Bind.{Bind as DeclaredBind}
 use Rattle.cc_core.specs.Contexts.{Context}
 use Rattle.cc_core.specs.Subcapturing.{SubcapturesSet}
 use Rattle.cc_core.specs.Substitution.{filled_set}
-use Rattle.cc_core.specs.Views.{context_of}
+use Rattle.cc_core.specs.TermViews.{context_of}
 use Rattle.cc_core.specs.WellFormed.{kinds_of, IsWellFormedContext, IsWellFormedSet}
 use Rattle.cc_core.proofs.KindFacts.{IsKindedSet-from, IsKindedSet-test}
 use Rattle.cc_core.proofs.Sorts.{SetSort}
 use Rattle.cc_core.proofs.SubcapturingContexts.{IsKindedContext, IsKindedContext-from}
-use Rattle.cc_meta_typing.proofs.FormedContexts.{IsKindedContext-test}
-use Rattle.cc_sets.specs.Comparison.{Demand, demanded}
-use Rattle.cc_sets.specs.Outcomes.{IsBelow, Placed, placed_at}
-use Rattle.cc_sets.specs.Fillings.{Filling, filled_context, IsServed, AllServed, IsAskedIn, FailsFirst, code_of_failure}
+use Rattle.cc_typing_laws.proofs.FormedContexts.{IsKindedContext-test}
+use Rattle.cc_checking.specs.Comparison.{Demand, demanded}
+use Rattle.cc_checking.specs.Outcomes.{IsBelow, Placed, placed_at}
+use Rattle.cc_checking.specs.Fillings.{Filling, filled_context, IsServed, AllServed, IsAskedIn, FailsFirst, code_of_failure}
 use Rattle.cc_subty.specs.declared.demands.Demand.{Demand as DeclaredDemand}
 use Rattle.cc_subty.specs.declared.demands.Demand.TheVariants as demands
 use Rattle.cc_subty.specs.Demands.{demand_of, asked_of}
-use Rattle.cc_meta_checking.proofs.ServedDemands.{fill_kept, filled_context_kinded}
+use Rattle.cc_checking_laws.proofs.ServedDemands.{fill_kept, filled_context_kinded}
 use Rattle.cc_solve.specs.Solutions.{CanBeJudged, set_or_none}
 use Rattle.cc_solve.proofs.CollectedDemands.{asked_first, asked_one, one_asked, take_one, take_whole}
 

@@ -8,11 +8,11 @@ use Rattle.cc_capture.proofs.Membership.{Member-empty}
 use Rattle.cc_core.specs.Contexts.{Context}
 use Rattle.cc_core.specs.Occurrences.{IsNoHole}
 use Rattle.cc_core.specs.Substitution.{single}
-use Rattle.cc_sets.specs.Outcomes.{Placed}
-use Rattle.cc_sets.specs.Fillings.{Comes, global, capability, local, forced, IsLeast, IsForced, IsOverGlobals}
+use Rattle.cc_checking.specs.Outcomes.{Placed}
+use Rattle.cc_checking.specs.Fillings.{Comes, global, capability, local, forced, IsLeast, IsForced, IsOverGlobals}
 use Rattle.cc_solve.specs.Adding.{AddsThose, Brings, IsSeed, IsFlow}
 use Rattle.cc_solve.specs.Ends.{IsEnd, Leads, ends, through}
-use Rattle.cc_meta_checking.proofs.LeastFillings.{least_over_globals, least_below, least_serves}
+use Rattle.cc_checking_laws.proofs.LeastFillings.{least_over_globals, least_below, least_serves}
 use Rattle.cc_solve.specs.Solutions.{filling_of, IsBelowEachThatServes, ServesWhereOneDoes}
 use Rattle.cc_solve.specs.Spreading.{Arrives, there, onward}
 

@@ -5,9 +5,9 @@ use Rattle.cc_capture.specs.declared.var.Elem.TheVariants.{Hole}
 use Rattle.cc_capture.specs.Sets.{Set, Member}
 use Rattle.cc_core.specs.Occurrences.{IsNoHole}
 use Rattle.cc_core.specs.Substitution.{single}
-use Rattle.cc_sets.specs.Comparison.{Demand}
-use Rattle.cc_sets.specs.Outcomes.{IsBelow, Placed}
-use Rattle.cc_sets.specs.Fillings.{IsAskedIn}
+use Rattle.cc_checking.specs.Comparison.{Demand}
+use Rattle.cc_checking.specs.Outcomes.{IsBelow, Placed}
+use Rattle.cc_checking.specs.Fillings.{IsAskedIn}
 use Rattle.cc_solve.specs.Ends.{LeadsFrom}
 use Rattle.cc_solve.specs.Solutions.{filling_of}
 

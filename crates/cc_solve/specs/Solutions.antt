@@ -5,9 +5,9 @@ use Rattle.cc_capture.specs.Sets.{Set, Member, empty}
 use Rattle.cc_core.specs.Shapes.{Shape}
 use Rattle.cc_core.specs.Contexts.{TermEntry, Context, lookup}
 use Rattle.cc_core.specs.Subcapturing.{SubcapturesSet}
-use Rattle.cc_sets.specs.Outcomes.{Asked, IsBelow, IsCapless, Placed}
-use Rattle.cc_sets.specs.Fillings.{Filling, AllServed, IsAskedIn, IsOverGlobals}
-use Rattle.cc_meta_checking.specs.FillingLaws.{AreFit}
+use Rattle.cc_checking.specs.Outcomes.{Asked, IsBelow, IsCapless, Placed}
+use Rattle.cc_checking.specs.Fillings.{Filling, AllServed, IsAskedIn, IsOverGlobals}
+use Rattle.cc_checking_laws.specs.FillingLaws.{AreFit}
 
 -- the set of a hole by its number; a hole past the list has none
 abbrev pub filling_of : List Set → Filling

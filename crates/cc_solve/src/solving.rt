@@ -5,7 +5,7 @@ ghost use Rattle.cc_capture.specs.Sets.{Member, empty};
 ghost use Rattle.cc_core.specs.Substitution.{single};
 ghost use Rattle.cc_core.specs.Occurrences.{IsNoHole};
 ghost use Rattle.cc_sets.specs.Marked.{IsClear};
-ghost use Rattle.cc_sets.specs.Fillings.{IsLeast, IsOverGlobals};
+ghost use Rattle.cc_checking.specs.Fillings.{IsLeast, IsOverGlobals};
 ghost use Rattle.cc_subty.specs.Demands.{asked_of, demand_of};
 ghost use Rattle.cc_solve.specs.Adding.{AddsThose, IsSeed, IsFlow, IsSeedOf, IsFlowOf};
 ghost use Rattle.cc_solve.specs.Solutions.{AreSolvable, IsBelowEachThatServes, ServesWhereOneDoes, HasHolesBelow, filling_of};

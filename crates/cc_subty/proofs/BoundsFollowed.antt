@@ -14,10 +14,10 @@ use Rattle.cc_core.proofs.KindRespecting.{kinds-bound_within}
 use Rattle.cc_core.proofs.ReadingAndWriting.{read-still}
 use Rattle.cc_core.proofs.Sorts.{ShapeSort, HasKinds-meets}
 use Rattle.cc_core.proofs.SubcapturingContexts.{IsKindedContext, entry_kinded, entry_of_type}
-use Rattle.cc_sets.specs.Comparison.{bound_in, bound_of}
-use Rattle.cc_sets.specs.Exposing.{exposed}
+use Rattle.cc_checking.specs.Comparison.{bound_in, bound_of}
+use Rattle.cc_checking.specs.Exposing.{exposed}
 use Rattle.cc_subty.specs.Exposing.{shape_bound}
-use Rattle.cc_meta_typing.proofs.ExposingShapes.{exposing_follows, others_stay}
+use Rattle.cc_typing_laws.proofs.ExposingShapes.{exposing_follows, others_stay}
 
 -- one more than the position of a shape that is a type variable
 abbrev pub spot : Shape → ℕ

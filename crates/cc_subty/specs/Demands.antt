@@ -1,8 +1,8 @@
 -- What the program's list of demands asks.
 use Rattle.std.specs.Prelude.{List, map}
-use Rattle.cc_core.specs.Views.{context_of}
-use Rattle.cc_sets.specs.Comparison.{demanded}
-use Rattle.cc_sets.specs.Outcomes.{IsBelow, IsCapless, Placed, placed_at}
+use Rattle.cc_core.specs.TermViews.{context_of}
+use Rattle.cc_checking.specs.Comparison.{demanded}
+use Rattle.cc_checking.specs.Outcomes.{IsBelow, IsCapless, Placed, placed_at}
 use Rattle.cc_subty.specs.declared.demands.Demand.{Demand as DeclaredDemand}
 use Rattle.cc_subty.specs.declared.demands.Demand.TheVariants as demands
 

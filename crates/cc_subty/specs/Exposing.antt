@@ -2,7 +2,7 @@
 use Rattle.std.specs.Prelude.{Option, None}
 use Rattle.cc_core.specs.Shapes.{Shape, TypeVariable}
 use Rattle.cc_core.specs.Contexts.{Context}
-use Rattle.cc_sets.specs.Comparison.{bound_of}
+use Rattle.cc_checking.specs.Comparison.{bound_of}
 
 -- the bound of a shape that is a type variable
 abbrev pub shape_bound : Context → Shape → Option Shape

@@ -1,10 +1,10 @@
 //! Exposing a shape: type variables are followed to their bounds.
 
 ghost use Rattle.std.specs.Prelude.{◌≡◌, option_map};
-ghost use Rattle.cc_core.specs.Views.{shape_of, context_of};
+ghost use Rattle.cc_core.specs.TermViews.{shape_of, context_of};
 ghost use Rattle.cc_core.specs.WellFormed.{IsWellFormedShape, IsWellFormedContext};
-ghost use Rattle.cc_sets.specs.Comparison.{bound_of};
-ghost use Rattle.cc_sets.specs.Exposing.{exposed};
+ghost use Rattle.cc_checking.specs.Comparison.{bound_of};
+ghost use Rattle.cc_checking.specs.Exposing.{exposed};
 ghost use Rattle.cc_subty.specs.Exposing.{shape_bound};
 
 use cc_capture::Var;

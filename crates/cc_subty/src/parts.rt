@@ -3,12 +3,12 @@
 
 ghost use Rattle.std.specs.Prelude.{◌≡◌, ◌+◌, ◌∷◌, length, IfOk};
 ghost use Rattle.cc_capture.specs.Sets as set;
-ghost use Rattle.cc_core.specs.Comparison as plain;
+ghost use Rattle.cc_core.specs.Equality as plain;
 ghost use Rattle.cc_core.specs.Contexts.{TypeEntry, entry_of};
 ghost use Rattle.cc_core.specs.Reading as reading;
 ghost use Rattle.cc_core.specs.Traversal as traversal;
-ghost use Rattle.cc_core.specs.Views.{shape_of, type_of, context_of};
-ghost use Rattle.cc_sets.specs.Comparison.{is_any};
+ghost use Rattle.cc_core.specs.TermViews.{shape_of, type_of, context_of};
+ghost use Rattle.cc_checking.specs.Comparison.{is_any};
 ghost use Rattle.cc_subty.specs.Parts as part;
 
 use cc_capture::{CapSet, Var, same_var};

@@ -3,8 +3,8 @@
 
 pub mod counting;
 mod history;
-pub mod laws;
 pub mod summary;
+pub mod summary_examples;
 pub mod tally;
 #[cfg(test)]
 mod tests;

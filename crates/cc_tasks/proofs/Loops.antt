@@ -7,7 +7,7 @@ use Rattle.std.proofs.lemmas.Option.{slice_get_read, slice_get_past, slice_get-g
 use Rattle.std.proofs.lemmas.Slice.Zip.{all_zipped_more}
 use Rattle.cc_device.specs.declared.ends.End.{End}
 use Rattle.cc_machine.specs.Machines.{held_by}
-use Rattle.cc_meta_runs.specs.Machine.{Final, step}
+use Rattle.cc_runs.specs.Machine.{Final, step}
 use Rattle.cc_tasks.specs.declared.task.Task.{Task}
 use Rattle.cc_tasks.specs.Tasks.{HasEnded, IsEndOf}
 

@@ -3,16 +3,16 @@ use Rattle.std.proofs.Common.{◌≡◌, ℕ, List, [], ◌∷◌, map, sym, ap,
 use Rattle.std.specs.List.{AllByRecursion}
 use Rattle.std.proofs.Math.Logic.{∥∥₁_elim, ∥∥₁_map}
 use Rattle.cc_device.specs.Devices.{Devices}
-use Rattle.cc_meta_runs.specs.Interleavings.{World, state_of, interleave, Report, report_of}
-use Rattle.cc_meta_runs.specs.InterleavingLaws.{AreSound}
-use Rattle.cc_meta_runs.specs.SoundRuns.{HasShapesOfCells, IsSoundState}
-use Rattle.cc_meta_runs.proofs.EntryTasks.{entries_run_interleaved}
-use Rattle.cc_meta_runs.proofs.InterleavedTasks.{interleavings_are_turns, schedules_go_on, tasks_keep_their_promises, devices_have_histories}
-use Rattle.cc_meta_runs.proofs.RunTheorems.{fitting_is_by_shapes}
-use Rattle.cc_meta_runs.proofs.TasksApart.{tasks_apart_run_as_alone}
-use Rattle.cc_program.specs.declared.program.Program.{Program}
-use Rattle.cc_program.specs.Programs.{shapes_of, values_of, term_in, start_of}
-use Rattle.cc_program.proofs.Starting.{typed_start_sound}
+use Rattle.cc_runs.specs.Interleavings.{World, state_of, interleave, Report, report_of}
+use Rattle.cc_runs.specs.InterleavingLaws.{AreSound}
+use Rattle.cc_runs.specs.SoundRuns.{HasShapesOfCells, IsSoundState}
+use Rattle.cc_runs.proofs.EntryTasks.{entries_run_interleaved}
+use Rattle.cc_runs.proofs.InterleavedTasks.{interleavings_are_turns, schedules_go_on, tasks_keep_their_promises, devices_have_histories}
+use Rattle.cc_runs.proofs.RunTheorems.{fitting_is_by_shapes}
+use Rattle.cc_runs.proofs.TasksApart.{tasks_apart_run_as_alone}
+use Rattle.cc_machine.specs.declared.program.Program.{Program}
+use Rattle.cc_machine.specs.Programs.{shapes_of, values_of, term_in, start_of}
+use Rattle.cc_machine.proofs.Starting.{typed_start_sound}
 use Rattle.cc_tasks.specs.Reports.{world_in, RunsEntries}
 use Rattle.cc_tasks.specs.SoundTasks.{RunsSoundly}
 use Rattle.cc_tasks.proofs.Standing.{all_at, world_now}

@@ -10,13 +10,13 @@ use Rattle.cc_device.specs.Events.{Event}
 use Rattle.cc_machine.specs.Machines.{held_by}
 use Rattle.cc_machine.specs.Standing.{StandsFor, KeepsShapes, with_devices}
 use Rattle.cc_machine.proofs.StandingLemmas.{move_held, fits_back, final_back}
-use Rattle.cc_meta_runs.specs.Alike.{erased_cell, erased_configuration}
-use Rattle.cc_meta_runs.specs.Machine.{Configuration}
-use Rattle.cc_meta_runs.specs.Runs.{IsFinal, Moves, closed, move}
-use Rattle.cc_meta_runs.specs.SoundRuns.{HasShapesOfCells}
-use Rattle.cc_meta_runs.specs.Interleavings.{World, state_of, move_of, IsAtRest}
-use Rattle.cc_program.specs.declared.program.Program.{Program}
-use Rattle.cc_program.specs.Programs.{start_of}
+use Rattle.cc_runs.specs.Alike.{erased_cell, erased_configuration}
+use Rattle.cc_runs.specs.Machine.{Configuration}
+use Rattle.cc_runs.specs.Runs.{IsFinal, Moves, closed, move}
+use Rattle.cc_runs.specs.SoundRuns.{HasShapesOfCells}
+use Rattle.cc_runs.specs.Interleavings.{World, state_of, move_of, IsAtRest}
+use Rattle.cc_machine.specs.declared.program.Program.{Program}
+use Rattle.cc_machine.specs.Programs.{start_of}
 use Rattle.cc_tasks.specs.declared.task.Task.{Task}
 use Rattle.cc_tasks.specs.Tasks.{holds, begins, CanGoOn, TakesTurn, HasEnded, HaveEnded}
 use Rattle.cc_tasks.proofs.Turns.{AreAtRest}

@@ -8,19 +8,19 @@ use Rattle.std.proofs.lemmas.Option.{slice_get-get_or}
 use Rattle.cc_device.specs.Devices.{Devices}
 use Rattle.cc_device.specs.Endings.{End, Done, OutOfFuel}
 use Rattle.cc_device.specs.Events.{Event}
-use Rattle.cc_device.specs.Views.{end_of}
+use Rattle.cc_device.specs.DeviceViews.{end_of}
 use Rattle.cc_device.specs.declared.ends.End.{End as DeclaredEnd}
 use Rattle.cc_device.proofs.Operations.{set_at, set_elsewhere}
 use Rattle.cc_machine.specs.Reports.{HasEnd}
 use Rattle.cc_machine.specs.Standing.{StandsFor, with_devices}
 use Rattle.cc_machine.proofs.RunLemmas.{run_done, run_out}
-use Rattle.cc_meta_runs.specs.Machine.{Configuration}
-use Rattle.cc_meta_runs.specs.Runs.{Ends}
-use Rattle.cc_meta_runs.specs.SoundRuns.{HasShapesOfCells}
-use Rattle.cc_meta_runs.specs.Interleavings.{Turn, Interleaving, interleave, numbered, trace_of, own_steps, ending_in, ends_from, report_of}
-use Rattle.cc_meta_runs.proofs.Finality.{final_exactly_where_answered, final_states_are_answered}
-use Rattle.cc_program.specs.declared.program.Program.{Program}
-use Rattle.cc_program.specs.Programs.{start_of}
+use Rattle.cc_runs.specs.Machine.{Configuration}
+use Rattle.cc_runs.specs.Runs.{Ends}
+use Rattle.cc_runs.specs.SoundRuns.{HasShapesOfCells}
+use Rattle.cc_runs.specs.Interleavings.{Turn, Interleaving, interleave, numbered, trace_of, own_steps, ending_in, ends_from, report_of}
+use Rattle.cc_runs.proofs.Finality.{final_exactly_where_answered, final_states_are_answered}
+use Rattle.cc_machine.specs.declared.program.Program.{Program}
+use Rattle.cc_machine.specs.Programs.{start_of}
 use Rattle.cc_tasks.specs.declared.task.Task.{Task}
 use Rattle.cc_tasks.specs.Reports.{told_end, world_in}
 use Rattle.cc_tasks.specs.Tasks.{holds, begins, CanGoOn, TakesTurn, HaveEnded, IsNext, IsEndOf}

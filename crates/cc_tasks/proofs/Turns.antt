@@ -3,11 +3,11 @@ use Rattle.std.proofs.Common.{◌≡◌, ◌<◌, ◌+◌, ℕ, zero, suc, Bool,
 use Rattle.std.specs.Prelude.{slice_get, nat_eq, if◌then◌else◌}
 use Rattle.std.specs.List.{AllByRecursion}
 use Rattle.cc_device.specs.Events.{Event}
-use Rattle.cc_meta_runs.specs.Runs.{State, Move, IsStuck, IsFinal, Moves}
-use Rattle.cc_meta_runs.specs.Interleavings.{World, move_of, after_turn, Chosen, offered, chosen_from, Turn}
-use Rattle.cc_meta_runs.specs.Interleavings.{Interleaving, resting, turn_first, go_on, interleave, numbered, trace_of}
-use Rattle.cc_meta_runs.specs.Interleavings.{own_steps, IsAtRest}
-use Rattle.cc_meta_runs.proofs.InterleavedTasks.{own_turn_steps, other_turn_steps}
+use Rattle.cc_runs.specs.Runs.{State, Move, IsStuck, IsFinal, Moves}
+use Rattle.cc_runs.specs.Interleavings.{World, move_of, after_turn, Chosen, offered, chosen_from, Turn}
+use Rattle.cc_runs.specs.Interleavings.{Interleaving, resting, turn_first, go_on, interleave, numbered, trace_of}
+use Rattle.cc_runs.specs.Interleavings.{own_steps, IsAtRest}
+use Rattle.cc_runs.proofs.InterleavedTasks.{own_turn_steps, other_turn_steps}
 
 some_is : {A : Type 0} (a b : A) → Some a ≡ Some b → a ≡ b
 some_is a b e = cc

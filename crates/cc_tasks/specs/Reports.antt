@@ -5,14 +5,14 @@ use Rattle.cc_device.specs.Devices.{Devices}
 use Rattle.cc_device.specs.Events.{Event}
 use Rattle.cc_device.specs.declared.ends.End.{End}
 use Rattle.cc_device.specs.declared.events.Event.{Event as DeclaredEvent}
-use Rattle.cc_device.specs.Views.{end_of, event_of}
-use Rattle.cc_meta_runs.specs.Interleavings.{World, Report, interleaved_run}
-use Rattle.cc_meta_runs.specs.Links.{program_start}
-use Rattle.cc_meta_runs.specs.Runs.{Ending, Ends}
-use Rattle.cc_meta_runs.specs.TaskLaws.{AreEntries}
-use Rattle.cc_meta_runs.specs.SafeTasks.{RunsInterleaved}
-use Rattle.cc_program.specs.declared.program.Program.{Program}
-use Rattle.cc_program.specs.Programs.{start_of}
+use Rattle.cc_device.specs.DeviceViews.{end_of, event_of}
+use Rattle.cc_runs.specs.Interleavings.{World, Report, interleaved_run}
+use Rattle.cc_runs.specs.Links.{program_start}
+use Rattle.cc_runs.specs.Runs.{Ending, Ends}
+use Rattle.cc_runs.specs.TaskLaws.{AreEntries}
+use Rattle.cc_runs.specs.SafeTasks.{RunsInterleaved}
+use Rattle.cc_machine.specs.declared.program.Program.{Program}
+use Rattle.cc_machine.specs.Programs.{start_of}
 use Rattle.cc_tasks.specs.declared.tasks.TaskReport.{TaskReport}
 
 -- the programs at their starts, as tasks on the devices

@@ -1,11 +1,11 @@
 -- What the interleaved run of sound tasks keeps.
 use Rattle.std.specs.Prelude.{◌≡◌, ◌⊎◌, ℕ, List, length, Some, slice_get}
 use Rattle.cc_device.specs.Devices.{DeviceState}
-use Rattle.cc_meta_runs.specs.InterleavingLaws.{KeepsItsPromises, IsApart, RunsAsAlone}
-use Rattle.cc_meta_runs.specs.Interleavings.{World, move_of, interleave, trace_of, all_events, IsAtRest, events_on}
-use Rattle.cc_meta_runs.specs.Interleavings.{History}
-use Rattle.cc_meta_runs.specs.Machine.{Configuration}
-use Rattle.cc_meta_runs.specs.SafeRuns.{IsListed}
+use Rattle.cc_runs.specs.InterleavingLaws.{KeepsItsPromises, IsApart, RunsAsAlone}
+use Rattle.cc_runs.specs.Interleavings.{World, move_of, interleave, trace_of, all_events, IsAtRest, events_on}
+use Rattle.cc_runs.specs.Interleavings.{History}
+use Rattle.cc_runs.specs.Machine.{Configuration}
+use Rattle.cc_runs.specs.SafeRuns.{IsListed}
 
 -- All turns are taken, or each task of the schedule has come to its end. Each task keeps what a run alone keeps. The
 -- events of each device are a history of that device alone, from its state at the start. A task whose devices no other

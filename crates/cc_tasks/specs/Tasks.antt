@@ -3,16 +3,16 @@ use Rattle.std.specs.Prelude.{◌≡◌, ◌+◌, ◌<◌, ◌≤◌, ℕ, List,
 use Rattle.std.specs.List.{AllByRecursion}
 use Rattle.cc_device.specs.Devices.{Devices}
 use Rattle.cc_device.specs.Events.{Event}
-use Rattle.cc_device.specs.Views.{end_of}
+use Rattle.cc_device.specs.DeviceViews.{end_of}
 use Rattle.cc_device.specs.declared.ends.End.{End}
 use Rattle.cc_machine.specs.Machines.{count_cells, held_by}
 use Rattle.cc_machine.specs.Reports.{HasEnd}
 use Rattle.cc_machine.specs.Standing.{StepsAlike}
-use Rattle.cc_meta_runs.specs.Alike.{erased_configuration}
-use Rattle.cc_meta_runs.specs.Machine.{Configuration, Final, step}
-use Rattle.cc_meta_runs.specs.SoundRuns.{HasShapesOfCells}
-use Rattle.cc_program.specs.declared.program.Program.{Program}
-use Rattle.cc_program.specs.Programs.{start_of}
+use Rattle.cc_runs.specs.Alike.{erased_configuration}
+use Rattle.cc_runs.specs.Machine.{Configuration, Final, step}
+use Rattle.cc_runs.specs.SoundRuns.{HasShapesOfCells}
+use Rattle.cc_machine.specs.declared.program.Program.{Program}
+use Rattle.cc_machine.specs.Programs.{start_of}
 use Rattle.cc_tasks.specs.declared.task.Task.{Task}
 
 -- what the machine of a task holds, and how many steps the task has taken

@@ -12,10 +12,10 @@ pub struct Task<'a> {
 
 impl<'a> Task<'a> {
     ghost use Rattle.std.specs.Prelude.{◌≢◌, IfOk, option_map};
-    ghost use Rattle.cc_device.specs.Views.{event_of};
+    ghost use Rattle.cc_device.specs.DeviceViews.{event_of};
     ghost use Rattle.cc_machine.specs.Machines.{held_by};
     ghost use Rattle.cc_machine.specs.Standing.{KeepsShapes};
-    ghost use Rattle.cc_meta_runs.specs.Machine as table;
+    ghost use Rattle.cc_runs.specs.Machine as table;
     ghost use Rattle.cc_tasks.specs.Tasks.{CanGoOn, TakesStep};
 
     /// Takes one step on the devices. Fails only for want of memory.

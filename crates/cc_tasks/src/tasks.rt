@@ -1,19 +1,18 @@
 //! Interleaved runs.
 ghost use Rattle.std.specs.Prelude.{◌≡◌, ◌↔◌, ◌<◌, ◌+◌, ◌++◌, [], IfOk, IsTrue, MatchOption, OnOk, length, map, option_map, slice_get};
 ghost use Rattle.std.specs.List.{AllByRecursion, AllZip};
-ghost use Rattle.cc_device.specs.Views.{event_of};
+ghost use Rattle.cc_device.specs.DeviceViews.{event_of};
 ghost use Rattle.cc_machine.specs.Standing.{KeepsShapes};
-ghost use Rattle.cc_meta_runs.specs.Interleavings.{interleave, numbered, report_of};
-ghost use Rattle.cc_meta_runs.specs.SoundRuns.{HasShapesOfCells};
-ghost use Rattle.cc_program.specs.Programs.{start_of};
+ghost use Rattle.cc_runs.specs.Interleavings.{interleave, numbered, report_of};
+ghost use Rattle.cc_runs.specs.SoundRuns.{HasShapesOfCells};
+ghost use Rattle.cc_machine.specs.Programs.{start_of};
 ghost use Rattle.cc_tasks.specs.Reports.{RunsEntries, told_by, told_event, world_in};
 ghost use Rattle.cc_tasks.specs.SoundTasks.{RunsSoundly};
 ghost use Rattle.cc_tasks.specs.Tasks.{CanGoOn, HaveEnded, HasEnded, IsEndOf, IsNext, TakesTurn, begins, holds};
 
 use crate::task::Task;
 use cc_device::{Devices, End, Event};
-use cc_machine::Machine;
-use cc_program::Program;
+use cc_machine::{Machine, Program};
 use std::alloc::{AllocError, Global};
 
 /// What is known of an interleaved run: its events in order, each with the number of its task, and of each task its end

@@ -8,13 +8,13 @@ use Rattle.cc_core.specs.declared.context.Bind.{Bind as DeclaredBind}
 use Rattle.cc_core.specs.Shapes.{Shape}
 use Rattle.cc_core.specs.Contexts.{TermEntry, lookup}
 use Rattle.cc_core.specs.Substitution.{single}
-use Rattle.cc_core.specs.Views.{context_of}
+use Rattle.cc_core.specs.TermViews.{context_of}
 use Rattle.cc_core.proofs.KindFacts.{IsKindedElement, IsKindedSet-test}
 use Rattle.cc_core.proofs.Moving.{Member-single}
-use Rattle.cc_sets.specs.Comparison.{demanded}
-use Rattle.cc_sets.specs.Outcomes.{Asked, IsBelow, Placed}
-use Rattle.cc_sets.specs.Fillings.{IsAskedIn}
-use Rattle.cc_meta_checking.specs.FillingLaws.{IsFit}
+use Rattle.cc_checking.specs.Comparison.{demanded}
+use Rattle.cc_checking.specs.Outcomes.{Asked, IsBelow, Placed}
+use Rattle.cc_checking.specs.Fillings.{IsAskedIn}
+use Rattle.cc_checking_laws.specs.FillingLaws.{IsFit}
 use Rattle.cc_subty.specs.declared.demands.Demand.{Demand as DeclaredDemand}
 use Rattle.cc_subty.specs.declared.demands.Demand.TheVariants.{Sub}
 use Rattle.cc_subty.specs.Demands.{demand_of, asked_of}

@@ -1,7 +1,7 @@
 // The comparison of large types: whether they match, and what it asks of their sets, in order. In the context there are
 // two consoles. And a long chain of type variables.
 ghost use Rattle.std.specs.Prelude.{IfOk};
-ghost use Rattle.cc_core.specs.Views.{context_of};
+ghost use Rattle.cc_core.specs.TermViews.{context_of};
 ghost use Rattle.cc_core.specs.WellFormed.{IsWellFormedContext};
 
 use crate::contexts::{bounded, console, declared, nested_functions, nested_parameters, type_of};
@@ -147,14 +147,7 @@ fn kept_often(
     }
     for _index in 0..times {
         let mut log = Log::new(alloc);
-        match below(
-            alloc,
-            ctx,
-            left,
-            right,
-            Place { line: 1, col: 1 },
-            &mut log,
-        ) {
+        match below(alloc, ctx, left, right, Place { line: 1, col: 1 }, &mut log) {
             Ok(()) => kept = Some(log.demands().len()),
             Err(Stop::Refused(_)) => return Ok(None),
             Err(Stop::NoMemory) => return Err(AllocError),

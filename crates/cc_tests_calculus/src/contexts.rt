@@ -1,6 +1,6 @@
 // What the tests make their contexts, types and sets with.
 ghost use Rattle.std.specs.Prelude.{IfOk};
-ghost use Rattle.cc_core.specs.Views.{context_of};
+ghost use Rattle.cc_core.specs.TermViews.{context_of};
 ghost use Rattle.cc_core.specs.WellFormed.{IsWellFormedContext};
 
 use cc_core::wellformed::{wf, wf_shape};

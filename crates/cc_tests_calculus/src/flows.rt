@@ -2,7 +2,7 @@
 // forced into all of them. They are solved once and ten times.
 ghost use Rattle.std.specs.Prelude.{◌≡◌, ◌<◌, ◌++◌, [], ◌∷◌, IfOk, OnOk};
 ghost use Rattle.cc_core.specs.Substitution.{single};
-ghost use Rattle.cc_sets.specs.Outcomes.{Placed};
+ghost use Rattle.cc_checking.specs.Outcomes.{Placed};
 ghost use Rattle.cc_subty.specs.Demands.{asked_of};
 ghost use Rattle.cc_solve.specs.Solutions.{AreSolvable};
 ghost use Rattle.cc_tests_calculus.specs.Flows.{flow};

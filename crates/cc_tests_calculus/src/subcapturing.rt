@@ -1,6 +1,6 @@
 // Subcapturing along declared sets, and how many of them are looked up.
 ghost use Rattle.std.specs.Prelude.{◌≡◌, ◌<◌, IfOk};
-ghost use Rattle.cc_core.specs.Views.{context_of};
+ghost use Rattle.cc_core.specs.TermViews.{context_of};
 ghost use Rattle.cc_core.specs.WellFormed.{IsWellFormedContext};
 
 use crate::contexts::{at, console, declared, printer};

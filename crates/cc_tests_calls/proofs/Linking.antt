@@ -10,10 +10,10 @@ use Rattle.std.specs.Result.{IfOk, OkIff, result_ok}
 use Rattle.std.specs.Prelude.{Option, None, Result, Ok, Err, min}
 use Rattle.cc_device.specs.Devices.{Devices}
 use Rattle.cc_machine.proofs.StandingLemmas.{fits_back}
-use Rattle.cc_meta_runs.specs.Alike.{erased_cell, erased_configuration}
-use Rattle.cc_meta_runs.specs.Machine.{Configuration}
-use Rattle.cc_meta_runs.specs.SoundRuns.{HasShapesOfCells}
-use Rattle.cc_steps.proofs.Linking.{lookup-reverse}
+use Rattle.cc_runs.specs.Alike.{erased_cell, erased_configuration}
+use Rattle.cc_runs.specs.Machine.{Configuration}
+use Rattle.cc_runs.specs.SoundRuns.{HasShapesOfCells}
+use Rattle.cc_machine.proofs.Linking.{lookup-reverse}
 use Rattle.std.proofs.lemmas.Option.{slice_get-map}
 use Rattle.cc_base.specs.declared.device.DeviceDecl.{DeviceDecl}
 use Rattle.cc_base.specs.declared.device.Kind.{Kind}
@@ -38,23 +38,23 @@ use Rattle.cc_core.specs.Typing.{t-var, t-lit, t-app, t-sub, HasType}
 use Rattle.cc_core.specs.WellFormed.{is_well_formed_context, is_well_formed_entry, kinds_of}
 use Rattle.cc_core.specs.Stores.{ValueCell, Store, is_device_base, is_function, HasStoreTyping, value_stored, recursive_stored}
 use Rattle.cc_core.specs.Programs.{Definition, AreTyped, is_definable, device_context, device_entry, definition_context}
-use Rattle.cc_core.specs.Views.{term_of, type_of}
+use Rattle.cc_core.specs.TermViews.{term_of, type_of}
 use Rattle.cc_core.proofs.Lookups.{length_map, lookup-newest, lookup-older}
 use Rattle.cc_core.proofs.Moving.{Member-single}
 use Rattle.cc_core.proofs.SubcapturingContexts.{IsKindedContext, entry_kinded, kind_of_entry}
 use Rattle.cc_device.specs.Declarations.{declared_base, declared_bases}
-use Rattle.cc_meta_typing.proofs.FormedContexts.{IsKindedContext-test}
-use Rattle.cc_meta_typing.proofs.InternalConversions.{formed_type_from, internal_from, type_from}
-use Rattle.cc_meta_modules.specs.ModuleVerdicts.{in_program}
-use Rattle.cc_meta_runs.specs.Links.{device_cells}
-use Rattle.cc_meta_runs.proofs.Links.{linked_store_typed}
-use Rattle.cc_meta_runs.proofs.LinkedPrograms.{all_reversed}
-use Rattle.cc_meta_runs.proofs.StoreTyping.{store_typed_from, store_formed}
+use Rattle.cc_typing_laws.proofs.FormedContexts.{IsKindedContext-test}
+use Rattle.cc_typing_laws.proofs.InternalConversions.{formed_type_from, internal_from, type_from}
+use Rattle.cc_verdicts.specs.ModuleVerdicts.{in_program}
+use Rattle.cc_runs.specs.Links.{device_cells}
+use Rattle.cc_runs.proofs.Links.{linked_store_typed}
+use Rattle.cc_runs.proofs.LinkedPrograms.{all_reversed}
+use Rattle.cc_runs.proofs.StoreTyping.{store_typed_from, store_formed}
 use Rattle.cc_module.specs.declared.judgement.CheckedDef.{CheckedDef}
 use Rattle.cc_module.specs.Judgements.{checked_definition_of}
-use Rattle.cc_program.specs.declared.values.TypedValue.{TypedValue}
-use Rattle.cc_program.specs.Starts.{value_cell, value_entry, value_store, value_context, program_store, IsTyped}
-use Rattle.cc_program.proofs.Starting.{program_counted}
+use Rattle.cc_machine.specs.declared.values.TypedValue.{TypedValue}
+use Rattle.cc_machine.specs.Starts.{value_cell, value_entry, value_store, value_context, program_store, IsTyped}
+use Rattle.cc_machine.proofs.Starting.{program_counted}
 use Rattle.cc_tests_calls.specs.Linked.{is_unit, takes_unit, AreCellsOf, AreTypedOver}
 
 some_is : {A : Type 0} (a b : A) → Some a ≡ Some b → a ≡ b

@@ -5,12 +5,12 @@ use Rattle.cc_base.specs.declared.device.DeviceDecl.{DeviceDecl}
 use Rattle.cc_core.specs.Shapes.{Shape, BaseShape, FunctionShape}
 use Rattle.cc_core.specs.Contexts.{entry_of}
 use Rattle.cc_core.specs.Stores.{ValueCell}
-use Rattle.cc_core.specs.Views.{term_of, type_of}
-use Rattle.cc_meta_modules.specs.ModuleLaws.{AreSound}
+use Rattle.cc_core.specs.TermViews.{term_of, type_of}
+use Rattle.cc_verdicts.specs.ModuleLaws.{AreSound}
 use Rattle.cc_module.specs.declared.judgement.CheckedDef.{CheckedDef}
 use Rattle.cc_module.specs.Judgements.{checked_definition_of}
-use Rattle.cc_program.specs.declared.values.TypedValue.{TypedValue}
-use Rattle.cc_program.specs.Starts.{value_cell, value_entry}
+use Rattle.cc_machine.specs.declared.values.TypedValue.{TypedValue}
+use Rattle.cc_machine.specs.Starts.{value_cell, value_entry}
 
 -- whether the shape is that of unit
 abbrev pub is_unit : Shape → Bool

@@ -2,7 +2,7 @@
 //! that are the sums of the two before them, while few of the nodes differ.
 use crate::derivations::{derived, size};
 use cc_derivation::node_count;
-use cc_derive_subtyping::Tree;
+use cc_derive::Tree;
 use std::alloc::{AllocError, Global};
 
 // The text of a function of a console that names so many closures, at least two, and gives the last one with the

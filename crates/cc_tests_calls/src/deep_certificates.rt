@@ -1,6 +1,6 @@
 //! Certificates of derivations as deep as they may be. Writing and dropping take no stack for each node.
 use cc_base::place::Place;
-use cc_certificate::cert_text;
+use cc_certificate_writing::cert_text;
 use cc_core::{CapSet, Ctx, Form, Lit, Node};
 use cc_derivation::{Claim, Der, Premises, Rule};
 use cc_print::Names;

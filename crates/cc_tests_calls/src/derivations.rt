@@ -1,8 +1,7 @@
 //! What is made of the derivation of a text's last definition, as it is accepted beside three devices.
 use crate::fixture::{devices, judged};
 use cc_core::{Base, Bind, CapSet, Ctx, Elem, Shape, Ty};
-use cc_derive::derive_filled;
-use cc_derive_subtyping::Tree;
+use cc_derive::{Tree, derive_filled};
 use cc_module::judgement::CheckedDef;
 use std::alloc::{AllocError, Global};
 use std::rc::Rc;

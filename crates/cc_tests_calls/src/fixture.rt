@@ -1,7 +1,7 @@
 //! Three devices, and what is found for a text without imports beside them.
 ghost use Rattle.std.specs.Prelude.{◌≡◌, ◌<◌, false, [], IfOk, IfSome};
 ghost use Rattle.std.specs.Str.{bytes_eq};
-ghost use Rattle.cc_meta_modules.specs.ModuleLaws.{NamesOfDevicesDiffer};
+ghost use Rattle.cc_verdicts.specs.ModuleLaws.{NamesOfDevicesDiffer};
 ghost use Rattle.cc_module.specs.Judgements.{module_verdict_of, IsSoundIfAccepted};
 
 use cc_base::device::{DeviceDecl, Kind, Numbers};

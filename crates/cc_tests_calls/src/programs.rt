@@ -3,10 +3,10 @@ ghost use Rattle.std.specs.Prelude.{◌≡◌, ◌<◌, ◌≤◌, IfSome};
 ghost use Rattle.std.specs.Bool.{MatchBool};
 ghost use Rattle.cc_capture.specs.declared.var.Var.TheVariants.{Free};
 ghost use Rattle.cc_core.specs.Terms.{Application};
-ghost use Rattle.cc_core.specs.Views.{shape_of, term_of, type_of};
+ghost use Rattle.cc_core.specs.TermViews.{shape_of, term_of, type_of};
 ghost use Rattle.cc_device.specs.Declarations.{declared_base, declared_bases};
-ghost use Rattle.cc_meta_modules.specs.ModuleLaws.{NamesOfDevicesDiffer};
-ghost use Rattle.cc_program.specs.Programs.{shapes_of};
+ghost use Rattle.cc_verdicts.specs.ModuleLaws.{NamesOfDevicesDiffer};
+ghost use Rattle.cc_machine.specs.Programs.{shapes_of};
 ghost use Rattle.cc_tests_calls.specs.Linked.{AreCellsOf, AreTypedOver, IsCellOf, is_unit, takes_unit};
 
 use crate::fixture::judged;
@@ -14,8 +14,8 @@ use cc_base::device::{DeviceDecl, Kind};
 use cc_base::literal::Base;
 use cc_base::place::Place;
 use cc_core::{Form, Node, Shape, Ty, Var};
+use cc_machine::{Program, TypedValue};
 use cc_module::judgement::CheckedDef;
-use cc_program::{Program, TypedValue};
 use std::alloc::{AllocError, Global};
 use std::rc::Rc;
 

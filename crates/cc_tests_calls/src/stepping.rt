@@ -1,16 +1,15 @@
 // A machine that takes memory first, and then goes step by step.
 ghost use Rattle.std.specs.Prelude.{◌+◌, ◌<◌, ◌≤◌};
 ghost use Rattle.cc_machine.specs.Machines.{count_cells, held_by};
-ghost use Rattle.cc_meta_runs.specs.SafeRuns.{HaveShapes};
-ghost use Rattle.cc_meta_runs.specs.SoundRuns.{HasShapesOfCells};
-ghost use Rattle.cc_program.specs.Programs.{shapes_of};
+ghost use Rattle.cc_runs.specs.SafeRuns.{HaveShapes};
+ghost use Rattle.cc_runs.specs.SoundRuns.{HasShapesOfCells};
+ghost use Rattle.cc_machine.specs.Programs.{shapes_of};
 
 use crate::fixture::devices;
 use crate::programs::program_of;
 use crate::texts::{put_event, put_shown};
 use cc_device::{Devices, Event};
-use cc_machine::Machine;
-use cc_program::Program;
+use cc_machine::{Machine, Program};
 use std::alloc::{AllocError, Global};
 
 // What a step is answered by, where the machine is not at its end.

@@ -1,7 +1,7 @@
 // The text of what runs show.
 use cc_base::literal::Op;
 use cc_device::{Event, Shown, ShownLit};
-use cc_steps::reading::lent;
+use cc_machine::reading::lent;
 use std::alloc::{AllocError, Global};
 
 fn put_literal(alloc: Global, literal: ShownLit, text: &mut String) -> Result<(), AllocError> {

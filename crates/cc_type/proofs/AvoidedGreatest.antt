@@ -14,11 +14,11 @@ use Rattle.cc_core.specs.Contexts.{Bind, TermEntry, Context, lookup}
 use Rattle.cc_core.specs.WellFormed.{kind_of, kinds_of, IsWellFormedContext, IsWellFormedType}
 use Rattle.cc_core.proofs.Lookups.{length_map, lookup-below, lookup-cases}
 use Rattle.cc_core.proofs.SubcapturingContexts.{IsKindedEntry, IsKindedContext, IsKindedContext-from}
-use Rattle.cc_sets.specs.Avoidance.{Sign, Positive, Negative, opposite, has_position, is_free_in, is_free_in_type}
-use Rattle.cc_sets.specs.Avoidance.{avoided_set, avoided, avoided_type}
-use Rattle.cc_sets.specs.Verdicts.{declared_set, signature_of}
-use Rattle.cc_meta_typing.proofs.Avoiding.{both_some, map_some, unless_some, not_true, avoided_type_parts}
-use Rattle.cc_meta_typing.proofs.AvoidingPlaces.{nothing_to_avoid, avoided_is_gone}
+use Rattle.cc_checking.specs.Avoidance.{Sign, Positive, Negative, opposite, has_position, is_free_in, is_free_in_type}
+use Rattle.cc_checking.specs.Avoidance.{avoided_set, avoided, avoided_type}
+use Rattle.cc_checking.specs.Verdicts.{declared_set, signature_of}
+use Rattle.cc_typing_laws.proofs.Avoiding.{both_some, map_some, unless_some, not_true, avoided_type_parts}
+use Rattle.cc_typing_laws.proofs.AvoidingPlaces.{nothing_to_avoid, avoided_is_gone}
 use Rattle.cc_type.specs.Signatures.{greatest_position, IsGreatest, height_of, SignatureOfDevicesAlone}
 use Rattle.cc_type.specs.Signatures.{SignatureAvoidsTheGreatest, GreatestPositionFalls}
 use Rattle.cc_type.proofs.GreatestPositions.{greatest_is_greatest}

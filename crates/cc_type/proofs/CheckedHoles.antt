@@ -10,15 +10,15 @@ use Rattle.cc_core.specs.WellFormed.{kinds_of, IsWellFormedNote}
 use Rattle.cc_core.proofs.KindFacts.{IsKindedNote-from}
 use Rattle.cc_core.proofs.Sorts.{SetSort, ShapeSort, TypeSort, NoteSort}
 use Rattle.cc_core.proofs.SubcapturingContexts.{IsKindedContext, IsKindedContext-from}
-use Rattle.cc_sets.specs.Outcomes.{Asked, Placed, Found}
-use Rattle.cc_sets.specs.Fillings.{IsAskedIn}
-use Rattle.cc_sets.specs.Inference.{limited}
-use Rattle.cc_sets.specs.Verdicts.{Definition, Checking, plain_checked, recursive_checked}
-use Rattle.cc_meta_checking.specs.FillingLaws.{AreGlobals}
-use Rattle.cc_meta_checking.proofs.FoundFindings.{asked_of, Came, then_came, finds_came, found_finds, below_came}
-use Rattle.cc_meta_checking.proofs.FoundFindings.{noted_came, avoided_came}
-use Rattle.cc_meta_checking.proofs.Findings.{below_all}
-use Rattle.cc_meta_checking.proofs.Signatures.{signed}
+use Rattle.cc_checking.specs.Outcomes.{Asked, Placed, Found}
+use Rattle.cc_checking.specs.Fillings.{IsAskedIn}
+use Rattle.cc_checking.specs.Inference.{limited}
+use Rattle.cc_checking.specs.Verdicts.{Definition, Checking, plain_checked, recursive_checked}
+use Rattle.cc_checking_laws.specs.FillingLaws.{AreGlobals}
+use Rattle.cc_checking_laws.proofs.FoundFindings.{asked_of, Came, then_came, finds_came, found_finds, below_came}
+use Rattle.cc_checking_laws.proofs.FoundFindings.{noted_came, avoided_came}
+use Rattle.cc_checking_laws.proofs.Findings.{below_all}
+use Rattle.cc_checking_laws.proofs.Signatures.{signed}
 use Rattle.cc_type.specs.FilledHoles.{holes_below, HasContextHolesBelow, HasAskedHolesBelow, holes_of}
 use Rattle.cc_type.specs.FilledHoles.{InferenceAddsNoHole, CheckingAddsNoHole}
 use Rattle.cc_type.proofs.FilledAlike.{closed_below, holes_are_counted}

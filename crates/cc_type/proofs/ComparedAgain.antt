@@ -21,7 +21,7 @@ use Rattle.cc_core.specs.Traversal.{act_type}
 use Rattle.cc_core.specs.Substitution.{single, moved_element, renamed_variable, renaming, renamed, renamed_set, renamed_type}
 use Rattle.cc_core.specs.Substitution.{opened_type}
 use Rattle.cc_core.specs.Occurrences.{IsAskedOf, IsPositionBelow, positions_below, on_variables}
-use Rattle.cc_core.specs.Comparison.{same_shape}
+use Rattle.cc_core.specs.Equality.{same_shape}
 use Rattle.cc_core.specs.WellFormed.{kinds_of, IsWellFormedContext, IsWellFormedShape}
 use Rattle.cc_core.proofs.KindFacts.{IsKindedSet}
 use Rattle.cc_core.proofs.Comparisons.{same_shape-decides}
@@ -34,10 +34,10 @@ use Rattle.cc_core.proofs.Renaming.{IsFree-renaming, Sends-renaming, renaming-re
 use Rattle.cc_core.proofs.Sorts.{SetSort, ShapeSort, TypeSort, Sort, Syntax, acted, MeetsIn, MeetsIn-here, MeetsIn-always}
 use Rattle.cc_core.proofs.SubcapturingContexts.{IsKindedEntry, IsKindedContext, IsKindedContext-from, entry_kinded}
 use Rattle.cc_core.proofs.WellFormedness.{well_formed-positions_below}
-use Rattle.cc_meta_typing.proofs.FormedContexts.{positions_of}
-use Rattle.cc_sets.specs.Comparison.{Demand, demanded, Comparison, Unfinished, Mismatch, Matches, and_then, Comparing}
-use Rattle.cc_sets.specs.Comparison.{types_compared, bound_in, bound_of, bound_compared, function_compared}
-use Rattle.cc_sets.specs.Comparison.{type_function_compared, box_compared, is_any, by_form, comparison}
+use Rattle.cc_typing_laws.proofs.FormedContexts.{positions_of}
+use Rattle.cc_checking.specs.Comparison.{Demand, demanded, Comparison, Unfinished, Mismatch, Matches, and_then, Comparing}
+use Rattle.cc_checking.specs.Comparison.{types_compared, bound_in, bound_of, bound_compared, function_compared}
+use Rattle.cc_checking.specs.Comparison.{type_function_compared, box_compared, is_any, by_form, comparison}
 use Rattle.cc_type.specs.Keeping.{is_at, is_element_below, is_below, has_hole, is_demand_settled}
 use Rattle.cc_type.specs.ComparedAgain.{told, ComparedAgain}
 use Rattle.cc_type.proofs.KeptDemands.{all_pass, listed_passes}

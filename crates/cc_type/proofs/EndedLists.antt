@@ -19,9 +19,9 @@ use Rattle.cc_core.specs.WellFormed.{IsWellFormedContext, IsWellFormedSet}
 use Rattle.cc_core.proofs.CapturedKinds.{empty_kinded}
 use Rattle.cc_core.proofs.KindFacts.{IsKindedSet-test}
 use Rattle.cc_core.proofs.Lookups.{lookup-within, lookup-more}
-use Rattle.cc_sets.specs.Comparison.{demanded}
-use Rattle.cc_sets.specs.Outcomes.{Asked, IsBelow, IsCapless, Placed}
-use Rattle.cc_sets.specs.Inference.{demand_at}
+use Rattle.cc_checking.specs.Comparison.{demanded}
+use Rattle.cc_checking.specs.Outcomes.{Asked, IsBelow, IsCapless, Placed}
+use Rattle.cc_checking.specs.Inference.{demand_at}
 use Rattle.cc_sets.proofs.SubcapturingSearch.{set_lower}
 use Rattle.cc_type.specs.declared.ended.EndedDemand.{EndedDemand}
 use Rattle.cc_type.specs.declared.known.KnownEnds.{KnownEnds}

@@ -21,7 +21,7 @@ use Rattle.cc_core.specs.Occurrences.{IsNoHole, without_holes, agreement}
 use Rattle.cc_core.proofs.Conditions.{Gives, Meets-along, MeetsInTerm-along, GivesHere}
 use Rattle.cc_core.proofs.Sorts.{Sort, SetSort, ShapeSort, TypeSort, NoteSort, TermSort, Syntax, MeetsIn, MeetsIn-here}
 use Rattle.cc_core.proofs.Sorts.{acted, acted-congruent}
-use Rattle.cc_sets.specs.Fillings.{Filling}
+use Rattle.cc_checking.specs.Fillings.{Filling}
 use Rattle.cc_core.specs.Holes.{NoteHasNoHole, OptionalSetHasNoHole, HolesAreOfParameters}
 use Rattle.cc_type.specs.FilledHoles.{IsHoleBelow, holes_below, holes_of_element, holes_listed, holes_of_set, holes_of}
 use Rattle.cc_solve.specs.Solutions.{filling_of}

@@ -15,14 +15,14 @@ use Rattle.cc_core.proofs.KindFacts.{IsKinded-from, IsKindedType-from}
 use Rattle.cc_core.proofs.CapturedKinds.{empty_kinded}
 use Rattle.cc_core.proofs.KindRespecting.{single_kinded}
 use Rattle.cc_core.proofs.SubcapturingContexts.{IsKindedContext-from, IsKinded-added}
-use Rattle.cc_meta_typing.proofs.FormedContexts.{IsKindedContext-test}
-use Rattle.cc_sets.specs.Exposing.{exposed}
-use Rattle.cc_sets.specs.Outcomes.{finds}
-use Rattle.cc_sets.specs.Inference.{variable_type, Function, TypeFunction, function_head, type_function_head, box_head}
-use Rattle.cc_sets.specs.Inference.{exit_head}
-use Rattle.cc_meta_checking.proofs.FoundFindings.{variable_came, function_head_came, type_function_head_came}
-use Rattle.cc_meta_checking.proofs.FoundFindings.{box_head_came, exit_head_came}
-use Rattle.cc_meta_checking.proofs.FoundTypes.{exposed_kinded, has_kinded, variable_set_kinded}
+use Rattle.cc_typing_laws.proofs.FormedContexts.{IsKindedContext-test}
+use Rattle.cc_checking.specs.Exposing.{exposed}
+use Rattle.cc_checking.specs.Outcomes.{finds}
+use Rattle.cc_checking.specs.Inference.{variable_type, Function, TypeFunction, function_head, type_function_head, box_head}
+use Rattle.cc_checking.specs.Inference.{exit_head}
+use Rattle.cc_checking_laws.proofs.FoundFindings.{variable_came, function_head_came, type_function_head_came}
+use Rattle.cc_checking_laws.proofs.FoundFindings.{box_head_came, exit_head_came}
+use Rattle.cc_checking_laws.proofs.FoundTypes.{exposed_kinded, has_kinded, variable_set_kinded}
 
 type_kinded : (g : Context) (v : Var) (t : CapturingType) → IsWellFormedContext g → variable_type g v ≡ finds t
     → IsKindedType (kinds_of g) [] t

@@ -9,7 +9,7 @@ use Rattle.cc_capture.specs.declared.var.Elem.{Elem}
 use Rattle.cc_capture.specs.declared.var.Elem.TheVariants.{Var as Variable, Cap, Hole}
 use Rattle.cc_capture.specs.Sets.{Set, Member}
 use Rattle.cc_capture.proofs.Membership.{Member-flat_image}
-use Rattle.cc_core.specs.Comparison.{same_shape}
+use Rattle.cc_core.specs.Equality.{same_shape}
 use Rattle.cc_core.specs.Contexts.{Bind, Context, entry_of}
 use Rattle.cc_core.specs.Occurrences.{IsNoHole}
 use Rattle.cc_core.specs.Reading.{reading, read_variable, read_set, read_shape, read_type}
@@ -23,10 +23,10 @@ use Rattle.cc_core.proofs.OccurrenceTests.{hole-decides}
 use Rattle.cc_core.proofs.ReadingAndWriting.{opened_type-read, read-still}
 use Rattle.cc_core.proofs.Sorts.{ShapeSort}
 use Rattle.cc_core.proofs.WellFormedness.{well_formed-bound_within}
-use Rattle.cc_sets.specs.Comparison.{Demand, demanded, Comparison, Unfinished, Mismatch, Matches, and_then, is_any, by_form}
-use Rattle.cc_sets.specs.Comparison.{comparison, type_comparison}
-use Rattle.cc_sets.specs.Inference.{demand_at, compared_at}
-use Rattle.cc_sets.specs.Outcomes.{Placed}
+use Rattle.cc_checking.specs.Comparison.{Demand, demanded, Comparison, Unfinished, Mismatch, Matches, and_then, is_any, by_form}
+use Rattle.cc_checking.specs.Comparison.{comparison, type_comparison}
+use Rattle.cc_checking.specs.Inference.{demand_at, compared_at}
+use Rattle.cc_checking.specs.Outcomes.{Placed}
 use Rattle.cc_type.specs.FormsAlone.{forces_nothing}
 use Rattle.cc_type.specs.Keeping.{has_hole, is_demand_settled, is_lost, has_lost, is_needless, with_one, keeping}
 use Rattle.cc_type.specs.KeptWalks.{goes, form_compared}

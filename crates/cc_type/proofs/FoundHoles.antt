@@ -13,16 +13,16 @@ use Rattle.cc_core.specs.Reading.{read_variable, written_variable}
 use Rattle.cc_core.specs.Substitution.{moving, put_variable, closed_variable}
 use Rattle.cc_core.specs.Traversal.{act}
 use Rattle.cc_core.specs.Occurrences.{MeetsInNote, MeetsInTerm}
-use Rattle.cc_sets.specs.Comparison.{Demand, TypesHaveDemands}
-use Rattle.cc_sets.specs.Exposing.{exposed}
-use Rattle.cc_sets.specs.Outcomes.{Asked}
-use Rattle.cc_sets.specs.Inference.{Result, in_context, set_in, shape_in, type_in, written_in, Named, exit_entry}
-use Rattle.cc_meta_checking.proofs.Findings.{Has, below_all, Operand, Notes, notes-absent, notes-written, notes-own}
-use Rattle.cc_meta_checking.proofs.Findings.{Finds, finds-variable, finds-literal, finds-function, finds-type_function}
-use Rattle.cc_meta_checking.proofs.Findings.{finds-box, finds-application, finds-type_application, finds-unboxing}
-use Rattle.cc_meta_checking.proofs.Findings.{finds-unboxing_own, finds-let, finds-primitive, finds-choice}
-use Rattle.cc_meta_checking.proofs.Findings.{finds-choice_own, finds-repetition, finds-operation, finds-operation_alone}
-use Rattle.cc_meta_checking.proofs.Findings.{finds-boundary, finds-exit}
+use Rattle.cc_checking.specs.Comparison.{Demand, TypesHaveDemands}
+use Rattle.cc_checking.specs.Exposing.{exposed}
+use Rattle.cc_checking.specs.Outcomes.{Asked}
+use Rattle.cc_checking.specs.Inference.{Result, in_context, set_in, shape_in, type_in, written_in, Named, exit_entry}
+use Rattle.cc_checking_laws.proofs.Findings.{Has, below_all, Operand, Notes, notes-absent, notes-written, notes-own}
+use Rattle.cc_checking_laws.proofs.Findings.{Finds, finds-variable, finds-literal, finds-function, finds-type_function}
+use Rattle.cc_checking_laws.proofs.Findings.{finds-box, finds-application, finds-type_application, finds-unboxing}
+use Rattle.cc_checking_laws.proofs.Findings.{finds-unboxing_own, finds-let, finds-primitive, finds-choice}
+use Rattle.cc_checking_laws.proofs.Findings.{finds-choice_own, finds-repetition, finds-operation, finds-operation_alone}
+use Rattle.cc_checking_laws.proofs.Findings.{finds-boundary, finds-exit}
 use Rattle.cc_type.specs.FilledHoles.{holes_below, HasContextHolesBelow, HasAskedHolesBelow}
 use Rattle.cc_type.proofs.FilledAlike.{shape_anywhere, term_anywhere}
 use Rattle.cc_type.proofs.HolesBelow.{InSet, InShape, InType, InDemands, in_single, in_empty, in_union, in_variable}

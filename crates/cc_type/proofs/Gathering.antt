@@ -4,7 +4,7 @@ use Rattle.std.proofs.Common.{None, refl, sym, ap, ◌∙◌, inl, inr, arith}
 use Rattle.std.specs.Prelude.{nat_lt}
 use Rattle.std.proofs.lemmas.Bool.{cases_lt, cond-true, cond-false, ltb-true, ltb-false}
 use Rattle.cc_capture.specs.declared.var.Elem.{Elem}
-use Rattle.cc_meta_typing.proofs.Avoiding.{not_true}
+use Rattle.cc_typing_laws.proofs.Avoiding.{not_true}
 use Rattle.cc_type.specs.FilledHoles.{holes_of_element, holes_listed}
 use Rattle.cc_type.specs.Signatures.{greater_of, element_position, greatest_listed}
 

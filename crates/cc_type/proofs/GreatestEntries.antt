@@ -13,9 +13,9 @@ use Rattle.cc_core.specs.WellFormed.{Kind, TermKind, TypeKind, kind_of, kinds_of
 use Rattle.cc_core.proofs.KindFacts.{IsOfKind, IsKinded, IsKindedSet, IsKindedType-from}
 use Rattle.cc_core.proofs.Lookups.{length_map, lookup-below}
 use Rattle.cc_core.proofs.SubcapturingContexts.{entry_of_term}
-use Rattle.cc_sets.specs.Avoidance.{has_position, is_position, is_free_in, is_free_in_type}
-use Rattle.cc_meta_typing.proofs.Avoiding.{not_true}
-use Rattle.cc_meta_checking.proofs.CheckedDefinitions.{all_terms}
+use Rattle.cc_checking.specs.Avoidance.{has_position, is_position, is_free_in, is_free_in_type}
+use Rattle.cc_typing_laws.proofs.Avoiding.{not_true}
+use Rattle.cc_checking_laws.proofs.CheckedDefinitions.{all_terms}
 use Rattle.cc_type.specs.Signatures.{GreatestPositionHasAnEntry}
 use Rattle.cc_type.proofs.AvoidedGreatest.{or_no, greatest_some}
 

@@ -13,8 +13,8 @@ use Rattle.cc_capture.specs.Rising.{is_listed}
 use Rattle.cc_capture.specs.Sets.{Set, contains}
 use Rattle.cc_core.specs.Shapes.{Shape, BaseShape, AnyShape, TypeVariable, FunctionShape, TypeFunctionShape, BoxShape}
 use Rattle.cc_core.specs.Shapes.{ExitShape}
-use Rattle.cc_sets.specs.Avoidance.{has_position, is_position, is_free_in}
-use Rattle.cc_meta_typing.proofs.Avoiding.{not_true}
+use Rattle.cc_checking.specs.Avoidance.{has_position, is_position, is_free_in}
+use Rattle.cc_typing_laws.proofs.Avoiding.{not_true}
 use Rattle.cc_type.specs.Signatures.{greater_of, position_from, element_position, greatest_listed, greatest_in_set}
 use Rattle.cc_type.specs.Signatures.{greatest_in, IsGreatest, GreatestPositionIsGreatest}
 

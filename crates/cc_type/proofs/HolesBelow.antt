@@ -20,18 +20,18 @@ use Rattle.cc_core.specs.Substitution.{single, moving, moved_element, put_variab
 use Rattle.cc_core.specs.Substitution.{opened_type}
 use Rattle.cc_core.specs.Occurrences.{MeetsInSet, Meets, MeetsInType, MeetsInTerm}
 use Rattle.cc_core.specs.Captured.{captured_variables, variable_set, without_binder, outside, is_unused_value}
-use Rattle.cc_core.specs.Comparison.{same_shape}
+use Rattle.cc_core.specs.Equality.{same_shape}
 use Rattle.cc_core.proofs.Conditions.{Brings, MeetsInSet-act, Meets-act}
 use Rattle.cc_core.proofs.Lookups.{lookup-cases}
 use Rattle.cc_core.proofs.Moving.{Member-single}
-use Rattle.cc_sets.specs.Comparison.{Demand, Comparison, Mismatch, Matches, Comparing, types_compared, bound_in}
-use Rattle.cc_sets.specs.Comparison.{bound_compared, function_compared, type_function_compared, box_compared, is_any}
-use Rattle.cc_sets.specs.Comparison.{by_form, comparison}
-use Rattle.cc_sets.specs.Exposing.{followed, exposed}
-use Rattle.cc_sets.specs.Avoidance.{Sign, Positive, Negative, opposite, has_position, is_free_in, avoided_set, avoided}
-use Rattle.cc_sets.specs.Avoidance.{avoided_type}
-use Rattle.cc_meta_typing.proofs.Avoiding.{both_some, map_some, unless_some, avoided_type_parts}
-use Rattle.cc_meta_typing.proofs.ComparisonLemmas.{then_parts}
+use Rattle.cc_checking.specs.Comparison.{Demand, Comparison, Mismatch, Matches, Comparing, types_compared, bound_in}
+use Rattle.cc_checking.specs.Comparison.{bound_compared, function_compared, type_function_compared, box_compared, is_any}
+use Rattle.cc_checking.specs.Comparison.{by_form, comparison}
+use Rattle.cc_checking.specs.Exposing.{followed, exposed}
+use Rattle.cc_checking.specs.Avoidance.{Sign, Positive, Negative, opposite, has_position, is_free_in, avoided_set, avoided}
+use Rattle.cc_checking.specs.Avoidance.{avoided_type}
+use Rattle.cc_typing_laws.proofs.Avoiding.{both_some, map_some, unless_some, avoided_type_parts}
+use Rattle.cc_typing_laws.proofs.ComparisonLemmas.{then_parts}
 use Rattle.cc_type.specs.FilledHoles.{IsHoleBelow, holes_below, HasEntryHolesBelow, HasContextHolesBelow}
 use Rattle.cc_type.proofs.FilledAlike.{shape_anywhere}
 

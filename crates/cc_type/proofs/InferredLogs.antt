@@ -13,17 +13,17 @@ use Rattle.cc_core.specs.Shapes.{ExitShape, CapturingType, capturing}
 use Rattle.cc_core.specs.Terms.{Note, Absent, Written, Own, Term, VariableTerm, LiteralTerm, FunctionTerm}
 use Rattle.cc_core.specs.Terms.{TypeFunctionTerm, BoxTerm, Application, TypeApplication, Unboxing, Let, Primitive}
 use Rattle.cc_core.specs.Terms.{Conditional, Repetition, Operation, Boundary, Leave}
-use Rattle.cc_core.specs.Comparison.{same_shape}
+use Rattle.cc_core.specs.Equality.{same_shape}
 use Rattle.cc_core.specs.Contexts.{Bind, TermEntry, TypeEntry, Context, lookup, entry_of}
 use Rattle.cc_core.specs.Places.{Places, spots, first_part, second_part}
 use Rattle.cc_core.specs.Typing.{base_operated, base_taken}
-use Rattle.cc_sets.specs.Avoidance.{Positive, avoided_type}
-use Rattle.cc_sets.specs.Exposing.{exposed}
-use Rattle.cc_sets.specs.Outcomes.{Placed, Outcome, NoAnswer, Refused, Found, finds, asked_before, ◌>>=◌, found_or}
-use Rattle.cc_sets.specs.Inference.{Result, result, in_context, type_in, shape_in, below, against, capless, exit_entry}
-use Rattle.cc_sets.specs.Inference.{entry_type, variable_type, function_head, type_function_head, box_head, exit_head}
-use Rattle.cc_sets.specs.Inference.{device_head, operand, operation_argument, opening_set, named_by, noted, left_behind}
-use Rattle.cc_sets.specs.Inference.{tested, sized, inferred}
+use Rattle.cc_checking.specs.Avoidance.{Positive, avoided_type}
+use Rattle.cc_checking.specs.Exposing.{exposed}
+use Rattle.cc_checking.specs.Outcomes.{Placed, Outcome, NoAnswer, Refused, Found, finds, asked_before, ◌>>=◌, found_or}
+use Rattle.cc_checking.specs.Inference.{Result, result, in_context, type_in, shape_in, below, against, capless, exit_entry}
+use Rattle.cc_checking.specs.Inference.{entry_type, variable_type, function_head, type_function_head, box_head, exit_head}
+use Rattle.cc_checking.specs.Inference.{device_head, operand, operation_argument, opening_set, named_by, noted, left_behind}
+use Rattle.cc_checking.specs.Inference.{tested, sized, inferred}
 use Rattle.cc_type.specs.Keeping.{keeping}
 use Rattle.cc_type.specs.Logs.{Logged, Lost, Stopped, Got, after, followed, plainly}
 use Rattle.cc_type.specs.Rows.{comparing, ways, directly, ends, operand_log, argument_log, opening_log, own_named}

@@ -23,10 +23,10 @@ use Rattle.cc_core.proofs.Lookups.{length_map, lookup-newest, lookup-other, look
 use Rattle.cc_core.proofs.Moving.{Member-single}
 use Rattle.cc_core.proofs.SubcapturingContexts.{IsKindedContext, IsKindedContext-from}
 use Rattle.cc_core.proofs.SubcapturingLemmas.{subcaptures_along, subcaptures_variable, subcaptures_other}
-use Rattle.cc_sets.specs.Comparison.{Demand}
-use Rattle.cc_sets.specs.Outcomes.{IsBelow, IsCapless}
-use Rattle.cc_sets.specs.Fillings.{Filling, filled_context}
-use Rattle.cc_meta_checking.proofs.LeastFillings.{Member-filled, Member-from_filled, lookup-filled}
+use Rattle.cc_checking.specs.Comparison.{Demand}
+use Rattle.cc_checking.specs.Outcomes.{IsBelow, IsCapless}
+use Rattle.cc_checking.specs.Fillings.{Filling, filled_context}
+use Rattle.cc_checking_laws.proofs.LeastFillings.{Member-filled, Member-from_filled, lookup-filled}
 use Rattle.cc_type.specs.Keeping.{is_at, is_element_below, is_below, has_hole, is_demand_settled}
 use Rattle.cc_type.specs.KeepingLaws.{TestOfSetsDecides, SettledIsServed}
 

@@ -6,9 +6,9 @@ use Rattle.cc_capture.specs.Sets.{contains, empty, insert, is_subset, same_set, 
 use Rattle.cc_core.specs.Substitution.{single}
 use Rattle.cc_core.proofs.Moving.{Member-single_itself}
 use Rattle.cc_capture.specs.declared.var.Elem.TheVariants.{Hole}
-use Rattle.cc_sets.specs.Comparison.{demanded}
-use Rattle.cc_sets.specs.Fillings.{global, forced}
-use Rattle.cc_sets.specs.Inference.{demand_at}
+use Rattle.cc_checking.specs.Comparison.{demanded}
+use Rattle.cc_checking.specs.Fillings.{global, forced}
+use Rattle.cc_checking.specs.Inference.{demand_at}
 use Rattle.cc_type.specs.KeepingExamples.{with_local, number, NumbersAreBelowNothing, ConsolesAreKept, NumbersAreForced}
 use Rattle.cc_type.specs.KeepingExamples.{HolesAreBelowThemselves, HolesMayHaveCap, ConsolesAreLost}
 use Rattle.cc_type.specs.KeepingExamples.{OneLostAndWhatForcesAreKept, WhatMayFailIsKept, RepeatedIsKeptOnce}

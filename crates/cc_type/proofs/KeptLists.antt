@@ -11,12 +11,12 @@ use Rattle.cc_core.specs.Contexts.{Context}
 use Rattle.cc_core.specs.Questions.{is_hole}
 use Rattle.cc_core.specs.Substitution.{single}
 use Rattle.cc_core.proofs.Moving.{Member-single, Member-single_itself}
-use Rattle.cc_sets.specs.Comparison.{Demand}
-use Rattle.cc_sets.specs.Outcomes.{Asked, IsBelow, IsCapless, Placed}
-use Rattle.cc_sets.specs.Fillings.{Filling, IsServed, AllServed, IsAskedIn, Comes, global, capability, local, forced}
-use Rattle.cc_sets.specs.Fillings.{IsOverGlobals, FailsFirst, code_of_failure}
+use Rattle.cc_checking.specs.Comparison.{Demand}
+use Rattle.cc_checking.specs.Outcomes.{Asked, IsBelow, IsCapless, Placed}
+use Rattle.cc_checking.specs.Fillings.{Filling, IsServed, AllServed, IsAskedIn, Comes, global, capability, local, forced}
+use Rattle.cc_checking.specs.Fillings.{IsOverGlobals, FailsFirst, code_of_failure}
 use Rattle.cc_core.specs.WellFormed.{IsWellFormedContext}
-use Rattle.cc_meta_checking.specs.FillingLaws.{AreGlobals, IsFit}
+use Rattle.cc_checking_laws.specs.FillingLaws.{AreGlobals, IsFit}
 use Rattle.cc_type.specs.FormedDemands.{IsWellFormedAsked, AllWellFormed}
 use Rattle.cc_type.specs.Keeping.{is_below, has_hole, is_demand_settled, is_settled, may_force, is_lost, has_lost}
 use Rattle.cc_type.specs.Keeping.{is_repeated, is_needless, with_one, keeping, kept}

@@ -7,16 +7,16 @@ use Rattle.cc_capture.specs.Sets.{Set, Member}
 use Rattle.cc_core.specs.Actions.{filled_by}
 use Rattle.cc_core.specs.Shapes.{Shape, CapturingType}
 use Rattle.cc_core.specs.Contexts.{TermEntry, Context, lookup}
-use Rattle.cc_sets.specs.Comparison.{Demand}
-use Rattle.cc_sets.specs.Outcomes.{Asked, IsBelow, IsCapless, Placed, Found}
-use Rattle.cc_sets.specs.Fillings.{Filling, AllServed, IsAskedIn, IsLeast, FailsFirst}
-use Rattle.cc_sets.specs.Verdicts.{Definition, Checking, IsRefused, IsChecked, Deserves, settled_or}
-use Rattle.cc_sets.specs.Verdicts.{signature_under, accepted_with, signature_verdict}
-use Rattle.cc_meta_checking.specs.FillingLaws.{IsFit, AreFit}
-use Rattle.cc_meta_checking.specs.CheckingLaws.{Fits}
+use Rattle.cc_checking.specs.Comparison.{Demand}
+use Rattle.cc_checking.specs.Outcomes.{Asked, IsBelow, IsCapless, Placed, Found}
+use Rattle.cc_checking.specs.Fillings.{Filling, AllServed, IsAskedIn, IsLeast, FailsFirst}
+use Rattle.cc_checking.specs.Verdicts.{Definition, Checking, IsRefused, IsChecked, Deserves, settled_or}
+use Rattle.cc_checking.specs.Verdicts.{signature_under, accepted_with, signature_verdict}
+use Rattle.cc_checking_laws.specs.FillingLaws.{IsFit, AreFit}
+use Rattle.cc_checking_laws.specs.CheckingLaws.{Fits}
 use Rattle.cc_core.specs.Holes.{HolesAreOfParameters}
-use Rattle.cc_meta_checking.proofs.FitDemands.{asked_is_fit}
-use Rattle.cc_meta_checking.proofs.LeastFillings.{least_over_globals}
+use Rattle.cc_checking_laws.proofs.FitDemands.{asked_is_fit}
+use Rattle.cc_checking_laws.proofs.LeastFillings.{least_over_globals}
 use Rattle.cc_solve.specs.Solutions.{filling_of}
 use Rattle.cc_type.specs.FilledHoles.{HasAskedHolesBelow, holes_of, FillAlike, HasCheckingHolesBelow}
 use Rattle.cc_type.specs.FormedDemands.{IsWellFormedAsked, AllWellFormed}

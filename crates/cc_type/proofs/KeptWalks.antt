@@ -11,7 +11,7 @@ use Rattle.cc_capture.specs.Sets.{Set, Member, contains, is_subset}
 use Rattle.cc_core.specs.Shapes.{Shape, BaseShape, AnyShape, TypeVariable, FunctionShape, TypeFunctionShape, BoxShape}
 use Rattle.cc_core.specs.Shapes.{ExitShape, CapturingType}
 use Rattle.cc_core.specs.Contexts.{Bind, TypeEntry, Context, entry_of}
-use Rattle.cc_core.specs.Comparison.{same_shape, same_type}
+use Rattle.cc_core.specs.Equality.{same_shape, same_type}
 use Rattle.cc_core.specs.Reading.{reading, read_set, read_shape, read_type}
 use Rattle.cc_core.specs.Substitution.{opened_type}
 use Rattle.cc_core.specs.Traversal.{act_type}
@@ -20,11 +20,11 @@ use Rattle.cc_core.proofs.Comparisons.{same_shape-decides, same_type-decides}
 use Rattle.cc_core.proofs.ReadingAndWriting.{opened_type-read, read-still, read_type-still}
 use Rattle.cc_core.proofs.Sorts.{ShapeSort, TypeSort}
 use Rattle.cc_core.proofs.WellFormedness.{well_formed-bound_within}
-use Rattle.cc_sets.specs.Comparison.{Demand, demanded, Comparison, Unfinished, Mismatch, Matches, and_then, is_any}
-use Rattle.cc_sets.specs.Comparison.{type_comparison, bound_of, bound_compared, function_compared}
-use Rattle.cc_sets.specs.Comparison.{type_function_compared, box_compared, by_form, comparison}
-use Rattle.cc_sets.specs.Outcomes.{Placed}
-use Rattle.cc_sets.specs.Inference.{demand_at, compared_at}
+use Rattle.cc_checking.specs.Comparison.{Demand, demanded, Comparison, Unfinished, Mismatch, Matches, and_then, is_any}
+use Rattle.cc_checking.specs.Comparison.{type_comparison, bound_of, bound_compared, function_compared}
+use Rattle.cc_checking.specs.Comparison.{type_function_compared, box_compared, by_form, comparison}
+use Rattle.cc_checking.specs.Outcomes.{Placed}
+use Rattle.cc_checking.specs.Inference.{demand_at, compared_at}
 use Rattle.cc_subty.specs.Parts.{is_variable}
 use Rattle.cc_type.specs.Keeping.{is_element_below, is_below, has_hole, is_demand_settled, is_settled, may_force, has_lost}
 use Rattle.cc_type.specs.Keeping.{is_repeated, with_one, keeping}

@@ -11,16 +11,16 @@ use Rattle.cc_capture.specs.Sets.{Set, empty, is_subset}
 use Rattle.cc_core.specs.declared.context.Bind.{Bind as DeclaredBind}
 use Rattle.cc_core.specs.Contexts.{Bind, TermEntry, TypeEntry, Context}
 use Rattle.cc_core.specs.Reading.{read_set}
-use Rattle.cc_core.specs.Views.{bind_of, context_of}
+use Rattle.cc_core.specs.TermViews.{bind_of, context_of}
 use Rattle.cc_core.specs.WellFormed.{kinds_of, IsWellFormedSet}
 use Rattle.cc_core.proofs.CapturedKinds.{empty_kinded}
 use Rattle.cc_core.proofs.KindFacts.{IsKindedSet-test}
 use Rattle.cc_core.proofs.ReadingAndWriting.{read_set-still}
 use Rattle.cc_core.proofs.Sorts.{SetSort}
 use Rattle.cc_core.proofs.WellFormedness.{well_formed-bound_within}
-use Rattle.cc_sets.specs.Comparison.{demanded}
-use Rattle.cc_sets.specs.Outcomes.{Placed}
-use Rattle.cc_sets.specs.Inference.{demand_at}
+use Rattle.cc_checking.specs.Comparison.{demanded}
+use Rattle.cc_checking.specs.Outcomes.{Placed}
+use Rattle.cc_checking.specs.Inference.{demand_at}
 use Rattle.cc_type.specs.Keeping.{is_element_below, is_below, has_hole, is_demand_settled, with_one}
 use Rattle.cc_type.specs.KeptWalks.{StandsOn, IsKnown}
 use Rattle.cc_type.proofs.KeptDemands.{all_pass, listed_passes}

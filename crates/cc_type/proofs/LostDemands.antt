@@ -19,13 +19,13 @@ use Rattle.cc_core.proofs.OccurrenceTests.{hole-decides}
 use Rattle.cc_core.proofs.Sorts.{SetSort}
 use Rattle.cc_core.proofs.SubcapturingContexts.{IsKindedContext, IsKindedContext-from}
 use Rattle.cc_core.proofs.SubcapturingLemmas.{subcaptures_along, subcaptures_above}
-use Rattle.cc_sets.specs.Comparison.{Demand}
-use Rattle.cc_sets.specs.Outcomes.{Asked, IsBelow, IsCapless, Placed}
-use Rattle.cc_sets.specs.Fillings.{Filling, filled_context, IsServed, IsAskedIn, IsOverGlobals}
-use Rattle.cc_meta_typing.proofs.FormedContexts.{IsKindedContext-test}
-use Rattle.cc_meta_checking.specs.FillingLaws.{IsFit}
-use Rattle.cc_meta_checking.proofs.LeastFillings.{Member-filled, Member-from_filled, lookup-filled, lookup-from_filled}
-use Rattle.cc_meta_checking.proofs.ServedDemands.{fill_kept, filled_context_kinded}
+use Rattle.cc_checking.specs.Comparison.{Demand}
+use Rattle.cc_checking.specs.Outcomes.{Asked, IsBelow, IsCapless, Placed}
+use Rattle.cc_checking.specs.Fillings.{Filling, filled_context, IsServed, IsAskedIn, IsOverGlobals}
+use Rattle.cc_typing_laws.proofs.FormedContexts.{IsKindedContext-test}
+use Rattle.cc_checking_laws.specs.FillingLaws.{IsFit}
+use Rattle.cc_checking_laws.proofs.LeastFillings.{Member-filled, Member-from_filled, lookup-filled, lookup-from_filled}
+use Rattle.cc_checking_laws.proofs.ServedDemands.{fill_kept, filled_context_kinded}
 use Rattle.cc_solve.specs.Solutions.{CanBeJudged, filling_of}
 use Rattle.cc_solve.proofs.CollectedDemands.{asked_one}
 use Rattle.cc_type.specs.FilledHoles.{IsHoleBelow, holes_below, HasAskedHolesBelow}

@@ -13,9 +13,9 @@ use Rattle.cc_core.specs.Shapes.{Shape, CapturingType, capturing}
 use Rattle.cc_core.specs.Contexts.{Bind, TermEntry, TypeEntry, Context, lookup}
 use Rattle.cc_core.specs.Captured.{variable_set}
 use Rattle.cc_core.proofs.Lookups.{slice_get-last}
-use Rattle.cc_sets.specs.Inference.{entry_type, variable_type}
-use Rattle.cc_sets.specs.Outcomes.{finds}
-use Rattle.cc_meta_typing.proofs.FreeMaps.{lookup_cases}
+use Rattle.cc_checking.specs.Inference.{entry_type, variable_type}
+use Rattle.cc_checking.specs.Outcomes.{finds}
+use Rattle.cc_typing_laws.proofs.FreeMaps.{lookup_cases}
 use Rattle.cc_type.specs.Measures.{IsSize, IsMeasuredBy, whole_measure, measured_at, measure_at, measure_of, AreMeasuresOf, AreAllMeasuresOf}
 use Rattle.cc_type.specs.Signatures.{greatest_in}
 use Rattle.cc_type.specs.declared.measures.Measure.{Measure}

@@ -5,7 +5,7 @@ use Rattle.cc_core.specs.Shapes.{ExitShape, CapturingType}
 use Rattle.cc_core.specs.Occurrences.{MeetsInSet, Meets, MeetsInType, without}
 use Rattle.cc_core.specs.Questions.{Question, occurs, occurs_in_type}
 use Rattle.cc_core.proofs.OccurrenceTests.{decided, decided_type, position-decides}
-use Rattle.cc_sets.specs.Avoidance.{is_free_in}
+use Rattle.cc_checking.specs.Avoidance.{is_free_in}
 use Rattle.cc_avoid.proofs.FreePositions.{is_free}
 use Rattle.cc_type.specs.Measures.{position_question}
 use Rattle.cc_type.specs.Signatures.{greatest_in, IsGreatest}

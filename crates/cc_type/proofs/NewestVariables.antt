@@ -10,12 +10,12 @@ use Rattle.cc_capture.proofs.Membership.{contains-empty}
 use Rattle.cc_core.specs.Shapes.{CapturingType, capturing}
 use Rattle.cc_core.specs.Contexts.{Context}
 use Rattle.cc_core.specs.Occurrences.{Meets, without}
-use Rattle.cc_sets.specs.Avoidance.{Positive, is_free_in, avoided_set, avoided}
-use Rattle.cc_sets.specs.Inference.{left_behind}
-use Rattle.cc_sets.specs.Outcomes.{finds, found_or}
+use Rattle.cc_checking.specs.Avoidance.{Positive, is_free_in, avoided_set, avoided}
+use Rattle.cc_checking.specs.Inference.{left_behind}
+use Rattle.cc_checking.specs.Outcomes.{finds, found_or}
 use Rattle.cc_avoid.proofs.FreePositions.{is_free}
-use Rattle.cc_meta_typing.proofs.Avoiding.{map_some}
-use Rattle.cc_meta_typing.proofs.AvoidingPlaces.{nothing_to_avoid}
+use Rattle.cc_typing_laws.proofs.Avoiding.{map_some}
+use Rattle.cc_typing_laws.proofs.AvoidingPlaces.{nothing_to_avoid}
 
 -- a type whose shape does not name the newest variable keeps its shape where that goes out of scope
 pub shape_stays_behind : (at : Place) (g : Context) (declared : Set) (t : CapturingType)

@@ -2,12 +2,12 @@
 use Rattle.std.proofs.Common.{◌≡◌, true, nat_le, sym, ap, ◌∙◌}
 use Rattle.cc_core.specs.declared.types.Shape.{Shape}
 use Rattle.cc_core.specs.declared.types.Ty.{Ty}
-use Rattle.cc_core.specs.Comparison.{same_shape, same_type}
+use Rattle.cc_core.specs.Equality.{same_shape, same_type}
 use Rattle.cc_core.specs.Sizes.{type_size}
 use Rattle.cc_core.specs.Substitution.{replaced_type_by_shape}
-use Rattle.cc_core.specs.Views.{shape_of, type_of}
+use Rattle.cc_core.specs.TermViews.{shape_of, type_of}
 use Rattle.cc_core.proofs.Comparisons.{same_shape-decides, same_type-decides}
-use Rattle.cc_sets.specs.Inference.{greatest_size}
+use Rattle.cc_checking.specs.Inference.{greatest_size}
 
 -- Where a remembered type `inner` under a binder and a remembered shape `by` are those that are given, what was made of
 -- them is what is to be made.

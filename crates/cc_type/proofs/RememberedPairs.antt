@@ -10,7 +10,7 @@ use Rattle.cc_capture.specs.declared.var.Var.TheVariants.{Bound, Free}
 use Rattle.cc_core.specs.Shapes.{Shape, TypeVariable}
 use Rattle.cc_core.specs.Contexts.{TypeEntry, Context}
 use Rattle.cc_core.specs.Reading.{read_shape}
-use Rattle.cc_core.specs.Views.{shape_of}
+use Rattle.cc_core.specs.TermViews.{shape_of}
 use Rattle.cc_core.specs.WellFormed.{kinds_of, is_well_formed_shape, is_well_formed_entry, is_well_formed_context}
 use Rattle.cc_core.specs.WellFormed.{IsWellFormedContext, IsWellFormedShape}
 use Rattle.cc_core.proofs.KindFacts.{IsKinded-from, IsKinded-test}
@@ -19,11 +19,11 @@ use Rattle.cc_core.proofs.ReadingAndWriting.{read-still}
 use Rattle.cc_core.proofs.Sorts.{ShapeSort}
 use Rattle.cc_core.proofs.SubcapturingContexts.{entry_of_type, IsKindedContext-from}
 use Rattle.cc_core.proofs.WellFormedness.{well_formed-bound_within}
-use Rattle.cc_meta_typing.proofs.ComparisonLemmas.{comparison_more}
-use Rattle.cc_sets.specs.Comparison.{Demand, Comparison, Unfinished, Mismatch, Matches, bound_in, bound_of}
-use Rattle.cc_sets.specs.Comparison.{bound_compared, comparison}
-use Rattle.cc_sets.specs.Outcomes.{IsBelow, Placed}
-use Rattle.cc_sets.specs.Inference.{demand_at}
+use Rattle.cc_typing_laws.proofs.ComparisonLemmas.{comparison_more}
+use Rattle.cc_checking.specs.Comparison.{Demand, Comparison, Unfinished, Mismatch, Matches, bound_in, bound_of}
+use Rattle.cc_checking.specs.Comparison.{bound_compared, comparison}
+use Rattle.cc_checking.specs.Outcomes.{IsBelow, Placed}
+use Rattle.cc_checking.specs.Inference.{demand_at}
 use Rattle.cc_subty.proofs.BoundsFollowed.{entry_at}
 use Rattle.cc_type.specs.ComparedAgain.{told}
 use Rattle.cc_type.specs.Keeping.{has_hole, is_demand_settled, has_lost, ends_beyond}

@@ -19,14 +19,14 @@ use Rattle.cc_core.proofs.KindFacts.{IsKindedElement, IsKindedSet, IsKindedSet-f
 use Rattle.cc_core.proofs.Moving.{Member-single, Member-single_itself}
 use Rattle.cc_core.proofs.SubcapturingContexts.{entry_of_term}
 use Rattle.cc_core.proofs.SubcapturingLemmas.{subcaptures_longer, subcaptures_shorter, subcaptures_variable}
-use Rattle.cc_sets.specs.Comparison.{Demand}
-use Rattle.cc_sets.specs.Outcomes.{Asked, IsBelow, IsCapless, Placed}
-use Rattle.cc_sets.specs.Fillings.{Filling, filled_context, IsServed, AllServed, IsGlobal, IsOverGlobals}
+use Rattle.cc_checking.specs.Comparison.{Demand}
+use Rattle.cc_checking.specs.Outcomes.{Asked, IsBelow, IsCapless, Placed}
+use Rattle.cc_checking.specs.Fillings.{Filling, filled_context, IsServed, AllServed, IsGlobal, IsOverGlobals}
 use Rattle.cc_sets.proofs.SubcapturingSearch.{set_lower}
-use Rattle.cc_meta_checking.specs.FillingLaws.{AreGlobals, IsFit}
-use Rattle.cc_meta_checking.proofs.CheckedDefinitions.{all_terms}
-use Rattle.cc_meta_checking.proofs.LeastFillings.{Member-filled, Member-from_filled, lookup-filled, globals_still}
-use Rattle.cc_meta_checking.proofs.LeastFillings.{filled_context-append}
+use Rattle.cc_checking_laws.specs.FillingLaws.{AreGlobals, IsFit}
+use Rattle.cc_checking_laws.proofs.CheckedDefinitions.{all_terms}
+use Rattle.cc_checking_laws.proofs.LeastFillings.{Member-filled, Member-from_filled, lookup-filled, globals_still}
+use Rattle.cc_checking_laws.proofs.LeastFillings.{filled_context-append}
 use Rattle.cc_type.specs.Keeping.{has_hole, is_end, beyond, declared_of, all_given_way, ends_beyond}
 use Rattle.cc_type.specs.Keeping.{is_ended_so, has_ended_so, may_force, is_repeated}
 use Rattle.cc_type.proofs.DemandEnds.{beyond_both, both_beyond, member_cases, declared_is_lower, declared_is_kinded}

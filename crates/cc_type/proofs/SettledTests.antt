@@ -7,7 +7,7 @@ use Rattle.cc_core.specs.Occurrences.{HasNoHoleInSet}
 use Rattle.cc_core.specs.Subcapturing.{SubcapturesSet}
 use Rattle.cc_core.specs.WellFormed.{IsWellFormedContext, IsWellFormedSet}
 use Rattle.cc_core.proofs.OccurrenceTests.{SaysNo, hole-decides}
-use Rattle.cc_sets.specs.Comparison.{Demand}
+use Rattle.cc_checking.specs.Comparison.{Demand}
 use Rattle.cc_type.specs.Keeping.{is_below, has_hole, is_demand_settled}
 use Rattle.cc_type.proofs.KeptDemands.{test_of_sets_decides}
 

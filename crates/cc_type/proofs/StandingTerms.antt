@@ -16,14 +16,14 @@ use Rattle.cc_core.proofs.KindFacts.{IsKinded, IsKindedType, IsKindedNote, IsKin
 use Rattle.cc_core.proofs.KindFacts.{IsKindedTerm-test, IsKinded-test, IsKindedType-test}
 use Rattle.cc_core.proofs.Sorts.{ShapeSort, TypeSort}
 use Rattle.cc_core.proofs.SubcapturingContexts.{IsKindedContext-from}
-use Rattle.cc_sets.specs.Outcomes.{Placed, Outcome, NoAnswer, Refused, Found}
-use Rattle.cc_sets.specs.Inference.{Result, Named, named_by, type_in, shape_in, below, exit_entry, inferred}
+use Rattle.cc_checking.specs.Outcomes.{Placed, Outcome, NoAnswer, Refused, Found}
+use Rattle.cc_checking.specs.Inference.{Result, Named, named_by, type_in, shape_in, below, exit_entry, inferred}
 use Rattle.cc_type.specs.Comparing.{most_steps}
 use Rattle.cc_base.specs.declared.place.Place.{Place}
-use Rattle.cc_meta_checking.proofs.Findings.{Finds}
-use Rattle.cc_meta_checking.proofs.FoundFindings.{asked_of, found_finds}
-use Rattle.cc_meta_checking.proofs.FoundTypes.{regular}
-use Rattle.cc_meta_checking.proofs.ReadingKinds.{Inside, outermost, deeper, read_kinded}
+use Rattle.cc_checking_laws.proofs.Findings.{Finds}
+use Rattle.cc_checking_laws.proofs.FoundFindings.{asked_of, found_finds}
+use Rattle.cc_checking_laws.proofs.FoundTypes.{regular}
+use Rattle.cc_checking_laws.proofs.ReadingKinds.{Inside, outermost, deeper, read_kinded}
 use Rattle.cc_type.specs.declared.stop.Stop.{Stop}
 use Rattle.cc_type.specs.declared.stop.Stop.TheVariants as stops
 use Rattle.cc_type.specs.Logs.{Logged, Lost, Stopped, Got, after, followed, Answers, Meets}

@@ -6,12 +6,12 @@ use Rattle.cc_base.specs.declared.place.Place.{Place}
 use Rattle.cc_core.specs.Shapes.{Shape, CapturingType}
 use Rattle.cc_core.specs.Contexts.{Context}
 use Rattle.cc_core.specs.Subtyping.{Subtypes, SubtypesType}
-use Rattle.cc_sets.specs.Comparison.{Demand, demanded, Comparison, Unfinished, Mismatch, Matches, comparison}
-use Rattle.cc_sets.specs.Comparison.{type_comparison, and_then, AllHold}
-use Rattle.cc_sets.specs.Outcomes.{Placed}
-use Rattle.cc_sets.specs.Inference.{demand_at}
-use Rattle.cc_meta_typing.proofs.ComparisonLemmas.{demands_unique, then_parts, mismatch_not_below, subtyping_compares}
-use Rattle.cc_meta_typing.proofs.ComparisonLemmas.{subtyping_of_types_compares}
+use Rattle.cc_checking.specs.Comparison.{Demand, demanded, Comparison, Unfinished, Mismatch, Matches, comparison}
+use Rattle.cc_checking.specs.Comparison.{type_comparison, and_then, AllHold}
+use Rattle.cc_checking.specs.Outcomes.{Placed}
+use Rattle.cc_checking.specs.Inference.{demand_at}
+use Rattle.cc_typing_laws.proofs.ComparisonLemmas.{demands_unique, then_parts, mismatch_not_below, subtyping_compares}
+use Rattle.cc_typing_laws.proofs.ComparisonLemmas.{subtyping_of_types_compares}
 use Rattle.cc_type.specs.declared.subtyping.SubtypeError.{SubtypeError}
 use Rattle.cc_type.specs.declared.subtyping.SubtypeError.TheVariants.{NoMemory, ShapeMismatch}
 use Rattle.cc_subty.specs.declared.demands.Demand.{Demand as DeclaredDemand}

@@ -13,9 +13,9 @@ use Rattle.cc_core.proofs.ReadingAndWriting.{opened_type-read, read-still, read_
 use Rattle.cc_core.proofs.Sorts.{ShapeSort, TypeSort}
 use Rattle.cc_core.proofs.SubcapturingContexts.{IsKindedContext-from}
 use Rattle.cc_core.proofs.WellFormedness.{well_formed-bound_within}
-use Rattle.cc_meta_typing.proofs.FormedContexts.{opened_kinded}
-use Rattle.cc_sets.specs.Comparison.{bound_of}
-use Rattle.cc_sets.specs.Inference.{shape_in, type_in}
+use Rattle.cc_typing_laws.proofs.FormedContexts.{opened_kinded}
+use Rattle.cc_checking.specs.Comparison.{bound_of}
+use Rattle.cc_checking.specs.Inference.{shape_in, type_in}
 use Rattle.cc_subty.proofs.BoundsFollowed.{entry_at, read_bound}
 use Rattle.cc_type.proofs.FormedParts.{with_term, with_type}
 

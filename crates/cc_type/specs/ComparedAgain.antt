@@ -4,7 +4,7 @@ use Rattle.std.specs.List.{list_all}
 use Rattle.cc_core.specs.Contexts.{Context}
 use Rattle.cc_core.specs.Shapes.{Shape}
 use Rattle.cc_core.specs.WellFormed.{IsWellFormedContext, IsWellFormedShape}
-use Rattle.cc_sets.specs.Comparison.{Demand, Comparison, Unfinished, Mismatch, Matches, comparison}
+use Rattle.cc_checking.specs.Comparison.{Demand, Comparison, Unfinished, Mismatch, Matches, comparison}
 use Rattle.cc_type.specs.Keeping.{is_demand_settled}
 
 -- Whether all demands of a comparison that matches pass the test. Nothing is told of one that does not, or is not at its

@@ -1,9 +1,9 @@
 -- What a comparison in the program answers, and what it then asks.
 use Rattle.std.specs.Prelude.{◌≡◌, ◌↔◌, ℕ, List, [], ◌++◌, map, Option, Some, None, Result, Ok, Err}
 use Rattle.cc_base.specs.declared.place.Place.{Place}
-use Rattle.cc_sets.specs.Comparison.{Demand, Comparison, Unfinished, Mismatch, Matches, AllHold}
-use Rattle.cc_sets.specs.Outcomes.{Placed}
-use Rattle.cc_sets.specs.Inference.{demand_at}
+use Rattle.cc_checking.specs.Comparison.{Demand, Comparison, Unfinished, Mismatch, Matches, AllHold}
+use Rattle.cc_checking.specs.Outcomes.{Placed}
+use Rattle.cc_checking.specs.Inference.{demand_at}
 use Rattle.cc_type.specs.declared.subtyping.SubtypeError.{SubtypeError}
 use Rattle.cc_type.specs.declared.subtyping.SubtypeError.TheVariants.{NoMemory, ShapeMismatch}
 use Rattle.cc_subty.specs.declared.demands.Demand.{Demand as DeclaredDemand}

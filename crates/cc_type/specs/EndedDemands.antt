@@ -12,7 +12,7 @@ use Rattle.std.proofs.lemmas.Cmp.{on_equiv, and_equiv}
 use Rattle.cc_capture.proofs.Equality.{same_set-decides}
 use Rattle.cc_core.specs.Contexts.{Context}
 use Rattle.cc_core.specs.WellFormed.{kinds_of, is_well_formed_set, IsWellFormedSet}
-use Rattle.cc_sets.specs.Outcomes.{Asked, IsBelow, IsCapless, Placed}
+use Rattle.cc_checking.specs.Outcomes.{Asked, IsBelow, IsCapless, Placed}
 use Rattle.cc_type.specs.Keeping.{has_hole, is_end, ends_beyond, has_ended_so}
 use Rattle.cc_type.specs.declared.ended.EndedDemand.{EndedDemand}
 use Rattle.cc_type.specs.declared.known.KnownEnds.{KnownEnds}

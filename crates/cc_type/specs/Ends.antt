@@ -8,8 +8,8 @@ use Rattle.cc_core.specs.Terms.{Note, Absent, Written, Own, Term}
 use Rattle.cc_core.specs.Contexts.{Context}
 use Rattle.cc_core.specs.Captured.{is_unused_value, without_binder}
 use Rattle.cc_core.specs.Substitution.{closed, closed_set}
-use Rattle.cc_sets.specs.Outcomes.{Outcome, NoAnswer, finds}
-use Rattle.cc_sets.specs.Inference.{set_in, shape_in, type_in, written_in, Named, named_by}
+use Rattle.cc_checking.specs.Outcomes.{Outcome, NoAnswer, finds}
+use Rattle.cc_checking.specs.Inference.{set_in, shape_in, type_in, written_in, Named, named_by}
 use Rattle.cc_avoid.specs.declared.avoiding.AvoidError.{AvoidError}
 use Rattle.cc_avoid.specs.declared.avoiding.AvoidError.TheVariants as errors
 use Rattle.cc_type.specs.declared.stop.Stop.{Stop}

@@ -13,11 +13,11 @@ use Rattle.cc_core.specs.Traversal.{act_note}
 use Rattle.cc_core.specs.Substitution.{filling_in, filled, filled_set, filled_type, filled_term}
 use Rattle.cc_core.specs.Occurrences.{Condition, MeetsInSet, Meets, MeetsInType, MeetsInNote, MeetsInTerm}
 use Rattle.cc_core.specs.Places.{Places}
-use Rattle.cc_sets.specs.Outcomes.{Asked, IsBelow, IsCapless, Placed, Found}
-use Rattle.cc_sets.specs.Fillings.{Filling, IsAskedIn}
-use Rattle.cc_sets.specs.Inference.{Result, Infers}
-use Rattle.cc_sets.specs.Verdicts.{Definition, Checking, IsChecked}
-use Rattle.cc_meta_checking.specs.CheckingLaws.{Fits}
+use Rattle.cc_checking.specs.Outcomes.{Asked, IsBelow, IsCapless, Placed, Found}
+use Rattle.cc_checking.specs.Fillings.{Filling, IsAskedIn}
+use Rattle.cc_checking.specs.Inference.{Result, Infers}
+use Rattle.cc_checking.specs.Verdicts.{Definition, Checking, IsChecked}
+use Rattle.cc_checking_laws.specs.CheckingLaws.{Fits}
 use Rattle.cc_core.specs.Holes.{HolesAreOfParameters}
 use Rattle.cc_solve.specs.Solutions.{filling_of}
 

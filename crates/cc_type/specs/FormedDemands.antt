@@ -1,8 +1,8 @@
 -- What is asked is well formed: each demand's context is, and its left set is in that context.
 use Rattle.std.specs.Prelude.{List, [], ◌∷◌}
 use Rattle.cc_core.specs.WellFormed.{IsWellFormedSet, IsWellFormedContext}
-use Rattle.cc_sets.specs.Comparison.{Demand}
-use Rattle.cc_sets.specs.Outcomes.{Asked, IsBelow, IsCapless, Placed}
+use Rattle.cc_checking.specs.Comparison.{Demand}
+use Rattle.cc_checking.specs.Outcomes.{Asked, IsBelow, IsCapless, Placed}
 
 -- the demand is well formed
 pub record IsWellFormedDemand (demand : Demand) : Type 0 where

@@ -1,6 +1,6 @@
 -- Comparisons that force nothing. This serves proofs alone.
 use Rattle.std.specs.Prelude.{Bool, not}
-use Rattle.cc_sets.specs.Comparison.{Comparison}
+use Rattle.cc_checking.specs.Comparison.{Comparison}
 use Rattle.cc_type.specs.ComparedAgain.{told}
 use Rattle.cc_type.specs.Keeping.{has_hole}
 use Rattle.cc_type.specs.KeptWalks.{is_told}

@@ -10,9 +10,9 @@ use Rattle.cc_capture.specs.Sets.{Set, contains, empty, is_subset, same_set, uni
 use Rattle.cc_core.specs.Contexts.{Bind, TermEntry, TypeEntry, Context, lookup}
 use Rattle.cc_core.specs.Questions.{is_hole}
 use Rattle.cc_core.specs.Substitution.{filled_set}
-use Rattle.cc_sets.specs.Comparison.{Demand}
-use Rattle.cc_sets.specs.Fillings.{Filling, filled_context}
-use Rattle.cc_sets.specs.Outcomes.{Asked, IsBelow, IsCapless, Placed}
+use Rattle.cc_checking.specs.Comparison.{Demand}
+use Rattle.cc_checking.specs.Fillings.{Filling, filled_context}
+use Rattle.cc_checking.specs.Outcomes.{Asked, IsBelow, IsCapless, Placed}
 
 -- whether the element is the variable at the position
 abbrev pub is_at : ℕ → Elem → Bool

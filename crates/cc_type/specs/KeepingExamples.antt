@@ -8,12 +8,12 @@ use Rattle.cc_capture.specs.Sets.{Set, empty, insert}
 use Rattle.cc_core.specs.Shapes.{BaseShape, FunctionShape, capturing}
 use Rattle.cc_core.specs.Contexts.{TermEntry, Context}
 use Rattle.cc_core.specs.Substitution.{single}
-use Rattle.cc_sets.specs.Comparison.{demanded}
-use Rattle.cc_sets.specs.Outcomes.{IsBelow, IsCapless, Placed}
-use Rattle.cc_sets.specs.Fillings.{IsForced}
+use Rattle.cc_checking.specs.Comparison.{demanded}
+use Rattle.cc_checking.specs.Outcomes.{IsBelow, IsCapless, Placed}
+use Rattle.cc_checking.specs.Fillings.{IsForced}
 use Rattle.cc_type.specs.Keeping.{is_demand_settled, is_settled, is_lost, kept}
 use Rattle.cc_type.specs.Signatures.{greatest_position}
-use Rattle.cc_sets.specs.Inference.{demand_at}
+use Rattle.cc_checking.specs.Inference.{demand_at}
 use Rattle.cc_base.specs.declared.place.Place.{Place}
 
 -- a console, a number of the empty set, and a local variable whose set is the first hole

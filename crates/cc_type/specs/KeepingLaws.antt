@@ -6,9 +6,9 @@ use Rattle.cc_capture.specs.Sets.{Set}
 use Rattle.cc_core.specs.Contexts.{Context}
 use Rattle.cc_core.specs.WellFormed.{IsWellFormedContext, IsWellFormedSet}
 use Rattle.cc_core.specs.Subcapturing.{SubcapturesSet}
-use Rattle.cc_sets.specs.Outcomes.{Asked, Placed}
-use Rattle.cc_sets.specs.Fillings.{Filling, IsServed, AllServed, IsAskedIn, IsLeast, IsOverGlobals, FailsFirst}
-use Rattle.cc_meta_checking.specs.FillingLaws.{IsFit, AreFit}
+use Rattle.cc_checking.specs.Outcomes.{Asked, Placed}
+use Rattle.cc_checking.specs.Fillings.{Filling, IsServed, AllServed, IsAskedIn, IsLeast, IsOverGlobals, FailsFirst}
+use Rattle.cc_checking_laws.specs.FillingLaws.{IsFit, AreFit}
 use Rattle.cc_type.specs.FilledHoles.{HasAskedHolesBelow}
 use Rattle.cc_type.specs.FormedDemands.{IsWellFormedAsked, AllWellFormed}
 use Rattle.cc_type.specs.Keeping.{is_below, is_settled, may_force, is_lost, has_lost, is_repeated, keeping, kept}

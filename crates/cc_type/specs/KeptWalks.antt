@@ -7,15 +7,15 @@ use Rattle.cc_base.specs.declared.place.Place.{Place}
 use Rattle.cc_capture.specs.declared.var.Var.{Var}
 use Rattle.cc_capture.specs.Sets.{Set}
 use Rattle.cc_core.specs.Contexts.{Context}
-use Rattle.cc_core.specs.Comparison.{same_shape}
+use Rattle.cc_core.specs.Equality.{same_shape}
 use Rattle.cc_core.specs.Reading.{read_shape}
 use Rattle.cc_core.specs.Shapes.{Shape, TypeVariable}
-use Rattle.cc_core.specs.Views.{shape_of}
+use Rattle.cc_core.specs.TermViews.{shape_of}
 use Rattle.cc_core.specs.WellFormed.{kinds_of, is_well_formed_shape, IsWellFormedSet}
-use Rattle.cc_sets.specs.Comparison.{Demand, demanded, Comparison, Unfinished, Mismatch, Matches, bound_of}
-use Rattle.cc_sets.specs.Comparison.{bound_compared, by_form, comparison}
-use Rattle.cc_sets.specs.Outcomes.{IsBelow, Placed}
-use Rattle.cc_sets.specs.Inference.{demand_at}
+use Rattle.cc_checking.specs.Comparison.{Demand, demanded, Comparison, Unfinished, Mismatch, Matches, bound_of}
+use Rattle.cc_checking.specs.Comparison.{bound_compared, by_form, comparison}
+use Rattle.cc_checking.specs.Outcomes.{IsBelow, Placed}
+use Rattle.cc_checking.specs.Inference.{demand_at}
 use Rattle.cc_type.specs.ComparedAgain.{told}
 use Rattle.cc_type.specs.Keeping.{has_hole, is_demand_settled, is_repeated, keeping}
 use Rattle.cc_type.specs.declared.pairs.Pair.{Pair}

@@ -3,8 +3,8 @@ use Rattle.std.specs.Prelude.{◌≡◌, ℕ, List}
 use Rattle.cc_core.specs.Terms.{Term}
 use Rattle.cc_core.specs.Contexts.{Context}
 use Rattle.cc_core.specs.Places.{Places}
-use Rattle.cc_sets.specs.Outcomes.{Placed}
-use Rattle.cc_sets.specs.Inference.{inferred}
+use Rattle.cc_checking.specs.Outcomes.{Placed}
+use Rattle.cc_checking.specs.Inference.{inferred}
 use Rattle.cc_type.specs.Logs.{after}
 use Rattle.cc_type.specs.Rows.{ways, inferred_log}
 

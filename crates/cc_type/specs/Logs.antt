@@ -3,7 +3,7 @@
 use Rattle.std.specs.Prelude.{◌≡◌, List, Result, Ok, Err}
 use Rattle.cc_base.specs.declared.code.Code.{Code}
 use Rattle.cc_base.specs.declared.place.Place.{Place}
-use Rattle.cc_sets.specs.Outcomes.{Placed, Outcome, NoAnswer, Refused, Found, finds}
+use Rattle.cc_checking.specs.Outcomes.{Placed, Outcome, NoAnswer, Refused, Found, finds}
 use Rattle.cc_type.specs.declared.stop.Stop.{Stop}
 use Rattle.cc_type.specs.declared.stop.Stop.TheVariants as stops
 use Rattle.cc_type.specs.Keeping.{keeping}

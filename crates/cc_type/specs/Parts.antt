@@ -2,8 +2,8 @@
 use Rattle.std.specs.Prelude.{Option, Some}
 use Rattle.cc_core.specs.declared.types.Ty.{Ty}
 use Rattle.cc_core.specs.Contexts.{Bind, entry_of}
-use Rattle.cc_core.specs.Views.{type_of, note_of, term_of}
-use Rattle.cc_sets.specs.Inference.{Result, result, Named, named_by}
+use Rattle.cc_core.specs.TermViews.{type_of, note_of, term_of}
+use Rattle.cc_checking.specs.Inference.{Result, result, Named, named_by}
 use Rattle.cc_type.specs.declared.found.Found.{Found}
 use Rattle.cc_type.specs.declared.found.Named.{Named as DeclaredNamed}
 

@@ -18,14 +18,14 @@ use Rattle.cc_core.specs.Contexts.{TypeEntry, Context, entry_of}
 use Rattle.cc_core.specs.Substitution.{replaced_type, replaced_type_by_shape}
 use Rattle.cc_core.specs.Typing.{base_of, base_given, base_operated, base_taken, base_answered}
 use Rattle.cc_core.specs.Places.{Spots, Places, spots, first_part, second_part}
-use Rattle.cc_sets.specs.Comparison.{demanded, Comparing, comparison}
-use Rattle.cc_sets.specs.Exposing.{exposed}
-use Rattle.cc_sets.specs.Outcomes.{Placed, Outcome, NoAnswer, Refused, Found, finds}
-use Rattle.cc_sets.specs.Inference.{Result, result, in_context, set_in, shape_in, type_in, written_in, base_type}
-use Rattle.cc_sets.specs.Inference.{variable_type, Function, TypeFunction, function_head, type_function_head, box_head}
-use Rattle.cc_sets.specs.Inference.{exit_head, device_head, demand_at, below, against, capless, completed_set, Named}
-use Rattle.cc_sets.specs.Inference.{named_by, left_behind, Ways, limited, tested, function_found, type_function_found}
-use Rattle.cc_sets.specs.Inference.{choice_found, exit_entry}
+use Rattle.cc_checking.specs.Comparison.{demanded, Comparing, comparison}
+use Rattle.cc_checking.specs.Exposing.{exposed}
+use Rattle.cc_checking.specs.Outcomes.{Placed, Outcome, NoAnswer, Refused, Found, finds}
+use Rattle.cc_checking.specs.Inference.{Result, result, in_context, set_in, shape_in, type_in, written_in, base_type}
+use Rattle.cc_checking.specs.Inference.{variable_type, Function, TypeFunction, function_head, type_function_head, box_head}
+use Rattle.cc_checking.specs.Inference.{exit_head, device_head, demand_at, below, against, capless, completed_set, Named}
+use Rattle.cc_checking.specs.Inference.{named_by, left_behind, Ways, limited, tested, function_found, type_function_found}
+use Rattle.cc_checking.specs.Inference.{choice_found, exit_entry}
 use Rattle.cc_type.specs.Comparing.{most_steps}
 use Rattle.cc_type.specs.Keeping.{with_one}
 use Rattle.cc_type.specs.Logs.{Logged, Lost, Stopped, Got, after, followed, plainly}

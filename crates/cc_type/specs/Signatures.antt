@@ -12,9 +12,9 @@ use Rattle.cc_core.specs.Shapes.{Shape, BaseShape, AnyShape, TypeVariable, Funct
 use Rattle.cc_core.specs.Shapes.{ExitShape, CapturingType}
 use Rattle.cc_core.specs.Contexts.{TermEntry, Context, lookup}
 use Rattle.cc_core.specs.WellFormed.{IsWellFormedContext, IsWellFormedType}
-use Rattle.cc_sets.specs.Avoidance.{Positive, is_free_in_type, avoided_type}
-use Rattle.cc_sets.specs.Verdicts.{signature_of}
-use Rattle.cc_meta_checking.specs.FillingLaws.{AreGlobals}
+use Rattle.cc_checking.specs.Avoidance.{Positive, is_free_in_type, avoided_type}
+use Rattle.cc_checking.specs.Verdicts.{signature_of}
+use Rattle.cc_checking_laws.specs.FillingLaws.{AreGlobals}
 
 -- the greater of two positions, where there are any
 abbrev pub greater_of : Option ℕ → Option ℕ → Option ℕ

@@ -6,7 +6,7 @@ use Rattle.cc_core.specs.Terms.{TypeFunctionTerm, BoxTerm, Application, TypeAppl
 use Rattle.cc_core.specs.Terms.{Conditional, Repetition, Operation, Boundary, Leave}
 use Rattle.cc_core.specs.Contexts.{TypeEntry, Context, entry_of}
 use Rattle.cc_core.specs.WellFormed.{kinds_of, is_well_formed_term, IsWellFormedShape, IsWellFormedType}
-use Rattle.cc_sets.specs.Inference.{shape_in, type_in, exit_entry}
+use Rattle.cc_checking.specs.Inference.{shape_in, type_in, exit_entry}
 
 -- The context has the entries of the binders passed on top of those before the root, and the term is well formed under
 -- these binders.

@@ -1,9 +1,9 @@
 //! The steps of inference that ask something.
 
 ghost use Rattle.std.specs.Prelude.{◌≡◌};
-ghost use Rattle.cc_core.specs.Views.{shape_of, type_of, context_of};
+ghost use Rattle.cc_core.specs.TermViews.{shape_of, type_of, context_of};
 ghost use Rattle.cc_core.specs.WellFormed.{IsWellFormedContext, IsWellFormedShape, IsWellFormedType};
-ghost use Rattle.cc_sets.specs.Inference as plain;
+ghost use Rattle.cc_checking.specs.Inference as plain;
 ghost use Rattle.cc_subty.specs.Demands.{asked_of};
 ghost use Rattle.cc_type.specs.Logs.{Meets, after};
 ghost use Rattle.cc_type.specs.Rows.{comparing};

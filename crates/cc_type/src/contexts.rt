@@ -2,9 +2,9 @@
 
 ghost use Rattle.std.specs.Prelude.{◌≡◌, ◌∷◌, IfOk};
 ghost use Rattle.cc_core.specs.Contexts.{TypeEntry, entry_of};
-ghost use Rattle.cc_core.specs.Views.{shape_of, type_of, context_of};
+ghost use Rattle.cc_core.specs.TermViews.{shape_of, type_of, context_of};
 ghost use Rattle.cc_core.specs.WellFormed.{IsWellFormedContext, IsWellFormedShape, IsWellFormedType};
-ghost use Rattle.cc_sets.specs.Inference.{exit_entry};
+ghost use Rattle.cc_checking.specs.Inference.{exit_entry};
 
 use cc_capture::{CapSet, Elem};
 use cc_core::{Bind, Ctx, Shape, Ty};

@@ -2,7 +2,7 @@
 
 ghost use Rattle.std.specs.Prelude.{◌≡◌, ◌<◌, ◌≤◌, ℕ, IfOk, OnOk, MatchOption, option_map};
 ghost use Rattle.cc_capture.specs.Sets.{Member, empty};
-ghost use Rattle.cc_core.specs.Views.{bind_of, context_of};
+ghost use Rattle.cc_core.specs.TermViews.{bind_of, context_of};
 ghost use Rattle.cc_core.specs.WellFormed.{IsWellFormedContext, IsWellFormedSet};
 ghost use Rattle.cc_type.specs.EndedDemands.{PutsBeyond, IsPositionBelow, IsLastBelow};
 ghost use Rattle.cc_type.specs.Keeping.{declared_of, ends_beyond};

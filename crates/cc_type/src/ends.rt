@@ -10,12 +10,12 @@ ghost use Rattle.cc_core.specs.Places.{Around, Between, spots_at, places_around,
 ghost use Rattle.cc_core.specs.Sizes.{type_size};
 ghost use Rattle.cc_core.specs.Substitution.{closed_type};
 ghost use Rattle.cc_core.specs.Terms.{Boundary};
-ghost use Rattle.cc_core.specs.Views.{shape_of, type_of, note_of, form_of, term_of, context_of};
+ghost use Rattle.cc_core.specs.TermViews.{shape_of, type_of, note_of, form_of, term_of, context_of};
 ghost use Rattle.cc_core.specs.WellFormed.{IsWellFormedContext, IsWellFormedType};
-ghost use Rattle.cc_sets.specs.Avoidance.{Positive, avoided_set};
-ghost use Rattle.cc_sets.specs.Inference as plain;
-ghost use Rattle.cc_sets.specs.Inference.{result as plain_result, tested};
-ghost use Rattle.cc_sets.specs.Outcomes.{finds};
+ghost use Rattle.cc_checking.specs.Avoidance.{Positive, avoided_set};
+ghost use Rattle.cc_checking.specs.Inference as plain;
+ghost use Rattle.cc_checking.specs.Inference.{result as plain_result, tested};
+ghost use Rattle.cc_checking.specs.Outcomes.{finds};
 ghost use Rattle.cc_subty.specs.Demands.{asked_of};
 ghost use Rattle.cc_type.specs.Ends.{function_type, type_function_type, unavoidable_at, let_captured, own_choice, named_choice};
 ghost use Rattle.cc_type.specs.Logs.{Answers, Meets};

@@ -4,9 +4,9 @@
 ghost use Rattle.std.specs.Prelude.{◌≡◌, true, IsTrue};
 ghost use Rattle.cc_core.specs.Contexts.{Context};
 ghost use Rattle.cc_core.specs.Shapes.{FunctionShape, BoxShape};
-ghost use Rattle.cc_core.specs.Views.{shape_of, type_of};
-ghost use Rattle.cc_sets.specs.Comparison.{comparison, type_comparison};
-ghost use Rattle.cc_sets.specs.Inference.{shape_in, type_in};
+ghost use Rattle.cc_core.specs.TermViews.{shape_of, type_of};
+ghost use Rattle.cc_checking.specs.Comparison.{comparison, type_comparison};
+ghost use Rattle.cc_checking.specs.Inference.{shape_in, type_in};
 ghost use Rattle.cc_type.specs.Comparing.{most_steps};
 ghost use Rattle.cc_subty.specs.Demands.{asked_of};
 ghost use Rattle.cc_type.specs.FormsAlone.{forces_nothing};

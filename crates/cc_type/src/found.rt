@@ -3,8 +3,8 @@
 ghost use Rattle.std.specs.Prelude.{◌≡◌, true, nat_le};
 ghost use Rattle.cc_core.specs.Captured.{captured_variables};
 ghost use Rattle.cc_core.specs.Sizes.{type_size};
-ghost use Rattle.cc_core.specs.Views.{shape_of, type_of, term_of};
-ghost use Rattle.cc_sets.specs.Inference.{greatest_size};
+ghost use Rattle.cc_core.specs.TermViews.{shape_of, type_of, term_of};
+ghost use Rattle.cc_checking.specs.Inference.{greatest_size};
 ghost use Rattle.cc_type.specs.MeasuredOnce.{IsMeasuredBy-prop};
 ghost use Rattle.cc_type.specs.Measures.{IsMeasuredBy};
 

@@ -1,9 +1,9 @@
 //! Heads: the variables that a term applies, opens, operates or leaves through.
 
 ghost use Rattle.std.specs.Prelude.{◌≡◌, IfOk};
-ghost use Rattle.cc_core.specs.Views.{shape_of, type_of, context_of};
+ghost use Rattle.cc_core.specs.TermViews.{shape_of, type_of, context_of};
 ghost use Rattle.cc_core.specs.WellFormed.{IsWellFormedContext, IsWellFormedSet, IsWellFormedShape, IsWellFormedType};
-ghost use Rattle.cc_sets.specs.Inference as plain;
+ghost use Rattle.cc_checking.specs.Inference as plain;
 ghost use Rattle.cc_type.specs.Logs.{Answers};
 ghost use Rattle.cc_type.specs.Measures.{IsMeasuredBy, AreMeasuresOf};
 ghost use Rattle.cc_type.specs.Rows.{function_at, type_function_at, box_at, exit_at, device_at};

@@ -1,11 +1,11 @@
 //! What type functions gave for shapes, so that it is not made again.
 
 ghost use Rattle.std.specs.Prelude.{◌≡◌, true, false, nat_le, IfOk, IfSome, IfNone};
-ghost use Rattle.cc_core.specs.Comparison.{same_type};
+ghost use Rattle.cc_core.specs.Equality.{same_type};
 ghost use Rattle.cc_core.specs.Sizes.{type_size, size_with};
 ghost use Rattle.cc_core.specs.Substitution.{replaced_type_by_shape};
-ghost use Rattle.cc_core.specs.Views.{shape_of, type_of};
-ghost use Rattle.cc_sets.specs.Inference.{greatest_size};
+ghost use Rattle.cc_core.specs.TermViews.{shape_of, type_of};
+ghost use Rattle.cc_checking.specs.Inference.{greatest_size};
 
 use crate::log::Log;
 use crate::sizes::fits_with;

@@ -3,7 +3,7 @@
 ghost use Rattle.std.specs.Prelude.{◌≡◌, ◌<◌, ◌≤◌, true, length, IsTrue, IfOk, OnOk, IfSome};
 ghost use Rattle.std.specs.List.{list_all};
 ghost use Rattle.cc_core.specs.Contexts.{Context};
-ghost use Rattle.cc_core.specs.Views.{shape_of, context_of};
+ghost use Rattle.cc_core.specs.TermViews.{shape_of, context_of};
 ghost use Rattle.cc_type.specs.EndedDemands.{IsEndedIn, is_known_end};
 ghost use Rattle.cc_type.specs.KeptWalks.{IsKnown, is_remembered, is_remembered_as};
 

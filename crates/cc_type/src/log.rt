@@ -3,11 +3,11 @@
 ghost use Rattle.std.specs.Prelude.{◌≡◌, ◌↔◌, ◌<◌, ◌≤◌, [], ◌∷◌, ◌++◌, ◌&&◌, ◌||◌, not, true, cond, length, Some, None, IsTrue, OnOk, IfOk};
 ghost use Rattle.std.specs.HashSet.{spare};
 ghost use Rattle.cc_core.specs.Subcapturing.{SubcapturesSet};
-ghost use Rattle.cc_core.specs.Views.{context_of};
+ghost use Rattle.cc_core.specs.TermViews.{context_of};
 ghost use Rattle.cc_core.specs.WellFormed.{IsWellFormedContext, IsWellFormedSet};
-ghost use Rattle.cc_sets.specs.Comparison.{demanded};
-ghost use Rattle.cc_sets.specs.Outcomes.{IsBelow};
-ghost use Rattle.cc_sets.specs.Inference.{demand_at};
+ghost use Rattle.cc_checking.specs.Comparison.{demanded};
+ghost use Rattle.cc_checking.specs.Outcomes.{IsBelow};
+ghost use Rattle.cc_checking.specs.Inference.{demand_at};
 ghost use Rattle.cc_sets.specs.Marked.{IsClear};
 ghost use Rattle.cc_subty.specs.Demands.{demand_of, asked_of};
 ghost use Rattle.cc_type.specs.EndedDemands.{HasEnds, AreThose, is_among, same_ended};

@@ -6,7 +6,7 @@ ghost use Rattle.cc_core.specs.Questions.{occurs, occurs_in_type};
 ghost use Rattle.cc_core.specs.Shapes.{Shape as PlainShape, FunctionShape, TypeFunctionShape, BoxShape};
 ghost use Rattle.cc_capture.specs.Sets.{Set};
 ghost use Rattle.cc_core.specs.Sizes as plain;
-ghost use Rattle.cc_core.specs.Views.{shape_of, type_of};
+ghost use Rattle.cc_core.specs.TermViews.{shape_of, type_of};
 ghost use Rattle.cc_type.specs.Measures as known_of;
 ghost use Rattle.cc_type.specs.Measures.{IsSize, IsClearAlong, IsSizedAlong, IsMeasuredBy, position_question};
 

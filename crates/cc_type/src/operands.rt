@@ -3,9 +3,9 @@
 ghost use Rattle.std.specs.Prelude.{◌≡◌, IfOk};
 ghost use Rattle.cc_core.specs.Shapes.{BaseShape};
 ghost use Rattle.cc_core.specs.Terms.{Written};
-ghost use Rattle.cc_core.specs.Views.{shape_of, type_of, note_of, context_of};
+ghost use Rattle.cc_core.specs.TermViews.{shape_of, type_of, note_of, context_of};
 ghost use Rattle.cc_core.specs.WellFormed.{IsWellFormedContext, IsWellFormedSet, IsWellFormedShape, IsWellFormedType};
-ghost use Rattle.cc_sets.specs.Inference as plain;
+ghost use Rattle.cc_checking.specs.Inference as plain;
 ghost use Rattle.cc_subty.specs.Demands.{asked_of};
 ghost use Rattle.cc_type.specs.Logs.{Answers, Meets, after};
 ghost use Rattle.cc_type.specs.Parts.{named_of};

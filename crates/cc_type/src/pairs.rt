@@ -3,7 +3,7 @@
 ghost use Rattle.std.specs.Prelude.{◌≡◌, ◌≤◌, true, IsTrue, IfOk};
 ghost use Rattle.std.specs.List.{list_all};
 ghost use Rattle.cc_core.specs.Contexts.{Context};
-ghost use Rattle.cc_core.specs.Views.{shape_of};
+ghost use Rattle.cc_core.specs.TermViews.{shape_of};
 ghost use Rattle.cc_type.specs.KeptWalks.{is_remembered, is_remembered_as};
 
 use cc_capture::{Var, same_var};

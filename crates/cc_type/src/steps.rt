@@ -5,10 +5,10 @@ ghost use Rattle.cc_core.specs.Captured as captured;
 ghost use Rattle.cc_core.specs.Contexts.{lookup};
 ghost use Rattle.cc_core.specs.Reading.{read_shape};
 ghost use Rattle.cc_core.specs.Shapes.{capturing};
-ghost use Rattle.cc_core.specs.Views.{shape_of, type_of, bind_of, context_of};
+ghost use Rattle.cc_core.specs.TermViews.{shape_of, type_of, bind_of, context_of};
 ghost use Rattle.cc_core.specs.WellFormed.{IsWellFormedContext, IsWellFormedShape, IsWellFormedType};
-ghost use Rattle.cc_sets.specs.Inference as plain;
-ghost use Rattle.cc_sets.specs.Outcomes.{finds};
+ghost use Rattle.cc_checking.specs.Inference as plain;
+ghost use Rattle.cc_checking.specs.Outcomes.{finds};
 ghost use Rattle.cc_type.specs.Logs.{Answers};
 ghost use Rattle.cc_type.specs.Parts.{some_entry};
 

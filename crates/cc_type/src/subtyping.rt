@@ -2,9 +2,9 @@
 
 ghost use Rattle.std.specs.Prelude.{IfOk, OnErr};
 ghost use Rattle.cc_core.specs.Subtyping.{Subtypes, SubtypesType};
-ghost use Rattle.cc_core.specs.Views.{shape_of, type_of, context_of};
+ghost use Rattle.cc_core.specs.TermViews.{shape_of, type_of, context_of};
 ghost use Rattle.cc_core.specs.WellFormed.{IsWellFormedShape, IsWellFormedType, IsWellFormedContext};
-ghost use Rattle.cc_sets.specs.Comparison.{comparison, type_comparison};
+ghost use Rattle.cc_checking.specs.Comparison.{comparison, type_comparison};
 ghost use Rattle.cc_type.specs.Comparing.{most_steps, Compares, AsksWhat, IsNoMatch, Demanded, HandsOn};
 ghost use Rattle.cc_subty.specs.Demands.{asked_of};
 

@@ -5,14 +5,14 @@
 
 ghost use Rattle.std.specs.Prelude.{◌≡◌, ◌<◌, true, false, ◌&&◌, [], ◌∷◌, ◌++◌, length, IfOk, OnOk, Some, IsTrue};
 ghost use Rattle.std.specs.Option.{unwrap_or};
-ghost use Rattle.cc_core.specs.Comparison.{same_shape};
+ghost use Rattle.cc_core.specs.Equality.{same_shape};
 ghost use Rattle.cc_core.specs.Reading as reading;
 ghost use Rattle.cc_core.specs.Shapes.{FunctionShape, TypeFunctionShape, BoxShape, TypeVariable};
-ghost use Rattle.cc_core.specs.Views.{shape_of, type_of, context_of};
+ghost use Rattle.cc_core.specs.TermViews.{shape_of, type_of, context_of};
 ghost use Rattle.cc_core.specs.WellFormed.{IsWellFormedContext, IsWellFormedShape, IsWellFormedType, IsWellFormedSet};
-ghost use Rattle.cc_sets.specs.Comparison as plain;
-ghost use Rattle.cc_sets.specs.Comparison.{comparison, demanded};
-ghost use Rattle.cc_sets.specs.Inference.{demand_at, shape_in, type_in};
+ghost use Rattle.cc_checking.specs.Comparison as plain;
+ghost use Rattle.cc_checking.specs.Comparison.{comparison, demanded};
+ghost use Rattle.cc_checking.specs.Inference.{demand_at, shape_in, type_in};
 ghost use Rattle.cc_subty.specs.Demands.{asked_of};
 ghost use Rattle.cc_type.specs.Keeping.{with_one, is_demand_settled};
 ghost use Rattle.cc_type.specs.KeptWalks.{put, Keeps, StandsOn, IsKnownAgain, form_compared, variable_compared};
@@ -459,7 +459,7 @@ fn keep_itself(alloc: Global, ctx: &Ctx, left: &Shape, right: &Shape) -> Result<
 }
 
 #[cycle(walk)]
-#[tactic(auto, unfolding(cc_sets::specs::Comparison::by_form))]
+#[tactic(auto, unfolding(cc_checking::specs::Comparison::by_form))]
 fn keep_form(
     alloc: Global,
     ctx: &Ctx,

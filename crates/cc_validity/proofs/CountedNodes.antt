@@ -2,7 +2,7 @@
 use Rattle.std.proofs.Common.{◌≡◌, ◌+◌, ◌<◌, List, [], ◌∷◌, ◌++◌, refl, ap, arith, ◌∙◌, sym, map}
 use Rattle.std.proofs.lemmas.List.{map_push}
 use Rattle.cc_core.specs.Derivations.{Derivation, Node, Premises, NoPremise, Premise, Rule, Claim}
-use Rattle.cc_sets.specs.DerivationSizes.{nodes, nodes_of}
+use Rattle.cc_checking.specs.DerivationSizes.{nodes, nodes_of}
 use Rattle.cc_validity.specs.Counting.{premise_list, nodes_together}
 
 together-append : (xs ys : List Derivation) → nodes_together (xs ++ ys) ≡ nodes_together xs + nodes_together ys

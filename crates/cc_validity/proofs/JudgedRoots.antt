@@ -4,11 +4,11 @@ use Rattle.cc_core.specs.Terms.{Term}
 use Rattle.cc_core.specs.Contexts.{Context}
 use Rattle.cc_core.specs.Derivations.{Derivation, IsValidTyping}
 use Rattle.cc_derivation.specs.Numbers.{own_number}
-use Rattle.cc_meta_validity.specs.Broken.{broken, IsLeast}
-use Rattle.cc_meta_validity.specs.Rows.{TypeOf}
-use Rattle.cc_meta_validity.specs.ValidityLaws.{RiseWithin}
-use Rattle.cc_meta_validity.proofs.BrokenNodes.{valid_typings}
-use Rattle.cc_meta_validity.proofs.RisingNumbers.{numbers_rise, first_is_least}
+use Rattle.cc_derivation.specs.Broken.{broken, IsLeast}
+use Rattle.cc_derivation.specs.Rows.{TypeOf}
+use Rattle.cc_derivation.specs.ValidityLaws.{RiseWithin}
+use Rattle.cc_derivation.proofs.BrokenNodes.{valid_typings}
+use Rattle.cc_derivation.proofs.RisingNumbers.{numbers_rise, first_is_least}
 use Rattle.cc_validity.specs.Waiting.{first_or}
 
 none_first : (xs : List ℕ) → None ≡ first_or xs None → xs ≡ []

@@ -3,11 +3,11 @@ use Rattle.std.proofs.Common.{◌≡◌, ℕ, ◌+◌, Bool, true, false, not, L
 use Rattle.std.specs.Prelude.{if◌then◌else◌}
 use Rattle.cc_core.specs.Derivations.{Rule, Claim, Derivation, Node, Premises, NoPremise, Premise}
 use Rattle.cc_derivation.specs.Numbers.{own_number}
-use Rattle.cc_instances.specs.Claimed.{instance_of}
-use Rattle.cc_meta_validity.specs.Broken.{claims_of, are_as_many, broken_at, broken, broken_among}
-use Rattle.cc_meta_validity.specs.Rows.{Place, Nowhere, TypeOf, SetsBelow, ShapesBelow, TypesBelow, Row, row_at}
-use Rattle.cc_premise_places.specs.Spots.{places_in}
-use Rattle.cc_sets.specs.DerivationSizes.{nodes, nodes_of}
+use Rattle.cc_validity.specs.ClaimedPremises.{instance_of}
+use Rattle.cc_derivation.specs.Broken.{claims_of, are_as_many, broken_at, broken, broken_among}
+use Rattle.cc_derivation.specs.Rows.{Place, Nowhere, TypeOf, SetsBelow, ShapesBelow, TypesBelow, Row, row_at}
+use Rattle.cc_validity.specs.Spots.{places_in}
+use Rattle.cc_checking.specs.DerivationSizes.{nodes, nodes_of}
 use Rattle.cc_validity.specs.declared.waiting.Passed.{Passed}
 use Rattle.cc_validity.specs.Waiting.{Standing, At, nodes_in, broken_in, standing_among, first_or, alone_if, Passes}
 

@@ -1,7 +1,7 @@
 -- Derivations that wait to be counted.
 use Rattle.std.specs.Prelude.{ℕ, ◌+◌, List, [], ◌∷◌}
 use Rattle.cc_core.specs.Derivations.{Derivation, Premises, NoPremise, Premise}
-use Rattle.cc_sets.specs.DerivationSizes.{nodes}
+use Rattle.cc_checking.specs.DerivationSizes.{nodes}
 
 -- the premises, in order
 abbrev pub premise_list : Premises → List Derivation

@@ -1,6 +1,6 @@
 -- What it means that a derivation is refused.
 use Rattle.std.specs.Prelude.{ℕ, List}
-use Rattle.cc_meta_validity.specs.Broken.{IsLeast}
+use Rattle.cc_derivation.specs.Broken.{IsLeast}
 use Rattle.cc_validity.specs.declared.error.ValidityError.{ValidityError}
 use Rattle.cc_validity.specs.declared.error.ValidityError.TheVariants.{NoMemory, BadNode}
 

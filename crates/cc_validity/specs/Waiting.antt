@@ -1,12 +1,12 @@
 -- Nodes that wait to be judged, each at its place, and what is still to be found among them.
 use Rattle.std.specs.Prelude.{◌≡◌, ◌+◌, ◌<◌, ℕ, Bool, List, [], ◌∷◌, ◌++◌, Option, Some, if◌then◌else◌}
 use Rattle.cc_core.specs.Derivations.{Derivation, Premises, Premise}
-use Rattle.cc_sets.specs.DerivationSizes.{nodes}
+use Rattle.cc_checking.specs.DerivationSizes.{nodes}
 use Rattle.cc_derivation.specs.Numbers.{own_number}
-use Rattle.cc_derivation.specs.Views.{der_of}
-use Rattle.cc_meta_validity.specs.Rows.{Place}
-use Rattle.cc_meta_validity.specs.Broken.{broken}
-use Rattle.cc_premise_places.specs.Spots.{place_of}
+use Rattle.cc_derivation.specs.DerivationViews.{der_of}
+use Rattle.cc_derivation.specs.Rows.{Place}
+use Rattle.cc_derivation.specs.Broken.{broken}
+use Rattle.cc_validity.specs.Spots.{place_of}
 use Rattle.cc_validity.specs.declared.waiting.Passed.{Passed}
 use Rattle.cc_validity.specs.declared.waiting.Waiting.{Waiting}
 

@@ -1,8 +1,8 @@
 //! How many nodes a derivation has, counted by a loop.
 
 ghost use Rattle.std.specs.Prelude.{◌≡◌, ◌^◌, ◌<◌, ◌++◌, map, IfOk, OnOk};
-ghost use Rattle.cc_derivation.specs.Views.{premises_of, der_of};
-ghost use Rattle.cc_sets.specs.DerivationSizes.{nodes};
+ghost use Rattle.cc_derivation.specs.DerivationViews.{premises_of, der_of};
+ghost use Rattle.cc_checking.specs.DerivationSizes.{nodes};
 ghost use Rattle.cc_validity.specs.Counting.{premise_list};
 
 use cc_derivation::{Der, Premises};

@@ -1,17 +1,17 @@
 //! A node at its place: the places of its premises, and whether it is an instance of its rule.
 
 ghost use Rattle.std.specs.Prelude.{◌≡◌, option_map, IfOk};
-ghost use Rattle.cc_derivation.specs.Views.{rule_of, claim_of, premises_of};
-ghost use Rattle.cc_instances.specs.Claimed.{instance_of};
-ghost use Rattle.cc_meta_validity.specs.Broken.{claims_of};
-ghost use Rattle.cc_meta_validity.specs.Rows.{row_at};
-ghost use Rattle.cc_premise_places.specs.Spots.{place_of, places_of, places_in};
+ghost use Rattle.cc_derivation.specs.DerivationViews.{rule_of, claim_of, premises_of};
+ghost use Rattle.cc_validity.specs.ClaimedPremises.{instance_of};
+ghost use Rattle.cc_derivation.specs.Broken.{claims_of};
+ghost use Rattle.cc_derivation.specs.Rows.{row_at};
+ghost use Rattle.cc_validity.specs.Spots.{place_of, places_of, places_in};
 
+use crate::comparisons::{set_instance, shape_instance, type_instance};
+use crate::premises::{set_places, shape_places, type_places, typing_places};
+use crate::typings::typing_instance;
+use crate::{Spot, Spots};
 use cc_derivation::{Claim, Der};
-use cc_instances::comparisons::{set_instance, shape_instance, type_instance};
-use cc_instances::typings::typing_instance;
-use cc_premise_places::premises::{set_places, shape_places, type_places, typing_places};
-use cc_premise_places::{Spot, Spots};
 use std::alloc::{AllocError, Global};
 
 /// The places of the premises of the node, if it fits its place.

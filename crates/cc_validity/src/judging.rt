@@ -2,19 +2,19 @@
 
 ghost use Rattle.std.specs.Prelude.{◌≡◌, ◌^◌, ◌<◌, [], None, OnOk, IfOk, IfErr};
 ghost use Rattle.cc_core.specs.Derivations.{IsValidTyping};
-ghost use Rattle.cc_core.specs.Views.{term_of, context_of};
-ghost use Rattle.cc_derivation.specs.Views.{der_of};
-ghost use Rattle.cc_meta_validity.specs.Broken.{broken};
-ghost use Rattle.cc_meta_validity.specs.Rows.{TypeOf};
-ghost use Rattle.cc_sets.specs.DerivationSizes.{nodes};
+ghost use Rattle.cc_core.specs.TermViews.{term_of, context_of};
+ghost use Rattle.cc_derivation.specs.DerivationViews.{der_of};
+ghost use Rattle.cc_derivation.specs.Broken.{broken};
+ghost use Rattle.cc_derivation.specs.Rows.{TypeOf};
+ghost use Rattle.cc_checking.specs.DerivationSizes.{nodes};
 ghost use Rattle.cc_validity.specs.Judged.{IsLeastBroken, Denies};
 ghost use Rattle.cc_validity.specs.Waiting.{first_or};
 
 use crate::error::ValidityError;
+use crate::premises::typing;
 use crate::waiting::least_broken;
 use cc_core::{Ctx, Node};
 use cc_derivation::Der;
-use cc_premise_places::premises::typing;
 use std::alloc::{AllocError, Global};
 use std::rc::Rc;
 

@@ -1,18 +1,18 @@
 //! Nodes that wait to be judged, the last ones first.
 
 ghost use Rattle.std.specs.Prelude.{◌≡◌, ◌≢◌, ◌^◌, ◌<◌, ◌++◌, map, [], IfOk, OnOk, MatchBool, Some, None, if◌then◌else◌};
-ghost use Rattle.cc_derivation.specs.Views.{premises_of, der_of};
-ghost use Rattle.cc_meta_validity.specs.Broken.{broken};
-ghost use Rattle.cc_meta_validity.specs.Rows.{Nowhere};
-ghost use Rattle.cc_premise_places.specs.Spots.{place_of, places_of};
-ghost use Rattle.cc_sets.specs.DerivationSizes.{nodes};
+ghost use Rattle.cc_derivation.specs.DerivationViews.{premises_of, der_of};
+ghost use Rattle.cc_derivation.specs.Broken.{broken};
+ghost use Rattle.cc_derivation.specs.Rows.{Nowhere};
+ghost use Rattle.cc_validity.specs.Spots.{place_of, places_of};
+ghost use Rattle.cc_checking.specs.DerivationSizes.{nodes};
 ghost use Rattle.cc_validity.specs.Waiting.{Passes, standing_of, standing_among, first_or};
 
 use crate::counting::count;
 use crate::instances::{is_instance, premise_places};
+use crate::premises::{are_as_many, same_place};
+use crate::{Spot, Spots};
 use cc_derivation::{Der, Premises};
-use cc_premise_places::premises::{are_as_many, same_place};
-use cc_premise_places::{Spot, Spots};
 use std::alloc::{AllocError, Global};
 use std::rc::Rc;
 

@@ -10,11 +10,11 @@ use Rattle.cc_capture.specs.declared.var.Elem.{Elem}
 use Rattle.cc_explain.specs.Chains.{IsFirstShortest}
 use Rattle.cc_grammar.specs.Syntax.{ImportSyntax}
 use Rattle.cc_graph.specs.Graph.{ImportMap}
-use Rattle.cc_meta_links.specs.PresentLinks.{Target, DefinitionOf, DeviceAt, Universal, element_of, entry_or_none, entry_in}
-use Rattle.cc_meta_modules.specs.ModuleVerdicts.{CheckedDefinition, Finding, ModuleVerdict, IsAccepted, IsRefused}
-use Rattle.cc_meta_modules.specs.PresentTexts.{Texts, text_of, findings_for}
-use Rattle.cc_meta_modules.specs.Readings.{imports_in, imports_of}
-use Rattle.cc_meta_modules.specs.StandingDefinitions.{Standing, first_named, standing_or, standing_by, standing_from, standing_in}
+use Rattle.cc_entry_laws.specs.PresentLinks.{Target, DefinitionOf, DeviceAt, Universal, element_of, entry_or_none, entry_in}
+use Rattle.cc_verdicts.specs.ModuleVerdicts.{CheckedDefinition, Finding, ModuleVerdict, IsAccepted, IsRefused}
+use Rattle.cc_verdicts.specs.PresentTexts.{Texts, text_of, findings_for}
+use Rattle.cc_verdicts.specs.Readings.{imports_in, imports_of}
+use Rattle.cc_verdicts.specs.StandingDefinitions.{Standing, first_named, standing_or, standing_by, standing_from, standing_in}
 use Rattle.cc_mnf.specs.ElaboratedModules.{device_names}
 use Rattle.cc_replies.proofs.ExplainLaws.{same_target, same_target-true, same_target-itself}
 use Rattle.cc_replies.proofs.FirstChains.{path_from, first_chain_found}

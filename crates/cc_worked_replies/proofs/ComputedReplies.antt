@@ -14,13 +14,13 @@ use Rattle.cc_device.specs.Declarations.{declared_bases}
 use Rattle.cc_grammar.specs.Syntax.{ImportSyntax}
 use Rattle.cc_graph.specs.Graph.{ImportMap, does_import, reaches, is_ready, IsOrder}
 use Rattle.cc_lex.specs.Lexical.{start}
-use Rattle.cc_meta_entries.specs.LinkOrders.{is_reached}
-use Rattle.cc_meta_entries.specs.PresentEntries.{CheckedModule, CheckedEntry, definitions_of, present_module, started_in, IsEntryOf}
-use Rattle.cc_meta_entries.proofs.MadeEntries.{made_entry}
-use Rattle.cc_meta_modules.specs.ModuleLaws.{NamesOfDevicesDiffer}
-use Rattle.cc_meta_modules.specs.ModuleVerdicts.{CheckedDefinition, Finding, NoModule, InCycle, ModuleVerdict, IsRefused, HasModuleVerdict}
-use Rattle.cc_meta_modules.specs.PresentTexts.{Texts, ArePresent, text_of, with_module, graph_of, finding_in, finding_for, findings_for, AreVerdicts}
-use Rattle.cc_meta_modules.specs.Readings.{imports_in, imports_of}
+use Rattle.cc_entry_laws.specs.LinkOrders.{is_reached}
+use Rattle.cc_entry_laws.specs.PresentEntries.{CheckedModule, CheckedEntry, definitions_of, present_module, started_in, IsEntryOf}
+use Rattle.cc_entry_laws.proofs.MadeEntries.{made_entry}
+use Rattle.cc_verdicts.specs.ModuleLaws.{NamesOfDevicesDiffer}
+use Rattle.cc_verdicts.specs.ModuleVerdicts.{CheckedDefinition, Finding, NoModule, InCycle, ModuleVerdict, IsRefused, HasModuleVerdict}
+use Rattle.cc_verdicts.specs.PresentTexts.{Texts, ArePresent, text_of, with_module, graph_of, finding_in, finding_for, findings_for, AreVerdicts}
+use Rattle.cc_verdicts.specs.Readings.{imports_in, imports_of}
 use Rattle.cc_mnf.specs.ElaboratedModules.{device_names}
 use Rattle.cc_words.specs.Words.{number_of, signed_of}
 use Rattle.cc_worked_texts.proofs.ComputedModules.{text_computing, text_verdict_in, text_verdict_in_steps}

@@ -5,9 +5,9 @@ use Rattle.cc_base.specs.declared.code.Code.TheVariants.{E32, E33, E34}
 use Rattle.cc_capture.specs.declared.var.Var.TheVariants.{Free}
 use Rattle.cc_capture.specs.declared.var.Elem.TheVariants.{Var as Variable, Cap}
 use Rattle.cc_graph.specs.Graph.{ImportMap}
-use Rattle.cc_meta_links.specs.PresentLinks.{DefinitionOf, DeviceAt, Universal}
-use Rattle.cc_meta_modules.specs.ModuleVerdicts.{Finding, ModuleVerdict}
-use Rattle.cc_meta_modules.specs.PresentTexts.{finding_in}
+use Rattle.cc_entry_laws.specs.PresentLinks.{DefinitionOf, DeviceAt, Universal}
+use Rattle.cc_verdicts.specs.ModuleVerdicts.{Finding, ModuleVerdict}
+use Rattle.cc_verdicts.specs.PresentTexts.{finding_in}
 use Rattle.cc_replies.proofs.FirstChains.{path_of, path_from}
 use Rattle.cc_worked_replies.specs.ExplainExamples as example
 use Rattle.cc_worked_replies.specs.RunExamples as runs

@@ -3,8 +3,8 @@ use Rattle.std.proofs.Common.{ℕ, codes, true, false, List, [], ◌∷◌, refl
 use Rattle.std.specs.Str.{bytes_eq}
 use Rattle.cc_base.specs.declared.device.DeviceDecl.{DeviceDecl}
 use Rattle.cc_graph.specs.Graph.{ImportMap}
-use Rattle.cc_meta_modules.specs.ModuleVerdicts.{Finding, ModuleVerdict}
-use Rattle.cc_meta_modules.specs.PresentTexts.{Texts, finding_in}
+use Rattle.cc_verdicts.specs.ModuleVerdicts.{Finding, ModuleVerdict}
+use Rattle.cc_verdicts.specs.PresentTexts.{Texts, finding_in}
 use Rattle.cc_worked_replies.specs.RunExamples as example
 use Rattle.cc_worked_replies.specs.TextReplies.{console, console_and_counter, three_devices, m, n, main}
 use Rattle.cc_worked_replies.proofs.ComputedReplies.{verdicts_by, AreJudged, are_judged, run_replies, reply_computing}

@@ -3,7 +3,7 @@ use Rattle.std.specs.Prelude.{◌≡◌, ℕ, codes, Bool, true, false, List, []
 use Rattle.std.specs.List.{flat_map}
 use Rattle.cc_base.specs.declared.device.DeviceDecl.{DeviceDecl}
 use Rattle.cc_certificate_judging.specs.AnswerExamples.{function_node}
-use Rattle.cc_certificate_reading.specs.Examples.{text, opening, statement, body_node}
+use Rattle.cc_certificate_reading.specs.ReadingExamples.{text, opening, statement, body_node}
 use Rattle.cc_mnf.specs.ElaboratedModules.{device_names}
 use Rattle.cc_replies.specs.Replies.{Replies}
 use Rattle.cc_replies.specs.ReplyTexts.{Reply, line, reply_text, is_refusal}

@@ -1,7 +1,7 @@
 -- Replies that explain signatures, by example.
 use Rattle.std.specs.Prelude.{ℕ, codes, true, false, List, [], ◌∷◌}
 use Rattle.std.specs.List.{flat_map}
-use Rattle.cc_meta_modules.specs.PresentTexts.{Texts}
+use Rattle.cc_verdicts.specs.PresentTexts.{Texts}
 use Rattle.cc_replies.specs.ReplyTexts.{line}
 use Rattle.cc_replies.specs.Requests.{ExplainDefinition}
 use Rattle.cc_worked_replies.specs.RunExamples.{printing, refused_module, three_modules}

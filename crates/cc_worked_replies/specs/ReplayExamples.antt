@@ -2,7 +2,7 @@
 use Rattle.std.specs.Prelude.{ℕ, codes, Bool, true, false, List, [], ◌∷◌}
 use Rattle.std.specs.List.{flat_map}
 use Rattle.cc_base.specs.declared.device.DeviceDecl.{DeviceDecl}
-use Rattle.cc_meta_modules.specs.PresentTexts.{Texts}
+use Rattle.cc_verdicts.specs.PresentTexts.{Texts}
 use Rattle.cc_replies.specs.ReplyTexts.{line}
 use Rattle.cc_replies.specs.Requests.{ReplayDefinition}
 use Rattle.cc_worked_replies.specs.RunExamples.{printing, refused_module, three_modules, file_and_counter}

@@ -5,10 +5,10 @@ use Rattle.cc_base.specs.declared.literal.Op.TheVariants as operations
 use Rattle.cc_device.specs.Endings.{ShownLiteral, ShownFunction, ShownTypeFunction, ShownBox, ShownDevice, ShownLabel}
 use Rattle.cc_device.specs.Endings.{Done, OutOfFuel}
 use Rattle.cc_device.specs.Events.{Operated, Entered, Ended, Exited}
-use Rattle.cc_meta_runs.specs.Runs.{Ends, IsStopped}
+use Rattle.cc_runs.specs.Runs.{Ends, IsStopped}
 use Rattle.cc_replies.specs.ReplyTexts.{is_unfinished}
 use Rattle.cc_replies.specs.TaskTexts.{of_task}
-use Rattle.cc_run_texts.specs.RunTexts.{authority_text, event_text, shown_text, ending_text, end_text}
+use Rattle.cc_replay.specs.RunTexts.{authority_text, event_text, shown_text, ending_text, end_text}
 
 -- the names of the devices
 abbrev pub names : List (List ℕ)

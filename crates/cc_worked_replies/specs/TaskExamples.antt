@@ -1,6 +1,6 @@
 -- Replies to tasks that run interleaved, by example.
 use Rattle.std.specs.Prelude.{ℕ, codes, true, false, List, [], ◌∷◌}
-use Rattle.cc_meta_modules.specs.PresentTexts.{Texts}
+use Rattle.cc_verdicts.specs.PresentTexts.{Texts}
 use Rattle.cc_replies.specs.Requests.{RunTasks}
 use Rattle.cc_worked_replies.specs.RunExamples.{printing, three_modules}
 use Rattle.cc_worked_replies.specs.TextReplies.{RepliesWith, console, console_and_counter, m, n, main, one_module}

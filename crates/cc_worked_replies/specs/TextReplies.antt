@@ -3,7 +3,7 @@ use Rattle.std.specs.Prelude.{◌≡◌, ℕ, pos, codes, Bool, List, [], ◌∷
 use Rattle.std.specs.List.{flat_map}
 use Rattle.cc_base.specs.declared.device.DeviceDecl.{DeviceDecl}
 use Rattle.cc_base.specs.declared.device.Kind.TheVariants as kinds
-use Rattle.cc_meta_modules.specs.PresentTexts.{Texts}
+use Rattle.cc_verdicts.specs.PresentTexts.{Texts}
 use Rattle.cc_mnf.specs.ElaboratedModules.{device_names}
 use Rattle.cc_replies.specs.Replies.{Replies}
 use Rattle.cc_replies.specs.ReplyTexts.{Reply, line, reply_text, is_refusal}

@@ -15,7 +15,7 @@ use Rattle.cc_mnf.specs.Steps.{followed, gives, refuses, new_hole, with_own_hole
 use Rattle.cc_mnf.specs.ElaboratedTypes.{elaborated_shape, elaborated_type, with_elements}
 use Rattle.cc_mnf.specs.Elaboration.{elaborated}
 use Rattle.cc_mnf.specs.ElaboratedModules.{elaboration}
-use Rattle.cc_meta_modules.specs.Readings.{reading_of_text}
+use Rattle.cc_verdicts.specs.Readings.{reading_of_text}
 use Rattle.cc_worked_runs.specs.StuckTexts as example
 
 pub only_functions_are_applied : example.OnlyFunctionsAreApplied

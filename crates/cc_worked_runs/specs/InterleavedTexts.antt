@@ -1,7 +1,7 @@
 -- Texts that run interleaved, by example.
 use Rattle.std.specs.Prelude.{ℕ, List, [], ◌∷◌, codes}
-use Rattle.cc_meta_runs.specs.ExamplePrograms.{ticked, done_with_number, done_with_unit, out_of_fuel}
-use Rattle.cc_meta_runs.specs.Runs.{IsStopped}
+use Rattle.cc_runs.specs.ExamplePrograms.{ticked, done_with_number, done_with_unit, out_of_fuel}
+use Rattle.cc_runs.specs.Runs.{IsStopped}
 use Rattle.cc_worked_runs.specs.TextRuns.{TextsRunTo, main_with}
 
 -- a program that operates the counter at its third and at its fifth step, which is its last

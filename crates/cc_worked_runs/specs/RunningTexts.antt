@@ -7,10 +7,10 @@ use Rattle.cc_device.specs.Devices.{Console, File, Counter}
 use Rattle.cc_device.specs.Endings.{ShownFunction, ShownTypeFunction, ShownBox, ShownDevice, ShownLabel}
 use Rattle.cc_device.specs.Events.{Event, Operated, Entered, Ended, Exited}
 use Rattle.cc_device.specs.WorkedAnswers.{least}
-use Rattle.cc_meta_runs.specs.ExamplePrograms.{printed, said, ticked, done_showing, done_with, done_with_number}
-use Rattle.cc_meta_runs.specs.ExamplePrograms.{done_with_unit, out_of_fuel}
-use Rattle.cc_meta_runs.specs.Interleavings.{state_of}
-use Rattle.cc_meta_runs.specs.Runs.{State, run}
+use Rattle.cc_runs.specs.ExamplePrograms.{printed, said, ticked, done_showing, done_with, done_with_number}
+use Rattle.cc_runs.specs.ExamplePrograms.{done_with_unit, out_of_fuel}
+use Rattle.cc_runs.specs.Interleavings.{state_of}
+use Rattle.cc_runs.specs.Runs.{State, run}
 use Rattle.cc_worked_runs.specs.TextRuns.{states, start_of, TextRunsTo, main_with}
 
 -- a function that prints, in front of a definition `main` with the body

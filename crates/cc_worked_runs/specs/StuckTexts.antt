@@ -2,8 +2,8 @@
 -- here. A call of `main`, the naming of an operand that is no name, and a boundary are one step each.
 use Rattle.std.specs.Prelude.{ℕ, List, [], ◌∷◌, codes}
 use Rattle.cc_device.specs.Events.{Event, Entered, Ended, Exited}
-use Rattle.cc_meta_runs.specs.ExamplePrograms.{printed, ticked, done_with_unit}
-use Rattle.cc_meta_runs.specs.Runs.{IsStopped}
+use Rattle.cc_runs.specs.ExamplePrograms.{printed, ticked, done_with_unit}
+use Rattle.cc_runs.specs.Runs.{IsStopped}
 use Rattle.cc_worked_runs.specs.TextRuns.{TextRunsTo, main_with}
 
 -- the run of the body has the events, and is stuck after so many steps, however much fuel is left

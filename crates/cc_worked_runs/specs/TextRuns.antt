@@ -8,12 +8,12 @@ use Rattle.cc_core.specs.Stores.{Store}
 use Rattle.cc_device.specs.Devices.{DeviceState, Console, File, Counter, base_of_device, Devices}
 use Rattle.cc_device.specs.Events.{Event}
 use Rattle.cc_grammar.specs.Syntax.{ImportSyntax}
-use Rattle.cc_meta_modules.specs.Readings.{TextReading, IsTree, IsNoModule, reading_of_text}
-use Rattle.cc_meta_runs.specs.ExamplePrograms.{defining, started_on}
-use Rattle.cc_meta_runs.specs.Interleavings.{Report, interleave, report_of, state_of}
-use Rattle.cc_meta_runs.specs.Links.{device_cells}
-use Rattle.cc_meta_runs.specs.Machine.{Configuration}
-use Rattle.cc_meta_runs.specs.Runs.{Ending, Run, run}
+use Rattle.cc_verdicts.specs.Readings.{TextReading, IsTree, IsNoModule, reading_of_text}
+use Rattle.cc_runs.specs.ExamplePrograms.{defining, started_on}
+use Rattle.cc_runs.specs.Interleavings.{Report, interleave, report_of, state_of}
+use Rattle.cc_runs.specs.Links.{device_cells}
+use Rattle.cc_runs.specs.Machine.{Configuration}
+use Rattle.cc_runs.specs.Runs.{Ending, Run, run}
 use Rattle.cc_mnf.specs.ElaboratedModules.{CoreDefinition, Elaboration, IsElaborated, IsRefused, elaboration}
 use Rattle.cc_mnf.specs.Scopes.{Name}
 
@@ -42,15 +42,15 @@ of_elaboration (IsElaborated elaboration) = alone elaboration.imports elaboratio
 of_elaboration (IsRefused code at) = None
 
 -- the definitions of a text beside the devices, if it is a module without imports
-abbrev pub definitions_of : TextReading → Option (List CoreDefinition)
-definitions_of (IsTree tree) = of_elaboration (elaboration names tree)
-definitions_of (IsNoModule code at) = None
+abbrev pub text_definitions : TextReading → Option (List CoreDefinition)
+text_definitions (IsTree tree) = of_elaboration (elaboration names tree)
+text_definitions (IsNoModule code at) = None
 
 -- the position of the definition of the name, if there is one, where the first definition stands at the position
-abbrev pub position_of : Name → ℕ → List CoreDefinition → Option ℕ
-position_of name first [] = None
-position_of name first (definition ∷ rest) =
-    if bytes_eq definition.name name then Some first else position_of name (suc first) rest
+abbrev pub text_position : Name → ℕ → List CoreDefinition → Option ℕ
+text_position name first [] = None
+text_position name first (definition ∷ rest) =
+    if bytes_eq definition.name name then Some first else text_position name (suc first) rest
 
 -- the store of the definitions' right sides, which stand after the devices in the order of the text
 abbrev pub store_of : List CoreDefinition → Store
@@ -60,7 +60,7 @@ store_of definitions = defining (map (λ definition. definition.right) definitio
 abbrev pub started_in : List CoreDefinition → Option Configuration
 started_in definitions =
     option_map (λ main. (started_on states main (store_of definitions)).configuration)
-    (position_of (codes "main") (length devices) definitions)
+    (text_position (codes "main") (length devices) definitions)
 
 abbrev pub started_if : Option (List CoreDefinition) → Option Configuration
 started_if (Some definitions) = started_in definitions
@@ -68,7 +68,7 @@ started_if None = None
 
 -- the start of a text's program, if it has a definition `main`
 abbrev pub start_of : List ℕ → Option Configuration
-start_of text = started_if (definitions_of (reading_of_text text))
+start_of text = started_if (text_definitions (reading_of_text text))
 
 -- what is told of a run: its events in order, its end, and the number of its steps
 abbrev pub told : Run → List Event × Ending × ℕ

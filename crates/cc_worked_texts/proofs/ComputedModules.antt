@@ -12,21 +12,21 @@ use Rattle.cc_lex.specs.Cutting.{word_of, short_symbol, pair_symbol, number_of}
 use Rattle.cc_mnf.specs.Steps.{followed, gives, refuses, new_hole, with_own_holes}
 use Rattle.cc_mnf.specs.ElaboratedTypes.{elaborated_shape, elaborated_type, with_elements}
 use Rattle.cc_mnf.specs.Elaboration.{elaborated}
-use Rattle.cc_sets.specs.Comparison.{comparison, by_form}
-use Rattle.cc_sets.specs.Outcomes.{◌>>=◌}
+use Rattle.cc_checking.specs.Comparison.{comparison, by_form}
+use Rattle.cc_checking.specs.Outcomes.{◌>>=◌}
 use Rattle.cc_base.specs.declared.code.Code.{Code}
 use Rattle.cc_base.specs.declared.device.DeviceDecl.{DeviceDecl}
 use Rattle.cc_base.specs.declared.place.Place.{Place}
 use Rattle.cc_core.specs.Shapes.{CapturingType}
 use Rattle.cc_core.specs.Contexts.{Context, entry_of}
 use Rattle.cc_grammar.specs.Syntax.{ModuleSyntax}
-use Rattle.cc_meta_checking.proofs.ComputedVerdicts.{verdict_in, verdict_in_steps}
+use Rattle.cc_checking_laws.proofs.ComputedVerdicts.{verdict_in, verdict_in_steps}
 use Rattle.cc_mnf.specs.ElaboratedModules.{CoreDefinition, Elaboration, elaboration, device_names}
 use Rattle.cc_mnf.specs.ElaboratedModules as elaborated
-use Rattle.cc_sets.specs.Verdicts as definitions
-use Rattle.cc_meta_modules.specs.ModuleVerdicts.{CheckedDefinition, ModuleVerdict, IsAccepted, IsRefused, Refusal, Finding, with_findings, AreJudged, no_more, refused_first, accepted_first, HasModuleVerdict, is_no_module, import_is_missing, is_not_elaborated, is_judged, first_missing, declared_context, to_be_checked, checked_as, after_definition}
-use Rattle.cc_meta_modules.specs.Readings.{TextReading, IsTree, IsNoModule, HasReading}
-use Rattle.cc_meta_modules.proofs.ReadingLaws.{text_has_one_reading}
+use Rattle.cc_checking.specs.Verdicts as definitions
+use Rattle.cc_verdicts.specs.ModuleVerdicts.{CheckedDefinition, ModuleVerdict, IsAccepted, IsRefused, Refusal, Finding, with_findings, AreJudged, no_more, refused_first, accepted_first, HasModuleVerdict, is_no_module, import_is_missing, is_not_elaborated, is_judged, first_missing, declared_context, to_be_checked, checked_as, after_definition}
+use Rattle.cc_verdicts.specs.Readings.{TextReading, IsTree, IsNoModule, HasReading}
+use Rattle.cc_verdicts.proofs.ReadingLaws.{text_has_one_reading}
 use Rattle.cc_worked_texts.proofs.QuickTokens.{quick_tokens, quick_reading, same_reading}
 use Rattle.cc_worked_texts.specs.TextMeanings.{meanings_read, meanings_of, SayTheSame}
 use Rattle.cc_worked_texts.specs.TextVerdicts.{devices, signature_text, RefusesWith, Refuses, AcceptsWith, Accepts}

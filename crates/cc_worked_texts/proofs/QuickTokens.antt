@@ -19,7 +19,7 @@ use Rattle.cc_lex.specs.declared.form.Form.TheVariants as forms
 use Rattle.cc_lex.specs.Forms.{stands_in_string}
 use Rattle.cc_lex.specs.Lexical.{start, place_past, place_after, is_white, SpannedLexeme, ToTheEnd}
 use Rattle.cc_lex.specs.Cutting.{Front, Cutting, cut, found, blank_of, front_of, token_of, spelled_front, string_front, symbol_front, long_symbol, short_symbol}
-use Rattle.cc_meta_modules.specs.Readings.{TextReading, IsNoModule, of_cutting, reading_of_text}
+use Rattle.cc_verdicts.specs.Readings.{TextReading, IsNoModule, of_cutting, reading_of_text}
 
 -- a choice, of which one side alone is computed
 same_choice : {A : Type 0} (b : Bool) {x y x' y' : A} → x ≡ x' → y ≡ y' → (if b then x else y) ≡ elim b as (λ _. A) [ true ↦ x' | false ↦ y' ]

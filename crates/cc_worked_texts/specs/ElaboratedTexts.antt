@@ -17,7 +17,7 @@ use Rattle.cc_core.specs.Terms.{TypeFunctionTerm, BoxTerm, Application, TypeAppl
 use Rattle.cc_core.specs.Terms.{Conditional, Repetition, Operation, Boundary, Leave}
 use Rattle.cc_mnf.specs.ElaboratedModules.{CoreDefinition, Elaboration, IsElaborated, IsRefused, elaboration}
 use Rattle.cc_mnf.specs.ElaboratedModules.{device_names}
-use Rattle.cc_meta_modules.specs.Readings.{TextReading, IsTree, IsNoModule, reading_of_text}
+use Rattle.cc_verdicts.specs.Readings.{TextReading, IsTree, IsNoModule, reading_of_text}
 use Rattle.cc_worked_texts.specs.TextVerdicts.{devices}
 
 -- the elaborated definitions, where nothing is refused

@@ -3,7 +3,7 @@ use Rattle.std.specs.Prelude.{◌≡◌, ℕ, Bool, true, codes, List, ◌++◌,
 use Rattle.cc_core.specs.Terms.{Note, Term}
 use Rattle.cc_mnf.specs.ElaboratedModules.{CoreDefinition, Elaboration, IsElaborated, IsRefused, elaboration}
 use Rattle.cc_mnf.specs.ElaboratedModules.{device_names}
-use Rattle.cc_meta_modules.specs.Readings.{TextReading, IsTree, IsNoModule, reading_of_text}
+use Rattle.cc_verdicts.specs.Readings.{TextReading, IsTree, IsNoModule, reading_of_text}
 use Rattle.cc_worked_texts.specs.TextVerdicts.{devices}
 
 -- What a definition says, apart from its places: its name, the type that is written for it, whether it is recursive,

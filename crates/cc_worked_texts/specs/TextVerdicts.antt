@@ -13,8 +13,8 @@ use Rattle.cc_core.specs.Shapes.{BaseShape, FunctionShape, capturing}
 use Rattle.cc_core.specs.Substitution.{single}
 use Rattle.cc_mnf.specs.ElaboratedModules.{device_names}
 use Rattle.cc_print.specs.TypeTexts.{type_text}
-use Rattle.cc_meta_modules.specs.ModuleVerdicts.{CheckedDefinition, Finding, FoundDefinition, HasModuleVerdict}
-use Rattle.cc_meta_modules.specs.ModuleVerdicts.{IsAccepted, IsRefused}
+use Rattle.cc_verdicts.specs.ModuleVerdicts.{CheckedDefinition, Finding, FoundDefinition, HasModuleVerdict}
+use Rattle.cc_verdicts.specs.ModuleVerdicts.{IsAccepted, IsRefused}
 
 -- the devices beside which each text stands
 abbrev pub devices : List DeviceDecl

@@ -5,10 +5,10 @@
 //! It stands for trying certificates by themselves. The command of a job that would answer so is not built.
 #![tactic(auto)]
 
-pub mod laws;
 mod program;
 mod run;
 mod status;
+pub mod status_table;
 
 use crate::program::{Ending, program};
 use cc_io::{StdSink, StdSource};

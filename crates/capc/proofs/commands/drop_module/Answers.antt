@@ -1,6 +1,6 @@
 use Rattle.std.proofs.Common.{List, refl, sym, ap, ◌∙◌}
 use Rattle.cc_base.specs.declared.device.DeviceDecl.{DeviceDecl}
-use Rattle.cc_meta_modules.specs.PresentTexts.{Texts}
+use Rattle.cc_verdicts.specs.PresentTexts.{Texts}
 use Rattle.cc_session.specs.Sessions.{SessionState}
 use Rattle.capc.proofs.CommandFacts.{drop_changes}
 use Rattle.capc.proofs.SessionReplies.{remove_absent}

@@ -1,7 +1,7 @@
 use Rattle.std.proofs.Common.{◌++◌, ◌∷◌, [], List, map, take, sym, ap, ◌∙◌}
 use Rattle.std.proofs.lemmas.List.{take_more}
-use Rattle.cc_entry.specs.Modules.{module_of}
-use Rattle.cc_entry.specs.declared.modules.EntryModule.{EntryModule}
+use Rattle.cc_session.specs.Modules.{module_of}
+use Rattle.cc_session.specs.declared.modules.EntryModule.{EntryModule}
 use Rattle.cc_module.specs.declared.judgement.CheckedDef.{CheckedDef}
 use Rattle.cc_replies.specs.Explanations.{names_of}
 use Rattle.capc.specs.Explaining as plain

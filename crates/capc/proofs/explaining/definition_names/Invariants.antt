@@ -1,5 +1,5 @@
 use Rattle.std.proofs.Common.{◌≡◌, map, take}
-use Rattle.cc_entry.specs.Modules.{module_of}
+use Rattle.cc_session.specs.Modules.{module_of}
 use Rattle.cc_replies.specs.Explanations.{names_of}
 use Rattle.capc.specs.Explaining as plain
 use Rattle.capc.proofs.explaining.definition_names.Given as goal

@@ -1,7 +1,7 @@
 use Rattle.std.proofs.Common.{◌≡◌, length, map, ap, ◌∙◌, sym, subst}
 use Rattle.std.specs.String.{string_bytes}
 use Rattle.std.proofs.lemmas.Result.{IfOk-weaker}
-use Rattle.cc_entry.specs.Modules.{module_of}
+use Rattle.cc_session.specs.Modules.{module_of}
 use Rattle.capc.specs.Explaining.{ExplainsLinked}
 use Rattle.capc.proofs.Explained.{explanations_told}
 use Rattle.capc.proofs.explaining.explained_reply.Goals as goal

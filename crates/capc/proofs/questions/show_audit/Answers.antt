@@ -1,5 +1,5 @@
 use Rattle.std.proofs.Common.{false, [], Err, refl, ap, ◌∙◌, subst}
-use Rattle.cc_meta_modules.proofs.PresentLaws.{present_verdicts_exist}
+use Rattle.cc_verdicts.proofs.PresentLaws.{present_verdicts_exist}
 use Rattle.cc_replies.specs.PolicyReplies.{decisions}
 use Rattle.cc_replies.specs.Requests.{AuditDefinition, Ask, holding_under}
 use Rattle.cc_replies.specs.ReplyTexts.{Audited, AuditRefused, reply_text}

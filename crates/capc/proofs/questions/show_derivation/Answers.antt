@@ -1,8 +1,8 @@
 use Rattle.std.proofs.Common.{false, [], Err, option_map, ap, ◌∙◌, sym, subst, refl}
 use Rattle.std.specs.String.{string_bytes}
-use Rattle.cc_meta_modules.proofs.PresentLaws.{present_verdicts_exist}
+use Rattle.cc_verdicts.proofs.PresentLaws.{present_verdicts_exist}
 use Rattle.cc_base.specs.declared.code.Code.TheVariants.{E36}
-use Rattle.cc_meta_modules.specs.StandingDefinitions.{standing_in}
+use Rattle.cc_verdicts.specs.StandingDefinitions.{standing_in}
 use Rattle.cc_replies.specs.ReplyTexts.{DerivationRefused, reply_text}
 use Rattle.cc_session.specs.StandingAnswers.{AnswersStanding}
 use Rattle.cc_replies.specs.Requests.{ShowDerivation, Ask, holding_under}

@@ -1,8 +1,8 @@
 use Rattle.std.proofs.Common.{false, [], Err, ap, subst, refl}
 use Rattle.std.specs.String.{string_bytes}
-use Rattle.cc_meta_modules.proofs.PresentLaws.{present_verdicts_exist}
-use Rattle.cc_meta_modules.specs.ModuleVerdicts.{CheckedDefinition}
-use Rattle.cc_meta_modules.specs.StandingDefinitions.{standing_in}
+use Rattle.cc_verdicts.proofs.PresentLaws.{present_verdicts_exist}
+use Rattle.cc_verdicts.specs.ModuleVerdicts.{CheckedDefinition}
+use Rattle.cc_verdicts.specs.StandingDefinitions.{standing_in}
 use Rattle.cc_replies.specs.ReplyTexts.{ExplainRefused, reply_text}
 use Rattle.cc_session.specs.StandingAnswers.{AnswersStanding}
 use Rattle.cc_replies.specs.Requests.{ExplainDefinition, Ask, holding_under}

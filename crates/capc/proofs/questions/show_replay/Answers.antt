@@ -1,6 +1,6 @@
 use Rattle.std.proofs.Common.{[], Err, subst}
 use Rattle.std.specs.String.{string_bytes}
-use Rattle.cc_meta_modules.proofs.PresentLaws.{present_verdicts_exist}
+use Rattle.cc_verdicts.proofs.PresentLaws.{present_verdicts_exist}
 use Rattle.cc_replies.specs.Requests.{ReplayDefinition, Ask, holding_under}
 use Rattle.cc_replies.specs.ReplyTexts.{ReplayRefused, reply_text}
 use Rattle.cc_session.specs.EntryAnswers.{IsAnswered}

@@ -1,7 +1,7 @@
 use Rattle.std.proofs.Common.{[], Err, sym, ap, ◌∙◌, subst}
 use Rattle.std.specs.String.{string_bytes}
 use Rattle.cc_device.specs.Declarations.{declared_bases}
-use Rattle.cc_meta_modules.proofs.PresentLaws.{present_verdicts_exist}
+use Rattle.cc_verdicts.proofs.PresentLaws.{present_verdicts_exist}
 use Rattle.cc_replies.specs.Requests.{RunDefinition, Ask, holding_under}
 use Rattle.cc_replies.specs.ReplyTexts.{RunRefused, reply_text}
 use Rattle.cc_session.specs.EntryAnswers.{IsAnswered}

@@ -5,11 +5,11 @@ use Rattle.std.proofs.lemmas.Option.{get_or_from_slice_get, slice_get_within}
 use Rattle.std.specs.String.{string_bytes}
 use Rattle.std.specs.List.{AllByRecursion}
 use Rattle.cc_device.specs.Declarations.{declared_bases}
-use Rattle.cc_entry.specs.declared.entry.Entry.{Entry}
-use Rattle.cc_entry.specs.Entries.{entry_of}
+use Rattle.cc_session.specs.declared.entry.Entry.{Entry}
+use Rattle.cc_session.specs.Entries.{entry_of}
 use Rattle.cc_replies.specs.ReplyTexts.{TasksRefused, reply_text}
 use Rattle.cc_replies.specs.RunReplies.{first_unstarted, HaveEntries}
-use Rattle.cc_meta_modules.proofs.PresentLaws.{present_verdicts_exist}
+use Rattle.cc_verdicts.proofs.PresentLaws.{present_verdicts_exist}
 use Rattle.cc_replies.specs.Requests.{RunTasks, Ask, holding_under}
 use Rattle.capc.specs.Running.{AreStarted}
 use Rattle.capc.proofs.CommandFacts.{replied_nothing}

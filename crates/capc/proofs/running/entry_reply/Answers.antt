@@ -1,6 +1,6 @@
 use Rattle.std.proofs.Common.{sym, ◌∙◌}
 use Rattle.cc_machine.specs.Machines.{held_by}
-use Rattle.cc_program.specs.Programs.{start_of}
+use Rattle.cc_machine.specs.Programs.{start_of}
 use Rattle.capc.proofs.RunFacts.{fits_held}
 use Rattle.capc.proofs.running.entry_reply.Goals as goal
 

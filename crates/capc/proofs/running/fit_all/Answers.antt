@@ -1,7 +1,7 @@
-use Rattle.cc_meta_runs.specs.SafeRuns.{HaveShapes}
-use Rattle.cc_meta_runs.specs.SoundRuns.{HasShapesOfCells}
-use Rattle.cc_program.specs.declared.program.Program.{Program}
-use Rattle.cc_program.specs.Programs.{shapes_of, start_of}
+use Rattle.cc_runs.specs.SafeRuns.{HaveShapes}
+use Rattle.cc_runs.specs.SoundRuns.{HasShapesOfCells}
+use Rattle.cc_machine.specs.declared.program.Program.{Program}
+use Rattle.cc_machine.specs.Programs.{shapes_of, start_of}
 use Rattle.capc.proofs.AllOf.{all_more, all_whole, all_get}
 use Rattle.capc.proofs.running.fit_all.Goals as goal
 

@@ -1,7 +1,7 @@
 use Rattle.std.proofs.Common.{take}
 use Rattle.std.specs.List.{AllByRecursion}
-use Rattle.cc_meta_runs.specs.SoundRuns.{HasShapesOfCells}
-use Rattle.cc_program.specs.Programs.{start_of}
+use Rattle.cc_runs.specs.SoundRuns.{HasShapesOfCells}
+use Rattle.cc_machine.specs.Programs.{start_of}
 use Rattle.capc.proofs.running.fit_all.Given as goal
 
 abbrev pub invariant-loop-program : goal.invariant-loop-program

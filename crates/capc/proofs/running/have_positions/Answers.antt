@@ -1,6 +1,6 @@
 use Rattle.std.proofs.Common.{◌<◌, ◌+◌, length}
-use Rattle.cc_program.specs.declared.program.Program.{Program}
-use Rattle.cc_program.specs.Programs.{start_of}
+use Rattle.cc_machine.specs.declared.program.Program.{Program}
+use Rattle.cc_machine.specs.Programs.{start_of}
 use Rattle.capc.proofs.AllOf.{all_more, all_whole}
 use Rattle.capc.proofs.running.have_positions.Goals as goal
 

@@ -1,6 +1,6 @@
 use Rattle.std.proofs.Common.{◌<◌, ◌+◌, take, length}
 use Rattle.std.specs.List.{AllByRecursion}
-use Rattle.cc_program.specs.Programs.{start_of}
+use Rattle.cc_machine.specs.Programs.{start_of}
 use Rattle.capc.proofs.running.have_positions.Given as goal
 
 abbrev pub invariant-loop-program : goal.invariant-loop-program

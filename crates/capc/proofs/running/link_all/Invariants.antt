@@ -1,8 +1,8 @@
 use Rattle.std.proofs.Common.{◌≡◌, map, take}
-use Rattle.cc_entry.specs.Entries.{entry_of}
-use Rattle.cc_meta_entries.specs.PresentEntries.{program_entry}
-use Rattle.cc_meta_runs.specs.Links.{program_start}
-use Rattle.cc_program.specs.Programs.{shapes_of, start_of}
+use Rattle.cc_session.specs.Entries.{entry_of}
+use Rattle.cc_entry_laws.specs.PresentEntries.{program_entry}
+use Rattle.cc_runs.specs.Links.{program_start}
+use Rattle.cc_machine.specs.Programs.{shapes_of, start_of}
 use Rattle.capc.proofs.running.link_all.Given as goal
 
 abbrev pub invariant-loop-entry : goal.invariant-loop-entry

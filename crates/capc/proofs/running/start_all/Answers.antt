@@ -1,6 +1,6 @@
 use Rattle.std.proofs.Common.{◌≡◌, Some, Err, ap, ◌∙◌, sym, subst, map}
 use Rattle.std.proofs.lemmas.Option.{slice_get-get_or}
-use Rattle.cc_entry.specs.Entries.{entry_of}
+use Rattle.cc_session.specs.Entries.{entry_of}
 use Rattle.cc_session.specs.EntryAnswers.{IsAnswered}
 use Rattle.cc_replies.specs.RunReplies.{first_unstarted}
 use Rattle.capc.proofs.StartedTasks.{started_next, stopped_next}

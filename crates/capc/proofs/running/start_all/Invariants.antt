@@ -1,7 +1,7 @@
 use Rattle.std.proofs.Common.{ℕ, List, map, take}
-use Rattle.cc_entry.specs.Entries.{entry_of}
-use Rattle.cc_meta_modules.specs.ModuleVerdicts.{ModuleVerdict}
-use Rattle.cc_meta_modules.specs.PresentTexts.{AreVerdicts}
+use Rattle.cc_session.specs.Entries.{entry_of}
+use Rattle.cc_verdicts.specs.ModuleVerdicts.{ModuleVerdict}
+use Rattle.cc_verdicts.specs.PresentTexts.{AreVerdicts}
 use Rattle.capc.proofs.StartedTasks.{AreStartedSoFar}
 use Rattle.capc.proofs.running.start_all.Given as goal
 

@@ -1,8 +1,8 @@
 use Rattle.std.proofs.Common.{List, map, ap, ◌∙◌, sym, subst}
 use Rattle.std.specs.List.{AllByRecursion}
-use Rattle.cc_meta_runs.specs.SafeRuns.{HaveShapes}
-use Rattle.cc_program.specs.declared.program.Program.{Program}
-use Rattle.cc_program.specs.Programs.{shapes_of, start_of}
+use Rattle.cc_runs.specs.SafeRuns.{HaveShapes}
+use Rattle.cc_machine.specs.declared.program.Program.{Program}
+use Rattle.cc_machine.specs.Programs.{shapes_of, start_of}
 use Rattle.cc_device.specs.Declarations.{declared_bases}
 use Rattle.cc_replies.specs.ReplyTexts.{reply_text, is_refusal}
 use Rattle.cc_tasks.specs.Reports.{told_by}

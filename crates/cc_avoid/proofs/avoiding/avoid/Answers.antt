@@ -1,5 +1,5 @@
 use Rattle.std.proofs.Common.{sym}
-use Rattle.cc_core.specs.Views.{bind_of, type_of, context_of}
+use Rattle.cc_core.specs.TermViews.{bind_of, type_of, context_of}
 use Rattle.cc_avoid.proofs.AvoidingAnswers.{answer_above, answer_gone, answer_same, answer_formed, answer_at}
 use Rattle.cc_avoid.proofs.avoiding.avoid.Goals as goal
 

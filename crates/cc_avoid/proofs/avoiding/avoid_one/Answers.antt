@@ -1,5 +1,5 @@
 use Rattle.std.proofs.Common.{◌∙◌}
-use Rattle.cc_core.specs.Views.{type_of}
+use Rattle.cc_core.specs.TermViews.{type_of}
 use Rattle.cc_avoid.proofs.AvoidedTogether.{one_avoided}
 use Rattle.cc_avoid.proofs.avoiding.avoid_one.Goals as goal
 

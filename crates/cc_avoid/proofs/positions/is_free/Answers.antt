@@ -1,4 +1,4 @@
-use Rattle.cc_core.specs.Views.{shape_of}
+use Rattle.cc_core.specs.TermViews.{shape_of}
 use Rattle.cc_avoid.proofs.FreePositions as free
 use Rattle.cc_avoid.proofs.positions.is_free.Goals as goal
 

@@ -1,6 +1,6 @@
 use Rattle.std.proofs.Common.{sym, subst, Err}
 use Rattle.std.proofs.lemmas.Result.{IfOk-weaker}
-use Rattle.cc_certificate_reading.specs.Views.{ReadsCertificate}
+use Rattle.cc_certificate_reading.specs.CertificateViews.{ReadsCertificate}
 use Rattle.cc_certificate_judging.specs.ToldAnswers.{IsAnswered}
 use Rattle.cc_certificate_judging.specs.declared.answer.Answer.TheVariants.{BadLine}
 use Rattle.cc_certificate_judging.proofs.Answered.{bad_line_answered}

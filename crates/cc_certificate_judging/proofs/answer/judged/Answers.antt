@@ -1,7 +1,7 @@
 use Rattle.std.proofs.Common.{◌++◌, ◌∙◌, ap, map, codes, refl, sym, subst, Err}
-use Rattle.cc_core.specs.Views.{type_of, term_of}
+use Rattle.cc_core.specs.TermViews.{type_of, term_of}
 use Rattle.cc_print.specs.TypeTexts as plain
-use Rattle.cc_certificate_reading.specs.Views.{node_of}
+use Rattle.cc_certificate_reading.specs.CertificateViews.{node_of}
 use Rattle.cc_certificate_judging.specs.JudgedResults.{OnJudgement}
 use Rattle.cc_certificate_judging.specs.Judging.{binds_of, IsJudged}
 use Rattle.cc_certificate_judging.specs.declared.answer.Answer.TheVariants.{Valid, BadNode}

@@ -1,6 +1,6 @@
 use Rattle.std.proofs.Common.{ap, ◌∙◌}
-use Rattle.cc_core.specs.Views.{term_of, context_of}
-use Rattle.cc_derivation.specs.Views.{der_of, claim_of}
+use Rattle.cc_core.specs.TermViews.{term_of, context_of}
+use Rattle.cc_derivation.specs.DerivationViews.{der_of, claim_of}
 use Rattle.cc_derivation.specs.declared.derivation.Der.{Der}
 use Rattle.cc_certificate_judging.proofs.JudgedAnswers.{whole_concludes}
 use Rattle.cc_certificate_judging.proofs.judging.answer_for.Goals as goal

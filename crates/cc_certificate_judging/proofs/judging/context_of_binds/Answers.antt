@@ -1,6 +1,6 @@
 use Rattle.std.proofs.Common.{map, ap, sym, ◌∙◌}
 use Rattle.std.proofs.lemmas.List.{at_drop_all}
-use Rattle.cc_core.specs.Views.{context_of}
+use Rattle.cc_core.specs.TermViews.{context_of}
 use Rattle.cc_certificate_judging.specs.Judging.{with_binds, bind_type}
 use Rattle.cc_certificate_judging.proofs.JudgedAnswers.{bind_step}
 use Rattle.cc_certificate_judging.proofs.judging.context_of_binds.Goals as goal

@@ -1,5 +1,5 @@
 use Rattle.std.proofs.Common.{◌≡◌, [], map, drop}
-use Rattle.cc_core.specs.Views.{context_of}
+use Rattle.cc_core.specs.TermViews.{context_of}
 use Rattle.cc_certificate_judging.specs.Judging.{with_binds, bind_type}
 use Rattle.cc_certificate_judging.proofs.judging.context_of_binds.Given as goal
 

@@ -1,6 +1,6 @@
 use Rattle.std.proofs.Common.{length, map}
-use Rattle.cc_derivation.specs.Views.{der_of}
-use Rattle.cc_certificate_reading.specs.Views.{node_of}
+use Rattle.cc_derivation.specs.DerivationViews.{der_of}
+use Rattle.cc_certificate_reading.specs.CertificateViews.{node_of}
 use Rattle.cc_certificate_judging.specs.PassViews.{kinds_in, plain_read}
 use Rattle.cc_certificate_judging.proofs.JudgedAnswers.{first_pass, second_pass, passes_answer}
 use Rattle.cc_certificate_judging.proofs.judging.derivation_of.Goals as goal

@@ -1,8 +1,8 @@
 use Rattle.std.proofs.Common.{[], length, map, ap, sym, ◌∙◌, refl}
 use Rattle.std.proofs.lemmas.List.{length-map}
-use Rattle.cc_core.specs.Views.{term_of, context_of, bind_of}
-use Rattle.cc_derivation.specs.Views.{der_of}
-use Rattle.cc_certificate_reading.specs.Views.{node_of}
+use Rattle.cc_core.specs.TermViews.{term_of, context_of, bind_of}
+use Rattle.cc_derivation.specs.DerivationViews.{der_of}
+use Rattle.cc_certificate_reading.specs.CertificateViews.{node_of}
 use Rattle.cc_certificate_judging.specs.Judging.{binds_of, bind_type, with_binds, IsJudged}
 use Rattle.cc_certificate_judging.specs.PassViews.{kinds_in}
 use Rattle.cc_certificate_judging.proofs.FormedAnswers.{has_type}

@@ -1,6 +1,6 @@
 use Rattle.std.proofs.Common.{map, ap, sym, ◌∙◌}
 use mathlib.Core.List.{reverse}
-use Rattle.cc_derivation.specs.Views.{der_of, premises_of}
+use Rattle.cc_derivation.specs.DerivationViews.{der_of, premises_of}
 use Rattle.cc_certificate_judging.specs.PassViews.{plain_read}
 use Rattle.cc_certificate_judging.proofs.PassSteps.{enough_built, build_step, build_start, some_built, root_built}
 use Rattle.cc_certificate_judging.proofs.passes.build.Goals as goal

@@ -1,6 +1,6 @@
 use Rattle.std.proofs.Common.{length, map}
 use mathlib.Core.List.{reverse}
-use Rattle.cc_derivation.specs.Views.{der_of}
+use Rattle.cc_derivation.specs.DerivationViews.{der_of}
 use Rattle.cc_certificate_judging.specs.PassViews.{plain_read}
 use Rattle.cc_certificate_judging.proofs.PassSteps.{Building}
 use Rattle.cc_certificate_judging.proofs.passes.build.Given as goal

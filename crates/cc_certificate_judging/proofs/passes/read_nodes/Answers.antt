@@ -1,7 +1,7 @@
 use Rattle.std.proofs.Common.{[], ◌∷◌, length, map, ap, sym, ◌∙◌, ◌≡◌, ◌++◌, arith}
 use mathlib.Core.List.{reverse}
-use Rattle.cc_derivation.specs.Views.{rule_of}
-use Rattle.cc_certificate_reading.specs.Views.{node_of}
+use Rattle.cc_derivation.specs.DerivationViews.{rule_of}
+use Rattle.cc_certificate_reading.specs.CertificateViews.{node_of}
 use Rattle.cc_certificate_judging.specs.Passes.{read_at, kinds_above}
 use Rattle.cc_certificate_judging.specs.PassViews.{kinds_in, plain_read}
 use Rattle.cc_certificate_judging.proofs.PassSteps.{some_waits, read_step, read_start, read_all}

@@ -1,6 +1,6 @@
 use Rattle.std.proofs.Common.{[], ◌∷◌, length, map}
 use mathlib.Core.List.{reverse}
-use Rattle.cc_certificate_reading.specs.Views.{node_of}
+use Rattle.cc_certificate_reading.specs.CertificateViews.{node_of}
 use Rattle.cc_certificate_judging.specs.PassViews.{kinds_in, plain_read}
 use Rattle.cc_certificate_judging.proofs.PassSteps.{Standing}
 use Rattle.cc_certificate_judging.proofs.passes.read_nodes.Given as goal

@@ -1,5 +1,5 @@
 use Rattle.std.proofs.Common.{◌≡◌, ◌++◌, length, map}
-use Rattle.cc_derivation.specs.Views.{der_of, premises_of}
+use Rattle.cc_derivation.specs.DerivationViews.{der_of, premises_of}
 use Rattle.cc_validity.specs.Counting.{premise_list}
 use Rattle.cc_certificate_judging.proofs.passes.take_premises.Given as goal
 

@@ -1,6 +1,6 @@
 use Rattle.std.proofs.Common.{map, sym}
 use Rattle.std.proofs.lemmas.List.{append-nil}
-use Rattle.cc_derivation.specs.Views.{rule_of}
+use Rattle.cc_derivation.specs.DerivationViews.{rule_of}
 use Rattle.cc_certificate_judging.specs.PassViews.{kinds_in}
 use Rattle.cc_certificate_judging.proofs.PassSteps.{waits_more}
 use Rattle.cc_certificate_judging.proofs.places.wait_for.Goals as goal

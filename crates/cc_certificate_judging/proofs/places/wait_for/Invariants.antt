@@ -1,5 +1,5 @@
 use Rattle.std.proofs.Common.{◌≡◌, ◌++◌, map}
-use Rattle.cc_derivation.specs.Views.{rule_of}
+use Rattle.cc_derivation.specs.DerivationViews.{rule_of}
 use Rattle.cc_certificate_judging.specs.Passes.{kinds_above}
 use Rattle.cc_certificate_judging.specs.PassViews.{kinds_in}
 use Rattle.cc_certificate_judging.proofs.places.wait_for.Given as goal

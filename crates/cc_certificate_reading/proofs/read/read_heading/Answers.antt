@@ -1,5 +1,5 @@
 use Rattle.std.proofs.Common.{◌≡◌, ◌<◌, length, refl, ap, subst, ◌∙◌, arith}
-use Rattle.cc_core.specs.Views.{context_of}
+use Rattle.cc_core.specs.TermViews.{context_of}
 use Rattle.cc_certificate_text.specs.Certificates.{Binding}
 use Rattle.cc_certificate_text.specs.Reading.{Got}
 use Rattle.cc_certificate_text.specs.LineReading.{next_line}

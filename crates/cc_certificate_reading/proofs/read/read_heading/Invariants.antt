@@ -1,5 +1,5 @@
 use Rattle.std.proofs.Common.{length}
-use Rattle.cc_core.specs.Views.{context_of}
+use Rattle.cc_core.specs.TermViews.{context_of}
 use Rattle.cc_certificate_reading.proofs.Progress.{StandsAt}
 use Rattle.cc_certificate_reading.proofs.read.read_heading.Given as goal
 

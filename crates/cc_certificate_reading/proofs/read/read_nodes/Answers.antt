@@ -2,7 +2,7 @@ use Rattle.std.proofs.Common.{◌≡◌, ℕ, ◌-◌, ◌<◌, ◌++◌, [], �
 use Rattle.cc_certificate_text.specs.Certificates.{Proving}
 use Rattle.cc_certificate_text.specs.Reading.{Got}
 use Rattle.cc_certificate_text.specs.LineReading.{next_line}
-use Rattle.cc_certificate_reading.specs.Views.{node_line_of}
+use Rattle.cc_certificate_reading.specs.CertificateViews.{node_line_of}
 use Rattle.cc_certificate_reading.proofs.Progress.{RefusedAs, begin_nodes_with, node_refused, node_shorter, node_further, several_refused}
 use Rattle.cc_certificate_reading.proofs.read.read_nodes.Goals as goal
 

@@ -1,4 +1,4 @@
-use Rattle.cc_core.specs.Views.{context_of}
+use Rattle.cc_core.specs.TermViews.{context_of}
 use Rattle.cc_check.specs.Definitions.{definition_of}
 use Rattle.cc_check.proofs.JudgedResults.{answered_typed, answered_over_devices, answered_without_hole}
 use Rattle.cc_check.proofs.JudgedResults.{answered_without_type}

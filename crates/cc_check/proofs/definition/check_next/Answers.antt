@@ -1,6 +1,6 @@
 use Rattle.std.proofs.Common.{sym, ◌∙◌}
 use Rattle.std.proofs.lemmas.List.{length-map}
-use Rattle.cc_core.specs.Views.{bind_of, context_of}
+use Rattle.cc_core.specs.TermViews.{bind_of, context_of}
 use Rattle.cc_type.proofs.MeasuredEntries.{all_unmeasured}
 use Rattle.cc_check.proofs.definition.check_next.Goals as goal
 

@@ -1,5 +1,5 @@
 use Rattle.std.proofs.Common.{◌≡◌, Err, sym, subst}
-use Rattle.cc_core.specs.Views.{context_of}
+use Rattle.cc_core.specs.TermViews.{context_of}
 use Rattle.cc_subty.specs.Demands.{asked_of}
 use Rattle.cc_type.specs.Logs.{Got, Meets}
 use Rattle.cc_check.specs.Definitions.{definition_of, checking_of}

@@ -3,9 +3,9 @@ use Rattle.std.specs.Prelude.{MatchOption}
 use Rattle.std.proofs.lemmas.List.{length-map}
 use Rattle.cc_core.specs.Actions.{filled_by}
 use Rattle.cc_core.specs.Substitution.{filled_type}
-use Rattle.cc_core.specs.Views.{bind_of, type_of, term_of, context_of}
+use Rattle.cc_core.specs.TermViews.{bind_of, type_of, term_of, context_of}
 use Rattle.cc_core.specs.WellFormed.{IsWellFormedType}
-use Rattle.cc_sets.specs.Verdicts.{IsRefused, signature_under, signature_verdict}
+use Rattle.cc_checking.specs.Verdicts.{IsRefused, signature_under, signature_verdict}
 use Rattle.cc_subty.specs.Demands.{asked_of}
 use Rattle.cc_type.specs.FilledHoles.{holes_of}
 use Rattle.cc_check.specs.Definitions.{definition_of, checking_of}

@@ -1,5 +1,5 @@
 use Rattle.std.proofs.Common.{Ok}
-use Rattle.cc_core.specs.Views.{shape_of, type_of, context_of}
+use Rattle.cc_core.specs.TermViews.{shape_of, type_of, context_of}
 use Rattle.cc_type.proofs.MeasuredEntries.{kept_measure}
 use Rattle.cc_check.specs.Definitions.{definition_of}
 use Rattle.cc_check.proofs.JudgedResults.{answered_over_devices}

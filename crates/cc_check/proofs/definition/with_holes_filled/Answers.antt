@@ -1,5 +1,5 @@
 use Rattle.std.proofs.Common.{sym, ◌∙◌}
-use Rattle.cc_core.specs.Views.{type_of}
+use Rattle.cc_core.specs.TermViews.{type_of}
 use Rattle.cc_check.proofs.NothingFilled.{filled_type-nothing}
 use Rattle.cc_check.proofs.definition.with_holes_filled.Goals as goal
 

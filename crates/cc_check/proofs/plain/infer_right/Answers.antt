@@ -1,8 +1,8 @@
 use Rattle.std.proofs.Common.{◌∙◌, sym, subst}
 use Rattle.std.proofs.lemmas.List.{length-map}
 use Rattle.cc_core.specs.Places.{places_of}
-use Rattle.cc_core.specs.Views.{bind_of, term_of, context_of}
-use Rattle.cc_sets.specs.Inference.{inferred}
+use Rattle.cc_core.specs.TermViews.{bind_of, term_of, context_of}
+use Rattle.cc_checking.specs.Inference.{inferred}
 use Rattle.cc_subty.specs.Demands.{asked_of}
 use Rattle.cc_type.specs.Logs.{Meets, after}
 use Rattle.cc_type.specs.Parts.{found_of}

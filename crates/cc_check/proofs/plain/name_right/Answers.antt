@@ -1,6 +1,6 @@
 use Rattle.std.proofs.Common.{◌∙◌, sym, subst}
 use Rattle.std.proofs.lemmas.List.{length-map}
-use Rattle.cc_core.specs.Views.{bind_of, type_of, note_of, context_of}
+use Rattle.cc_core.specs.TermViews.{bind_of, type_of, note_of, context_of}
 use Rattle.cc_subty.specs.Demands.{asked_of}
 use Rattle.cc_type.specs.Logs.{Meets}
 use Rattle.cc_type.specs.Parts.{named_of}

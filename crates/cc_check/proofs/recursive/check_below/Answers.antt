@@ -1,6 +1,6 @@
 use Rattle.std.proofs.Common.{sym, subst}
 use Rattle.cc_core.specs.Contexts.{entry_of}
-use Rattle.cc_core.specs.Views.{type_of, term_of, context_of}
+use Rattle.cc_core.specs.TermViews.{type_of, term_of, context_of}
 use Rattle.cc_core.specs.WellFormed.{IsWellFormedTerm, IsWellFormedType}
 use Rattle.cc_subty.specs.Demands.{asked_of}
 use Rattle.cc_type.specs.Logs.{Meets}

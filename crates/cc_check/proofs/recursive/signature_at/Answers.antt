@@ -1,6 +1,6 @@
 use Rattle.std.proofs.Common.{sym, ap, ◌∙◌}
 use Rattle.std.specs.Option.{option_map}
-use Rattle.cc_core.specs.Views.{type_of, context_of}
+use Rattle.cc_core.specs.TermViews.{type_of, context_of}
 use Rattle.cc_check.proofs.SignedTypes.{signature_well_formed}
 use Rattle.cc_check.proofs.recursive.signature_at.Goals as goal
 

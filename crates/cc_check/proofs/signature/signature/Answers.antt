@@ -1,5 +1,5 @@
 use Rattle.std.proofs.Common.{sym, ◌∙◌}
-use Rattle.cc_core.specs.Views.{type_of, context_of}
+use Rattle.cc_core.specs.TermViews.{type_of, context_of}
 use Rattle.cc_check.proofs.SignedTogether.{signature_together}
 use Rattle.cc_check.proofs.signature.signature.Goals as goal
 

@@ -1,5 +1,5 @@
 use Rattle.std.proofs.Common.{sym, ◌∙◌}
-use Rattle.cc_core.specs.Views.{context_of}
+use Rattle.cc_core.specs.TermViews.{context_of}
 use Rattle.cc_avoid.specs.Avoiding.{sign_of}
 use Rattle.cc_check.proofs.SignedTogether.{greatest_avoided, greatest_left}
 use Rattle.cc_check.proofs.signing.avoid_each.Goals as goal

@@ -1,6 +1,6 @@
 use Rattle.std.proofs.Common.{◌<◌, sym, ◌∙◌, subst}
 use Rattle.std.proofs.lemmas.List.{length-map}
-use Rattle.cc_core.specs.Views.{bind_of, shape_of, context_of}
+use Rattle.cc_core.specs.TermViews.{bind_of, shape_of, context_of}
 use Rattle.cc_check.proofs.SignedTogether.{names_none, names_one}
 use Rattle.cc_check.proofs.signing.names_definition.Goals as goal
 

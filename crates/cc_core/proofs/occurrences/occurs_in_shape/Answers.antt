@@ -1,4 +1,4 @@
-use Rattle.cc_core.specs.Views.{shape_of}
+use Rattle.cc_core.specs.TermViews.{shape_of}
 use Rattle.cc_core.proofs.OccurrenceTests.{says, decided, position-decides}
 use Rattle.cc_core.proofs.occurrences.occurs_in_shape.Goals as goal
 

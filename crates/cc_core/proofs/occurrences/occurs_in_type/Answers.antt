@@ -1,4 +1,4 @@
-use Rattle.cc_core.specs.Views.{type_of}
+use Rattle.cc_core.specs.TermViews.{type_of}
 use Rattle.cc_core.proofs.OccurrenceTests.{says, decided_type, position-decides}
 use Rattle.cc_core.proofs.occurrences.occurs_in_type.Goals as goal
 

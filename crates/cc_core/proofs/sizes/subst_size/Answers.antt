@@ -1,6 +1,6 @@
 use Rattle.std.proofs.Common.{◌-◌, ◌^◌, ap, arith}
 use Rattle.cc_core.specs.Sizes as plain
-use Rattle.cc_core.specs.Views.{shape_of, type_of}
+use Rattle.cc_core.specs.TermViews.{shape_of, type_of}
 use Rattle.cc_core.proofs.SizeLemmas.{counted_shape-capped}
 use Rattle.cc_core.proofs.ShapeSizes.{size_with-counted}
 use Rattle.cc_core.proofs.sizes.subst_size.Goals as goal

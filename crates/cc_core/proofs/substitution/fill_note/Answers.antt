@@ -1,6 +1,6 @@
 use Rattle.std.proofs.Common.{sym, ◌∙◌}
 use Rattle.std.proofs.lemmas.Result.{MatchResult-weaker}
-use Rattle.cc_core.specs.Views.{note_of}
+use Rattle.cc_core.specs.TermViews.{note_of}
 use Rattle.cc_core.proofs.NothingFilled.{filled_note-nothing}
 use Rattle.cc_core.proofs.substitution.fill_note.Goals as goal
 

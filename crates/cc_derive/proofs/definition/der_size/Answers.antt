@@ -1,6 +1,6 @@
 use Rattle.std.proofs.Common.{false}
-use Rattle.cc_core.specs.Views.{context_of}
-use Rattle.cc_derive_subtyping.specs.Trees.{IsTree}
+use Rattle.cc_core.specs.TermViews.{context_of}
+use Rattle.cc_derive.specs.Trees.{IsTree}
 use Rattle.cc_derive.proofs.AcceptedTrees.{accepted_made}
 use Rattle.cc_derive.proofs.definition.der_size.Goals as goal
 

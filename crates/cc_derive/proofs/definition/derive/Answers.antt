@@ -1,9 +1,9 @@
 use Rattle.std.proofs.Common.{◌≡◌, true, false, Option, Some, None, refl}
 use Rattle.std.specs.Option.{IsSome, MatchOption}
 use Rattle.std.proofs.lemmas.Option.{MatchOption-at_some}
-use Rattle.cc_core.specs.Views.{context_of}
-use Rattle.cc_derivation.specs.Views.{der_of}
-use Rattle.cc_derive_subtyping.specs.Trees.{IsTree}
+use Rattle.cc_core.specs.TermViews.{context_of}
+use Rattle.cc_derivation.specs.DerivationViews.{der_of}
+use Rattle.cc_derive.specs.Trees.{IsTree}
 use Rattle.cc_derive.proofs.AcceptedTrees.{accepted_made, accepted_valid}
 use Rattle.cc_derive.proofs.definition.derive.Goals as goal
 

@@ -1,4 +1,4 @@
-use Rattle.cc_derive_subtyping.proofs.Made.{made_tree}
+use Rattle.cc_derive.proofs.Made.{made_tree}
 use Rattle.cc_derive.proofs.definition.derive_filled.Goals as goal
 
 pub returns : goal.returns

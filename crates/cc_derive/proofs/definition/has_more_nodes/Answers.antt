@@ -1,8 +1,8 @@
 use Rattle.std.proofs.Common.{◌+◌, nat_lt, false, refl, ap, ◌∙◌, arith}
-use Rattle.cc_core.specs.Views.{context_of}
-use Rattle.cc_sets.specs.DerivationSizes.{nodes}
-use Rattle.cc_derive_subtyping.specs.Trees.{IsMade}
-use Rattle.cc_derive_subtyping.proofs.Made.{counted_more}
+use Rattle.cc_core.specs.TermViews.{context_of}
+use Rattle.cc_checking.specs.DerivationSizes.{nodes}
+use Rattle.cc_derive.specs.Trees.{IsMade}
+use Rattle.cc_derive.proofs.Made.{counted_more}
 use Rattle.cc_derive.specs.Accepting.{checked_derived}
 use Rattle.cc_derive.proofs.AcceptedTrees.{accepted_made}
 use Rattle.cc_derive.proofs.definition.has_more_nodes.Goals as goal

@@ -1,6 +1,6 @@
 use Rattle.std.proofs.lemmas.Result.{IfOk-weaker}
-use Rattle.cc_core.specs.Views.{shape_of, type_of, context_of}
-use Rattle.cc_sets.specs.CanonicalDerivations as plain
+use Rattle.cc_core.specs.TermViews.{shape_of, type_of, context_of}
+use Rattle.cc_checking.specs.CanonicalDerivations as plain
 use Rattle.cc_derive.proofs.MadeEnds.{boundary_made}
 use Rattle.cc_derive.proofs.ends.boundary_end.Goals as goal
 

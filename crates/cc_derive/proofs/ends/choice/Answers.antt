@@ -2,8 +2,8 @@ use Rattle.std.proofs.Common.{sym, ap, subst}
 use Rattle.std.proofs.lemmas.Result.{IfOk-weaker}
 use Rattle.cc_core.specs.Shapes.{CapturingType}
 use Rattle.cc_core.specs.Terms.{Note}
-use Rattle.cc_core.specs.Views.{note_of, context_of}
-use Rattle.cc_sets.specs.CanonicalDerivations as plain
+use Rattle.cc_core.specs.TermViews.{note_of, context_of}
+use Rattle.cc_checking.specs.CanonicalDerivations as plain
 use Rattle.cc_derive.specs.Typings.{IsTyping, choice_over}
 use Rattle.cc_derive.proofs.ends.choice.Goals as goal
 

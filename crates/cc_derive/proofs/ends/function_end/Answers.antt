@@ -1,5 +1,5 @@
 use Rattle.std.proofs.lemmas.Result.{IfOk-weaker}
-use Rattle.cc_core.specs.Views.{type_of, context_of}
+use Rattle.cc_core.specs.TermViews.{type_of, context_of}
 use Rattle.cc_derive.proofs.MadeEnds.{function_made}
 use Rattle.cc_derive.proofs.ends.function_end.Goals as goal
 

@@ -1,6 +1,6 @@
 use Rattle.std.proofs.lemmas.Result.{IfOk-weaker}
-use Rattle.cc_core.specs.Views.{context_of}
-use Rattle.cc_sets.specs.CanonicalDerivations as plain
+use Rattle.cc_core.specs.TermViews.{context_of}
+use Rattle.cc_checking.specs.CanonicalDerivations as plain
 use Rattle.cc_derive.proofs.MadeEnds.{let_made}
 use Rattle.cc_derive.proofs.ends.let_end.Goals as goal
 

@@ -1,9 +1,9 @@
 use Rattle.std.proofs.Common.{sym, ap, subst}
 use Rattle.std.proofs.lemmas.Result.{IfOk-weaker}
-use Rattle.cc_core.specs.Views.{type_of, note_of, context_of}
+use Rattle.cc_core.specs.TermViews.{type_of, note_of, context_of}
 use Rattle.cc_core.specs.Terms.{Note}
-use Rattle.cc_sets.specs.Inference.{type_in}
-use Rattle.cc_sets.specs.CanonicalDerivations as plain
+use Rattle.cc_checking.specs.Inference.{type_in}
+use Rattle.cc_checking.specs.CanonicalDerivations as plain
 use Rattle.cc_derive.specs.Typings.{IsTyping}
 use Rattle.cc_derive.proofs.MadeEnds.{raised_as}
 use Rattle.cc_derive.proofs.ends.noted.Goals as goal

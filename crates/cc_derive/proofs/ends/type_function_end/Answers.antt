@@ -1,5 +1,5 @@
 use Rattle.std.proofs.lemmas.Result.{IfOk-weaker}
-use Rattle.cc_core.specs.Views.{shape_of, type_of, context_of}
+use Rattle.cc_core.specs.TermViews.{shape_of, type_of, context_of}
 use Rattle.cc_derive.proofs.MadeEnds.{type_function_made}
 use Rattle.cc_derive.proofs.ends.type_function_end.Goals as goal
 

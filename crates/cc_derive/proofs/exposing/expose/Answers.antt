@@ -1,6 +1,6 @@
 use Rattle.std.proofs.Common.{◌≤◌, length, sym, ap, ◌∙◌, arith}
-use Rattle.cc_core.specs.Views.{shape_of, context_of}
-use Rattle.cc_sets.specs.Exposing.{exposed}
+use Rattle.cc_core.specs.TermViews.{shape_of, context_of}
+use Rattle.cc_checking.specs.Exposing.{exposed}
 use Rattle.cc_derive.specs.Older.{position_before}
 use Rattle.cc_derive.proofs.ExposedOlder.{older_all, follows, ends, stops}
 use Rattle.cc_derive.proofs.exposing.expose.Goals as goal

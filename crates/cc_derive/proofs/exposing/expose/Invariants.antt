@@ -1,6 +1,6 @@
 use Rattle.std.proofs.Common.{◌≡◌}
-use Rattle.cc_core.specs.Views.{shape_of, context_of}
-use Rattle.cc_sets.specs.Exposing.{exposed}
+use Rattle.cc_core.specs.TermViews.{shape_of, context_of}
+use Rattle.cc_checking.specs.Exposing.{exposed}
 use Rattle.cc_derive.specs.Older.{older}
 use Rattle.cc_derive.proofs.exposing.expose.Given as goal
 

@@ -1,6 +1,6 @@
 use Rattle.std.proofs.lemmas.Result.{IfOk-weaker}
-use Rattle.cc_core.specs.Views.{type_of, context_of}
-use Rattle.cc_sets.specs.CanonicalDerivations.{type_derived, shape_derived, typed}
+use Rattle.cc_core.specs.TermViews.{type_of, context_of}
+use Rattle.cc_checking.specs.CanonicalDerivations.{type_derived, shape_derived, typed}
 use Rattle.cc_derive.proofs.MadeTypings.{below_typed}
 use Rattle.cc_derive.proofs.nodes.raise.Goals as goal
 

@@ -1,7 +1,7 @@
 use Rattle.std.proofs.Common.{sym, ◌∙◌}
 use Rattle.std.proofs.lemmas.Result.{IfOk-weaker}
-use Rattle.cc_core.specs.Views.{type_of, context_of}
-use Rattle.cc_sets.specs.CanonicalDerivations.{shape_derived}
+use Rattle.cc_core.specs.TermViews.{type_of, context_of}
+use Rattle.cc_checking.specs.CanonicalDerivations.{shape_derived}
 use Rattle.cc_derive.proofs.MadeTypings.{raised_same, raised_other}
 use Rattle.cc_derive.proofs.nodes.raise_if.Goals as goal
 

@@ -1,7 +1,7 @@
 use Rattle.std.proofs.Common.{sym, ap, ◌∙◌}
 use Rattle.std.proofs.lemmas.Result.{IfOk-weaker}
-use Rattle.cc_core.specs.Views.{shape_of, type_of, context_of}
-use Rattle.cc_sets.specs.CanonicalDerivations as plain
+use Rattle.cc_core.specs.TermViews.{shape_of, type_of, context_of}
+use Rattle.cc_checking.specs.CanonicalDerivations as plain
 use Rattle.cc_derive.proofs.MadeRows.{application_made}
 use Rattle.cc_derive.proofs.rows.apply.Goals as goal
 

@@ -1,12 +1,12 @@
 use Rattle.std.proofs.Common.{ap, ◌∙◌, subst}
 use Rattle.std.proofs.lemmas.Result.{IfOk-weaker}
-use Rattle.cc_core.specs.Views.{context_of}
+use Rattle.cc_core.specs.TermViews.{context_of}
 use Rattle.cc_core.specs.Shapes.{CapturingType}
-use Rattle.cc_sets.specs.CanonicalDerivations as plain
+use Rattle.cc_checking.specs.CanonicalDerivations as plain
 use Rattle.cc_derive.specs.Typings.{IsTyping}
 use Rattle.cc_core.specs.Derivations.{t-op, OfType, Node, two}
 use Rattle.cc_core.specs.Shapes.{BaseShape}
-use Rattle.cc_sets.specs.Inference.{base_type}
+use Rattle.cc_checking.specs.Inference.{base_type}
 use Rattle.cc_derive.proofs.rows.operate_on.Goals as goal
 
 pub returns : goal.returns

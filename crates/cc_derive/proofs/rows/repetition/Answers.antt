@@ -1,14 +1,14 @@
 use Rattle.std.proofs.Common.{subst}
 use Rattle.std.proofs.lemmas.Result.{IfOk-weaker}
-use Rattle.cc_core.specs.Views.{context_of}
+use Rattle.cc_core.specs.TermViews.{context_of}
 use Rattle.cc_core.specs.Shapes.{Shape, CapturingType}
-use Rattle.cc_sets.specs.CanonicalDerivations as plain
+use Rattle.cc_checking.specs.CanonicalDerivations as plain
 use Rattle.cc_derive.specs.Typings.{IsTyping}
 use Rattle.cc_base.specs.declared.literal.Base.TheVariants as bases
 use Rattle.cc_capture.specs.Sets.{empty}
 use Rattle.cc_core.specs.Derivations.{t-repeat, OfType, Node, two}
 use Rattle.cc_core.specs.Shapes.{BaseShape, FunctionShape}
-use Rattle.cc_derive_subtyping.specs.Trees.{IsMade}
+use Rattle.cc_derive.specs.Trees.{IsMade}
 use Rattle.cc_derive.proofs.rows.repetition.Goals as goal
 
 pub returns : goal.returns

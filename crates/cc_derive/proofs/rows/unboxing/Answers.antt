@@ -1,8 +1,8 @@
 use Rattle.std.proofs.Common.{subst}
 use Rattle.std.proofs.lemmas.Result.{IfOk-weaker}
-use Rattle.cc_core.specs.Views.{context_of}
+use Rattle.cc_core.specs.TermViews.{context_of}
 use Rattle.cc_core.specs.Shapes.{Shape}
-use Rattle.cc_sets.specs.CanonicalDerivations as plain
+use Rattle.cc_checking.specs.CanonicalDerivations as plain
 use Rattle.cc_derive.specs.Typings.{IsTyping}
 use Rattle.cc_derive.proofs.rows.unboxing.Goals as goal
 

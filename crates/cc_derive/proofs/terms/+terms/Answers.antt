@@ -9,11 +9,11 @@ use Rattle.cc_core.specs.Derivations.{t-box, t-prim, t-repeat, OfType, Node, one
 use Rattle.cc_core.specs.Shapes.{Shape, BaseShape, FunctionShape, BoxShape, CapturingType, capturing}
 use Rattle.cc_core.specs.Terms.{Term}
 use Rattle.cc_core.specs.Typing as typing
-use Rattle.cc_core.specs.Views.{shape_of, type_of, note_of, form_of, term_of, context_of}
-use Rattle.cc_sets.specs.CanonicalDerivations as plain
-use Rattle.cc_sets.specs.Exposing.{exposed}
+use Rattle.cc_core.specs.TermViews.{shape_of, type_of, note_of, form_of, term_of, context_of}
+use Rattle.cc_checking.specs.CanonicalDerivations as plain
+use Rattle.cc_checking.specs.Exposing.{exposed}
 use Rattle.cc_core.specs.Captured.{optional_set}
-use Rattle.cc_sets.specs.Inference.{base_type, in_context, set_in, shape_in, type_in}
+use Rattle.cc_checking.specs.Inference.{base_type, in_context, set_in, shape_in, type_in}
 use Rattle.cc_derive.specs.Typings.{IsTyping}
 use Rattle.cc_derive.proofs.MadeTerms.{function_term, type_function_term, let_term, boundary_term}
 use Rattle.cc_derive.proofs.terms.+terms.Goals as goal

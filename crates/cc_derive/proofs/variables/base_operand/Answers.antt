@@ -1,9 +1,9 @@
 use Rattle.std.proofs.Common.{ap, subst}
 use Rattle.std.proofs.lemmas.Result.{IfOk-weaker}
 use Rattle.cc_core.specs.Shapes.{Shape}
-use Rattle.cc_core.specs.Views.{shape_of, context_of}
-use Rattle.cc_sets.specs.CanonicalDerivations.{shape_derived, operand_derived}
-use Rattle.cc_derive_subtyping.specs.Trees.{IsMade}
+use Rattle.cc_core.specs.TermViews.{shape_of, context_of}
+use Rattle.cc_checking.specs.CanonicalDerivations.{shape_derived, operand_derived}
+use Rattle.cc_derive.specs.Trees.{IsMade}
 use Rattle.cc_derive.proofs.variables.base_operand.Goals as goal
 
 pub returns : goal.returns

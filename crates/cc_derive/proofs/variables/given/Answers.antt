@@ -1,5 +1,5 @@
-use Rattle.cc_core.specs.Views.{context_of}
-use Rattle.cc_sets.specs.CanonicalDerivations.{variable_derived}
+use Rattle.cc_core.specs.TermViews.{context_of}
+use Rattle.cc_checking.specs.CanonicalDerivations.{variable_derived}
 use Rattle.cc_derive.proofs.variables.given.Goals as goal
 
 pub returns : goal.returns

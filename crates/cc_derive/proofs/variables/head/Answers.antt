@@ -1,5 +1,5 @@
-use Rattle.cc_core.specs.Views.{shape_of, context_of}
-use Rattle.cc_sets.specs.CanonicalDerivations.{shape_derived, variable_derived}
+use Rattle.cc_core.specs.TermViews.{shape_of, context_of}
+use Rattle.cc_checking.specs.CanonicalDerivations.{shape_derived, variable_derived}
 use Rattle.std.proofs.Common.{◌∙◌, ap}
 use Rattle.cc_derive.proofs.MadeTypings.{head_made}
 use Rattle.cc_derive.proofs.variables.head.Goals as goal

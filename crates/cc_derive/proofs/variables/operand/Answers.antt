@@ -2,9 +2,9 @@ use Rattle.std.proofs.lemmas.Result.{IfOk-weaker}
 use Rattle.std.proofs.Common.{subst}
 use Rattle.cc_capture.specs.Sets.{Set}
 use Rattle.cc_core.specs.Shapes.{capturing}
-use Rattle.cc_core.specs.Views.{shape_of, context_of}
-use Rattle.cc_sets.specs.CanonicalDerivations.{shape_derived, given_derived}
-use Rattle.cc_derive_subtyping.specs.Trees.{IsMade}
+use Rattle.cc_core.specs.TermViews.{shape_of, context_of}
+use Rattle.cc_checking.specs.CanonicalDerivations.{shape_derived, given_derived}
+use Rattle.cc_derive.specs.Trees.{IsMade}
 use Rattle.cc_derive.proofs.variables.operand.Goals as goal
 
 pub returns : goal.returns

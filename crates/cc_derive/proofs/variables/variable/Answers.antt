@@ -1,5 +1,5 @@
 use Rattle.std.proofs.lemmas.Result.{IfOk-weaker}
-use Rattle.cc_core.specs.Views.{shape_of, context_of}
+use Rattle.cc_core.specs.TermViews.{shape_of, context_of}
 use Rattle.cc_derive.proofs.MadeTypings.{variable_made}
 use Rattle.cc_derive.proofs.variables.variable.Goals as goal
 

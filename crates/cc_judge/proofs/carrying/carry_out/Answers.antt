@@ -6,7 +6,7 @@ use Rattle.cc_judge.specs.Carrying.{left_by, AreReady}
 use Rattle.cc_judge.specs.Kept.{judgements_of}
 use Rattle.cc_judge.specs.Plans.{planned}
 use Rattle.cc_judge.proofs.CarryLemmas.{last_within, last_made, front_ready, front_within, carried_more}
-use Rattle.cc_meta_modules.proofs.Asking.{map-reverse}
+use Rattle.cc_verdicts.proofs.Asking.{map-reverse}
 use Rattle.cc_judge.proofs.carrying.carry_out.Goals as goal
 
 pub loop-next-init : goal.loop-next-init

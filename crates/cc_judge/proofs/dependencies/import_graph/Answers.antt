@@ -1,7 +1,7 @@
 use Rattle.std.proofs.Common.{◌≡◌, ◌+◌, ◌-◌, ◌<◌, ◌∙◌, ap, drop, get_or, length, arith, ℕ}
 use Rattle.std.proofs.lemmas.List.{get_or_default}
 use Rattle.std.proofs.lemmas.Result.{IfOk-weaker}
-use Rattle.cc_meta_modules.specs.PresentTexts.{graph_of}
+use Rattle.cc_verdicts.specs.PresentTexts.{graph_of}
 use Rattle.std.specs.Option.{option_map}
 use Rattle.cc_parse.specs.Trees.{imports_syntax}
 use Rattle.cc_judge.specs.Dependencies.{inserted}

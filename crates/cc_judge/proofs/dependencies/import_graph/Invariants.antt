@@ -1,5 +1,5 @@
 use Rattle.std.proofs.Common.{◌≡◌, ◌≤◌, length, drop}
-use Rattle.cc_meta_modules.specs.PresentTexts.{graph_of}
+use Rattle.cc_verdicts.specs.PresentTexts.{graph_of}
 use Rattle.cc_judge.proofs.dependencies.import_graph.Given as goal
 
 abbrev pub invariant-loop-left : goal.invariant-loop-left

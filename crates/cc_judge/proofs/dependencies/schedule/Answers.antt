@@ -1,8 +1,8 @@
 use Rattle.std.proofs.Common.{subst, sym, ap, ◌∙◌, map, List, Option, ℕ}
 use Rattle.cc_grammar.specs.Syntax.{ImportSyntax}
 use Rattle.cc_graph.specs.Graph.{ImportMap, IsOrder}
-use Rattle.cc_meta_modules.specs.PresentTexts.{graph_of}
-use Rattle.cc_meta_modules.specs.Readings.{imports_of}
+use Rattle.cc_verdicts.specs.PresentTexts.{graph_of}
+use Rattle.cc_verdicts.specs.Readings.{imports_of}
 use Rattle.cc_judge.specs.Dependencies.{ListsUnread}
 use Rattle.cc_judge.proofs.Graphs.{imports_by_text}
 use Rattle.cc_judge.proofs.PushedPlaces.{order_among_keys}

@@ -1,6 +1,6 @@
 use Rattle.std.proofs.Common.{◌∙◌, sym, ap, map}
 use Rattle.std.proofs.lemmas.List.{drop_all}
-use Rattle.cc_meta_modules.specs.PresentTexts as plain
+use Rattle.cc_verdicts.specs.PresentTexts as plain
 use Rattle.cc_module.specs.Judgements.{checked_definition_of}
 use Rattle.cc_judge.proofs.Loops.{named_here, named_later}
 use Rattle.cc_judge.proofs.findings.definition_named.Goals as goal

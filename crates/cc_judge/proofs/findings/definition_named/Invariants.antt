@@ -1,5 +1,5 @@
 use Rattle.std.proofs.Common.{◌≡◌, map, drop}
-use Rattle.cc_meta_modules.specs.PresentTexts as plain
+use Rattle.cc_verdicts.specs.PresentTexts as plain
 use Rattle.cc_module.specs.Judgements.{checked_definition_of}
 use Rattle.cc_judge.proofs.findings.definition_named.Given as goal
 

@@ -4,7 +4,7 @@ use Rattle.cc_judge.specs.Carrying.{AreReady, HasRoom}
 use Rattle.cc_judge.specs.Judgements.{Judgement, AreJudged}
 use Rattle.cc_judge.specs.Kept.{judgements_from, judgements_of}
 use Rattle.cc_judge.specs.Plans.{planned}
-use Rattle.cc_meta_modules.proofs.PresentLaws.{present_verdicts_exist}
+use Rattle.cc_verdicts.proofs.PresentLaws.{present_verdicts_exist}
 use Rattle.cc_judge.proofs.AllPlanned.{plans_ready, carried_judgements, judgements_judged, names_sorted}
 use Rattle.cc_judge.proofs.judging.judge_all.Goals as goal
 

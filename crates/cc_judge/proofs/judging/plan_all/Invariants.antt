@@ -1,7 +1,7 @@
 use Rattle.std.proofs.Common.{◌≡◌, ℕ, ◌+◌, ◌≤◌, List, length, take}
 use Rattle.cc_graph.proofs.Paths.{IsAmong}
-use Rattle.cc_meta_modules.specs.ModuleVerdicts.{ModuleVerdict}
-use Rattle.cc_meta_modules.specs.PresentTexts.{AreVerdicts}
+use Rattle.cc_verdicts.specs.ModuleVerdicts.{ModuleVerdict}
+use Rattle.cc_verdicts.specs.PresentTexts.{AreVerdicts}
 use Rattle.cc_judge.specs.Kept.{judgements_of}
 use Rattle.cc_judge.specs.Plans.{IsPlanned, ArePlans}
 use Rattle.cc_judge.proofs.ScheduledPlans.{done_by}

@@ -1,6 +1,6 @@
 use Rattle.std.proofs.Common.{refl, ap, map, List, ℕ, sym, subst, ◌∙◌}
-use Rattle.cc_meta_modules.specs.ModuleLaws.{AreFit}
-use Rattle.cc_meta_modules.specs.ModuleVerdicts.{Finding, HasModuleVerdict}
+use Rattle.cc_verdicts.specs.ModuleLaws.{AreFit}
+use Rattle.cc_verdicts.specs.ModuleVerdicts.{Finding, HasModuleVerdict}
 use Rattle.cc_module.specs.Findings.{finding_of}
 use Rattle.cc_module.specs.Judgements.{module_verdict_of}
 use Rattle.cc_judge.specs.Kept.{judged_on}

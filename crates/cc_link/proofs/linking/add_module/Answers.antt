@@ -6,8 +6,8 @@ use Rattle.cc_core.specs.Programs.{Definition, Module}
 use Rattle.cc_link.specs.Linking.{module_in_program, modules_before, ArePositions, IsLinked}
 use Rattle.cc_link.specs.Tables.{Finds}
 use Rattle.cc_link.proofs.LinkedEntries.{next_position, module_linked, definitions_listed, modules_more, entry_formed}
-use Rattle.cc_meta_runs.specs.Links.{count_definitions, position_among, linked_cell}
-use Rattle.cc_program.specs.Starts.{value_cell, value_entry}
+use Rattle.cc_runs.specs.Links.{count_definitions, position_among, linked_cell}
+use Rattle.cc_machine.specs.Starts.{value_cell, value_entry}
 use Rattle.cc_link.proofs.linking.add_module.Goals as goal
 
 pub returns : goal.returns

@@ -7,8 +7,8 @@ use Rattle.cc_core.specs.Programs.{Definition}
 use Rattle.cc_link.specs.Linking.{definition_of}
 use Rattle.cc_link.proofs.Placements.{items_more}
 use Rattle.cc_link.proofs.LinkedValues.{linked_more}
-use Rattle.cc_meta_runs.specs.Links.{linked_cell}
-use Rattle.cc_program.specs.Starts.{value_cell, value_entry}
+use Rattle.cc_runs.specs.Links.{linked_cell}
+use Rattle.cc_machine.specs.Starts.{value_cell, value_entry}
 use Rattle.cc_link.proofs.linking.add_values.Goals as goal
 
 pub loop-def-preserved : goal.loop-def-preserved

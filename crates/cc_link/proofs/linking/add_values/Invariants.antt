@@ -4,8 +4,8 @@ use Rattle.cc_core.specs.Actions.{renamed_by}
 use Rattle.cc_core.specs.Contexts.{entry_of}
 use Rattle.cc_core.specs.Programs.{Definition}
 use Rattle.cc_link.specs.Linking.{definition_of}
-use Rattle.cc_meta_runs.specs.Links.{linked_cell}
-use Rattle.cc_program.specs.Starts.{value_cell, value_entry}
+use Rattle.cc_runs.specs.Links.{linked_cell}
+use Rattle.cc_machine.specs.Starts.{value_cell, value_entry}
 use Rattle.cc_link.proofs.linking.add_values.Given as goal
 
 abbrev pub invariant-loop-def : goal.invariant-loop-def

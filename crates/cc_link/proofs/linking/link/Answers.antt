@@ -3,11 +3,11 @@ use Rattle.std.specs.Prelude.{reverse}
 use Rattle.std.specs.Option.{unwrap_or}
 use Rattle.std.proofs.Math.Logic.{∥∥₁_map}
 use Rattle.cc_base.specs.declared.literal.Base.{Base}
-use Rattle.cc_core.specs.Views.{term_of}
+use Rattle.cc_core.specs.TermViews.{term_of}
 use Rattle.cc_link.specs.Linking.{entry_in_program, IsLinked}
 use Rattle.cc_link.proofs.LinkedEntries.{nothing_linked, few_cells, modules_all, application_linked, start_linked, start_typed}
-use Rattle.cc_meta_runs.specs.Links.{program_start as linked_start}
-use Rattle.cc_program.specs.Starts.{program_store, program_start, IsTyped}
+use Rattle.cc_runs.specs.Links.{program_start as linked_start}
+use Rattle.cc_machine.specs.Starts.{program_store, program_start, IsTyped}
 use Rattle.cc_link.proofs.linking.link.Goals as goal
 
 pub loop-index-init : goal.loop-index-init

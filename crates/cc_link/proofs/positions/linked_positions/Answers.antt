@@ -4,13 +4,13 @@ use Rattle.std.specs.Option.{unwrap_or}
 use Rattle.std.proofs.lemmas.List.{length-map}
 use Rattle.std.proofs.lemmas.Simd.{map-map}
 use Rattle.cc_base.specs.declared.literal.Import.{Import}
-use Rattle.cc_meta_entries.specs.PresentEntries.{import_of}
+use Rattle.cc_entry_laws.specs.PresentEntries.{import_of}
 use Rattle.cc_parse.specs.Trees.{import_syntax}
 use Rattle.cc_link.specs.Linking.{module_in_program}
-use Rattle.cc_meta_modules.specs.ModuleVerdicts.{in_program}
+use Rattle.cc_verdicts.specs.ModuleVerdicts.{in_program}
 use Rattle.cc_module.specs.Judgements.{checked_definition_of}
 use Rattle.cc_link.proofs.Placements.{device_placed, import_listed, own_listed, placed_none, placed_more}
-use Rattle.cc_meta_runs.specs.Links.{linked_position}
+use Rattle.cc_runs.specs.Links.{linked_position}
 use Rattle.cc_link.proofs.positions.linked_positions.Goals as goal
 
 pub loop-device-init : goal.loop-device-init

@@ -2,7 +2,7 @@ use Rattle.std.proofs.Common.{◌≡◌, ◌+◌, List, length}
 use Rattle.cc_core.specs.Programs.{Module}
 use Rattle.cc_link.specs.Linking.{module_in_program, ArePositions}
 use Rattle.cc_link.specs.Tables.{Finds}
-use Rattle.cc_meta_runs.specs.Links.{count_definitions}
+use Rattle.cc_runs.specs.Links.{count_definitions}
 use Rattle.cc_link.proofs.positions.linked_positions.Given as goal
 
 abbrev pub invariant-loop-device : goal.invariant-loop-device

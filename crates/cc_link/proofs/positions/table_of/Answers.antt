@@ -3,7 +3,7 @@ use Rattle.std.specs.Prelude.{reverse}
 use Rattle.std.proofs.lemmas.List.{take_all}
 use Rattle.cc_link.specs.Linking.{definition_of}
 use Rattle.cc_link.proofs.EnteredNames.{entered_more}
-use Rattle.cc_meta_runs.specs.Links.{position_among}
+use Rattle.cc_runs.specs.Links.{position_among}
 use Rattle.cc_link.proofs.positions.table_of.Goals as goal
 
 pub loop-index-preserved : goal.loop-index-preserved

@@ -1,6 +1,6 @@
 use Rattle.std.proofs.Common.{◌≡◌, ◌+◌, map, drop, sym, ap, ◌∙◌}
 use Rattle.std.proofs.lemmas.List.{drop_all}
-use Rattle.cc_mnf.specs.CoreModules.{definition_of, definitions_of}
+use Rattle.cc_mnf.specs.CoreModules.{definition_of, core_definitions}
 use Rattle.cc_mnf.specs.ElaboratedModules.{elaborated_definitions}
 use Rattle.cc_mnf.proofs.ModuleLoops.{behind_done, all_done, definition_turns, definitions-push, drop_next}
 use Rattle.cc_mnf.proofs.elaborate.definitions.Goals as goal
@@ -10,7 +10,7 @@ pub loop-def-preserved : goal.loop-def-preserved
 loop-def-preserved c =
     let defs = c.args.defs.now in
     let names = c.loop-def.names in
-    let done = definitions_of c.loop-def.definitions in
+    let done = core_definitions c.loop-def.definitions in
     let def = c.def-item.result in
     let next = c.in_ok-next.next in
     let rest = map def_syntax (drop (c.loop-def.def-index + 1) defs) in
@@ -25,7 +25,7 @@ pub returns : goal.returns
 returns c =
     let defs = c.args.defs.now in
     let names = c.loop-def.names in
-    let done = definitions_of c.loop-def.definitions in
+    let done = core_definitions c.loop-def.definitions in
     let none = drop_all c.loop-def.def-index defs c.loop-def-test.false in
     sym c.loop-def.invariant
     ∙ ap (λ ds. behind_done done (elaborated_definitions names (map def_syntax ds))) none

@@ -1,6 +1,6 @@
 use Rattle.std.proofs.Common.{◌≡◌, take}
-use Rattle.cc_core.specs.Views.{context_of}
-use Rattle.cc_meta_modules.specs.ModuleVerdicts.{declared_context}
+use Rattle.cc_core.specs.TermViews.{context_of}
+use Rattle.cc_verdicts.specs.ModuleVerdicts.{declared_context}
 use Rattle.cc_module.proofs.contexts.declared_context.Given as goal
 
 -- the context so far is that of the devices so far

@@ -1,6 +1,6 @@
 use Rattle.std.proofs.Common.{◌≡◌, map, drop}
-use Rattle.cc_core.specs.Views.{context_of}
-use Rattle.cc_meta_modules.specs.ModuleVerdicts.{with_findings}
+use Rattle.cc_core.specs.TermViews.{context_of}
+use Rattle.cc_verdicts.specs.ModuleVerdicts.{with_findings}
 use Rattle.cc_module.specs.Findings.{finding_of}
 use Rattle.cc_module.proofs.contexts.with_findings.Given as goal
 

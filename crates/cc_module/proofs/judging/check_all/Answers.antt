@@ -2,7 +2,7 @@ use Rattle.std.proofs.Common.{map, sym, ◌∙◌, subst}
 use Rattle.std.proofs.lemmas.List.{length-map}
 use Rattle.std.proofs.lemmas.List.{drop_all}
 use Rattle.std.proofs.lemmas.Result.{err_from_is_err_and}
-use Rattle.cc_core.specs.Views.{bind_of, context_of}
+use Rattle.cc_core.specs.TermViews.{bind_of, context_of}
 use Rattle.cc_mnf.specs.CoreModules.{definition_of}
 use Rattle.cc_module.specs.Judgements.{checked_definition_of}
 use Rattle.cc_module.proofs.JudgedTexts.{StandsAt, stands_at_start, checked_more, checked_stops, checked_end}

@@ -1,5 +1,5 @@
 use Rattle.std.proofs.Common.{map, drop}
-use Rattle.cc_core.specs.Views.{context_of}
+use Rattle.cc_core.specs.TermViews.{context_of}
 use Rattle.cc_mnf.specs.CoreModules.{definition_of}
 use Rattle.cc_module.specs.Judgements.{checked_definition_of}
 use Rattle.cc_module.proofs.JudgedTexts.{StandsAt}

@@ -1,5 +1,5 @@
 use Rattle.std.proofs.Common.{◌≡◌, map, drop}
-use Rattle.cc_meta_modules.specs.ModuleVerdicts.{first_missing}
+use Rattle.cc_verdicts.specs.ModuleVerdicts.{first_missing}
 use Rattle.cc_module.specs.Findings.{finding_of}
 use Rattle.cc_module.proofs.judging.first_missing.Given as goal
 use Rattle.cc_parse.specs.Trees.{import_syntax}

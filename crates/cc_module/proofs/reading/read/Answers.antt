@@ -1,4 +1,4 @@
-use Rattle.cc_meta_modules.proofs.ReadingLaws.{refused_is}
+use Rattle.cc_verdicts.proofs.ReadingLaws.{refused_is}
 use Rattle.cc_module.proofs.TextsRead.{text_read}
 use Rattle.cc_module.proofs.reading.read.Goals as goal
 

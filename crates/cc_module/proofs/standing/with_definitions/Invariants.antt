@@ -1,6 +1,6 @@
 use Rattle.std.proofs.Common.{◌≡◌, map, drop}
-use Rattle.cc_core.specs.Views.{context_of}
-use Rattle.cc_meta_modules.specs.StandingDefinitions.{with_definitions}
+use Rattle.cc_core.specs.TermViews.{context_of}
+use Rattle.cc_verdicts.specs.StandingDefinitions.{with_definitions}
 use Rattle.cc_module.specs.Judgements.{checked_definition_of}
 use Rattle.cc_module.proofs.standing.with_definitions.Given as goal
 

@@ -1,11 +1,11 @@
 use Rattle.std.proofs.Common.{option_map, sym, ap, ◌∙◌}
 use Rattle.std.proofs.lemmas.Result.{IfOk-weaker}
 use Rattle.cc_base.specs.Literals.{literal_of}
-use Rattle.cc_device.specs.Views.{event_of}
+use Rattle.cc_device.specs.DeviceViews.{event_of}
 use Rattle.cc_machine.specs.Machines.{held_by}
-use Rattle.cc_meta_runs.specs.Machine.{step}
+use Rattle.cc_runs.specs.Machine.{step}
 use Rattle.cc_replay.specs.Replays.{replay_on}
-use Rattle.cc_steps.specs.Asking.{question_of}
+use Rattle.cc_machine.specs.Asking.{question_of}
 use Rattle.cc_words.specs.Lines.{lines_of}
 use Rattle.cc_replay.proofs.LineByLine.{first_line, answer_suits, answered_on, unanswered}
 use Rattle.cc_replay.proofs.replaying.answer_from.Goals as goal

@@ -1,10 +1,10 @@
 use Rattle.std.proofs.Common.{sym, ◌∙◌}
 use Rattle.std.specs.String.{string_bytes}
-use Rattle.cc_device.specs.Views.{end_of}
+use Rattle.cc_device.specs.DeviceViews.{end_of}
 use Rattle.cc_machine.specs.Machines.{held_by}
-use Rattle.cc_meta_runs.specs.Runs.{Ends}
+use Rattle.cc_runs.specs.Runs.{Ends}
 use Rattle.cc_replay.specs.Replays.{no_line}
-use Rattle.cc_run_texts.specs.RunTexts.{end_text}
+use Rattle.cc_replay.specs.RunTexts.{end_text}
 use Rattle.cc_replay.proofs.LineByLine.{written, end_differs, end_agrees, more_stands}
 use Rattle.cc_replay.proofs.replaying.end_told.Goals as goal
 

@@ -1,7 +1,7 @@
 use Rattle.std.proofs.Common.{◌+◌, ◌-◌, sym, ap, ◌∙◌, subst, arith}
 use Rattle.std.proofs.lemmas.Result.{IfOk-weaker}
 use Rattle.cc_machine.specs.Machines.{held_by}
-use Rattle.cc_program.specs.Programs.{start_of}
+use Rattle.cc_machine.specs.Programs.{start_of}
 use Rattle.cc_replay.specs.Comparing.{decided_after}
 use Rattle.cc_replay.specs.Replays.{replay_from}
 use Rattle.cc_words.specs.Lines.{lines_of}

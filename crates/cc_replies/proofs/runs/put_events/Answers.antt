@@ -1,8 +1,8 @@
 use Rattle.std.proofs.Common.{◌∙◌}
 use Rattle.std.specs.String.{string_bytes}
-use Rattle.cc_device.specs.Views.{event_of}
+use Rattle.cc_device.specs.DeviceViews.{event_of}
 use Rattle.cc_replies.specs.ReplyTexts.{inner_line}
-use Rattle.cc_run_texts.specs.RunTexts.{event_text}
+use Rattle.cc_replay.specs.RunTexts.{event_text}
 use Rattle.cc_replies.proofs.RunLines.{lines_of_all}
 use Rattle.cc_replies.proofs.runs.put_events.Goals as goal
 

@@ -1,8 +1,8 @@
 use Rattle.std.proofs.Common.{◌≡◌, ◌++◌, take, map, flat_map}
 use Rattle.std.specs.String.{string_bytes}
-use Rattle.cc_device.specs.Views.{event_of}
+use Rattle.cc_device.specs.DeviceViews.{event_of}
 use Rattle.cc_replies.specs.ReplyTexts.{inner_line}
-use Rattle.cc_run_texts.specs.RunTexts.{event_text}
+use Rattle.cc_replay.specs.RunTexts.{event_text}
 use Rattle.cc_replies.proofs.runs.put_events.Given as goal
 
 abbrev pub invariant-loop-event : goal.invariant-loop-event

@@ -1,10 +1,10 @@
 use Rattle.std.proofs.Common.{◌++◌, map, flat_map, ap, ◌∙◌}
 use Rattle.std.specs.String.{string_bytes}
 use Rattle.std.proofs.lemmas.Result.{on_ok_weaker}
-use Rattle.cc_device.specs.Views.{event_of, end_of}
-use Rattle.cc_meta_runs.specs.Runs.{Ends}
+use Rattle.cc_device.specs.DeviceViews.{event_of, end_of}
+use Rattle.cc_runs.specs.Runs.{Ends}
 use Rattle.cc_replies.specs.ReplyTexts.{inner_line}
-use Rattle.cc_run_texts.specs.RunTexts.{authority_text, event_text, end_text}
+use Rattle.cc_replay.specs.RunTexts.{authority_text, event_text, end_text}
 use Rattle.cc_replies.proofs.RunLines.{first_others_last}
 use Rattle.cc_replies.proofs.runs.put_run.Goals as goal
 

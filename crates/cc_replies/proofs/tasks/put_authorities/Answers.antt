@@ -1,9 +1,9 @@
 use Rattle.std.proofs.Common.{◌++◌, ap, ◌∙◌}
 use Rattle.std.specs.String.{string_bytes}
-use Rattle.cc_entry.specs.declared.entry.Entry.{Entry}
+use Rattle.cc_session.specs.declared.entry.Entry.{Entry}
 use Rattle.cc_replies.specs.ReplyTexts.{inner_line}
 use Rattle.cc_replies.specs.TaskTexts.{of_task}
-use Rattle.cc_run_texts.specs.RunTexts.{authority_text}
+use Rattle.cc_replay.specs.RunTexts.{authority_text}
 use Rattle.cc_replies.proofs.TaskLines.{lines_more, lines_whole}
 use Rattle.cc_replies.proofs.tasks.put_authorities.Goals as goal
 

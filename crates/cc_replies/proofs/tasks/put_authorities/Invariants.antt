@@ -2,7 +2,7 @@ use Rattle.std.proofs.Common.{◌≡◌, ◌++◌, take, map, flat_map}
 use Rattle.std.specs.String.{string_bytes}
 use Rattle.cc_replies.specs.ReplyTexts.{inner_line}
 use Rattle.cc_replies.specs.TaskTexts.{by_task}
-use Rattle.cc_run_texts.specs.RunTexts.{authority_text}
+use Rattle.cc_replay.specs.RunTexts.{authority_text}
 use Rattle.cc_replies.proofs.tasks.put_authorities.Given as goal
 
 abbrev pub invariant-loop-task : goal.invariant-loop-task

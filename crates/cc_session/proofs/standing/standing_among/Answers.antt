@@ -1,8 +1,8 @@
 use Rattle.std.proofs.Common.{[], length, map, refl, ap}
 use Rattle.std.specs.Option.{unwrap_or}
 use Rattle.std.proofs.lemmas.Option.{slice_get_read}
-use Rattle.cc_meta_modules.specs.Readings.{imports_of}
-use Rattle.cc_meta_modules.specs.StandingDefinitions.{standing_or}
+use Rattle.cc_verdicts.specs.Readings.{imports_of}
+use Rattle.cc_verdicts.specs.StandingDefinitions.{standing_or}
 use Rattle.cc_module.specs.Findings.{finding_of}
 use Rattle.cc_session.proofs.standing.standing_among.Goals as goal
 

@@ -1,5 +1,5 @@
 use Rattle.std.proofs.Common.{map, refl, ap, ◌∙◌}
-use Rattle.cc_meta_modules.specs.StandingDefinitions.{context_behind, names_behind}
+use Rattle.cc_verdicts.specs.StandingDefinitions.{context_behind, names_behind}
 use Rattle.cc_module.specs.Findings.{finding_of}
 use Rattle.cc_module.specs.Judgements.{checked_definition_of}
 use Rattle.cc_session.proofs.standing.standing_behind.Goals as goal

@@ -1,6 +1,6 @@
 use Rattle.std.proofs.Common.{arith, length}
 use Rattle.std.proofs.lemmas.Bool.{false≢true, leb-true, le-leb}
-use Rattle.cc_meta_modules.specs.PresentTexts.{most_modules}
+use Rattle.cc_verdicts.specs.PresentTexts.{most_modules}
 use Rattle.cc_session.proofs.TextChanges.{others_present_less, others_absent}
 use Rattle.cc_session.proofs.texts.is_full.Goals as goal
 

@@ -1,7 +1,7 @@
 use Rattle.std.proofs.Common.{◌≡◌, true, false, length, sym, subst, refl, ◌∙◌, arith}
 use Rattle.std.proofs.lemmas.List.{length-map}
 use Rattle.cc_core.specs.Contexts.{lookup}
-use Rattle.cc_core.specs.Views.{bind_of, context_of}
+use Rattle.cc_core.specs.TermViews.{bind_of, context_of}
 use Rattle.cc_sets.specs.Reaching.{LooksUp}
 use Rattle.cc_sets.proofs.SubcapturingSearch.{Stands, set_room, entry_room, declared_lower, entry_above, entry_length, last_limited, stands_first, stands_more, first_no, next_no, at_end, looks_yes, looks_no, looks_none, first_above}
 use Rattle.cc_sets.proofs.subcapturing.is_below.Goals as goal

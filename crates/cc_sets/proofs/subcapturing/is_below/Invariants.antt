@@ -1,5 +1,5 @@
 use Rattle.std.proofs.Common.{◌≡◌, ℕ, ◌≤◌, false, length}
-use Rattle.cc_core.specs.Views.{context_of}
+use Rattle.cc_core.specs.TermViews.{context_of}
 use Rattle.cc_sets.specs.Marked.{is_marked}
 use Rattle.cc_sets.proofs.SubcapturingSearch.{Stands}
 use Rattle.cc_sets.proofs.subcapturing.is_below.Given as goal

@@ -1,6 +1,6 @@
 use Rattle.std.proofs.Common.{false, set, Some, length, sym, ap, subst, refl, ◌∙◌}
 use Rattle.std.proofs.lemmas.List.{length-set}
-use Rattle.cc_core.specs.Views.{bind_of}
+use Rattle.cc_core.specs.TermViews.{bind_of}
 use Rattle.cc_sets.specs.Marking.{HasRoomForEntry, MarksEntry}
 use Rattle.cc_sets.proofs.Markings.{HasRoomForEntry-same}
 use Rattle.cc_sets.proofs.subcapturing.look_up.Goals as goal

@@ -1,5 +1,5 @@
 use Rattle.std.proofs.Common.{refl, ◌∙◌, sym}
-use Rattle.cc_core.specs.Views.{context_of}
+use Rattle.cc_core.specs.TermViews.{context_of}
 use Rattle.cc_sets.proofs.SubcapturingSearch.{subset_looks, subset_below, clear_same}
 use Rattle.cc_sets.proofs.subcapturing.subcap.Goals as goal
 

@@ -1,7 +1,7 @@
 use Rattle.std.proofs.Common.{length, sym, ◌∙◌, arith}
 use Rattle.std.proofs.lemmas.List.{length-map}
 use Rattle.cc_core.specs.Contexts.{lookup}
-use Rattle.cc_core.specs.Views.{bind_of, context_of}
+use Rattle.cc_core.specs.TermViews.{bind_of, context_of}
 use Rattle.cc_sets.proofs.SubcapturingSearch.{set_room, entry_room, declared_lower, last_limited}
 use Rattle.cc_solve.proofs.DeclaredChains.{follows_first, follows_more, follows_last, puts_room, puts_above}
 use Rattle.cc_solve.proofs.DeclaredChains.{first_puts_above}

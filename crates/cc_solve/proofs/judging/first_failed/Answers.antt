@@ -1,6 +1,6 @@
 use Rattle.std.proofs.Common.{subst}
 use Rattle.std.proofs.Common.{IfOk, MatchOption}
-use Rattle.cc_sets.specs.Fillings.{AllServed, FailsFirst}
+use Rattle.cc_checking.specs.Fillings.{AllServed, FailsFirst}
 use Rattle.cc_subty.specs.Demands.{asked_of}
 use Rattle.cc_solve.specs.Solutions.{filling_of}
 use Rattle.cc_solve.proofs.judging.first_failed.Goals as goal

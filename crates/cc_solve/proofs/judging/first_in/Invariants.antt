@@ -1,5 +1,5 @@
 use Rattle.std.proofs.Common.{take}
-use Rattle.cc_sets.specs.Fillings.{AllServed}
+use Rattle.cc_checking.specs.Fillings.{AllServed}
 use Rattle.cc_sets.specs.Marked.{IsClear}
 use Rattle.cc_subty.specs.Demands.{asked_of}
 use Rattle.cc_solve.specs.Solutions.{filling_of}

@@ -2,9 +2,9 @@ use Rattle.std.proofs.Common.{◌+◌, true, false, set, length, sym, subst, ref
 use Rattle.std.proofs.lemmas.List.{length-map}
 use Rattle.cc_core.specs.Contexts.{lookup}
 use Rattle.cc_core.specs.Substitution.{filled_set}
-use Rattle.cc_core.specs.Views.{bind_of, context_of}
+use Rattle.cc_core.specs.TermViews.{bind_of, context_of}
 use Rattle.cc_core.proofs.Lookups.{lookup-map}
-use Rattle.cc_sets.specs.Fillings.{filled_entry, filled_context}
+use Rattle.cc_checking.specs.Fillings.{filled_entry, filled_context}
 use Rattle.cc_sets.specs.Marking.{HasRoomForEntry, MarksEntry}
 use Rattle.cc_sets.proofs.SubcapturingSearch.{set_room, entry_room, declared_lower, entry_above, entry_length}
 use Rattle.cc_sets.proofs.SubcapturingSearch.{last_limited, stands_first, stands_more, first_no, next_no, at_end}

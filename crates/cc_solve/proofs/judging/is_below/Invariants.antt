@@ -1,7 +1,7 @@
 use Rattle.std.proofs.Common.{◌≡◌, ℕ, ◌≤◌, false, length}
 use Rattle.cc_core.specs.Substitution.{filled_set}
-use Rattle.cc_core.specs.Views.{context_of}
-use Rattle.cc_sets.specs.Fillings.{filled_context}
+use Rattle.cc_core.specs.TermViews.{context_of}
+use Rattle.cc_checking.specs.Fillings.{filled_context}
 use Rattle.cc_sets.specs.Marked.{is_marked}
 use Rattle.cc_sets.proofs.SubcapturingSearch.{Stands}
 use Rattle.cc_solve.specs.Solutions.{filling_of}

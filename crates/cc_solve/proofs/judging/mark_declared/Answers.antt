@@ -1,6 +1,6 @@
 use Rattle.std.proofs.Common.{Some, subst}
-use Rattle.cc_core.specs.Views.{bind_of}
-use Rattle.cc_sets.specs.Fillings.{filled_entry}
+use Rattle.cc_core.specs.TermViews.{bind_of}
+use Rattle.cc_checking.specs.Fillings.{filled_entry}
 use Rattle.cc_sets.specs.Marking.{HasRoomForEntry}
 use Rattle.cc_solve.specs.Solutions.{filling_of}
 use Rattle.cc_solve.proofs.judging.mark_declared.Goals as goal

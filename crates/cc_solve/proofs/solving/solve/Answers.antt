@@ -1,5 +1,5 @@
 use Rattle.std.proofs.Common.{◌≡◌, ◌∙◌, sym, subst}
-use Rattle.cc_sets.specs.Fillings.{IsLeast}
+use Rattle.cc_checking.specs.Fillings.{IsLeast}
 use Rattle.cc_subty.specs.Demands.{asked_of}
 use Rattle.cc_solve.specs.Solutions.{filling_of}
 use Rattle.cc_solve.proofs.CollectedDemands.{written_back}

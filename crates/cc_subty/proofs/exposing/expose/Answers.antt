@@ -1,5 +1,5 @@
 use Rattle.std.proofs.Common.{sym, ap, ◌∙◌}
-use Rattle.cc_core.specs.Views.{shape_of, context_of}
+use Rattle.cc_core.specs.TermViews.{shape_of, context_of}
 use Rattle.cc_subty.specs.Exposing.{shape_bound}
 use Rattle.cc_subty.proofs.BoundsFollowed.{bound_leads, bound_spot, nothing_leads}
 use Rattle.cc_subty.proofs.exposing.expose.Goals as goal

@@ -1,4 +1,4 @@
-use Rattle.cc_core.specs.Views.{shape_of, context_of}
+use Rattle.cc_core.specs.TermViews.{shape_of, context_of}
 use Rattle.cc_subty.proofs.BoundsFollowed.{LeadsAlike, spot}
 use Rattle.cc_subty.proofs.exposing.expose.Given as goal
 

@@ -2,8 +2,8 @@ use Rattle.std.proofs.Common.{◌≡◌, ◌++◌, map, option_map, refl, sym, a
 use Rattle.std.specs.Prelude.{slice_index}
 use Rattle.std.specs.List.{AllZip}
 use Rattle.std.proofs.lemmas.Grind.{get_or_default_zero}
-use Rattle.cc_device.specs.Views.{event_of}
-use Rattle.cc_meta_runs.specs.Interleavings.{interleave}
+use Rattle.cc_device.specs.DeviceViews.{event_of}
+use Rattle.cc_runs.specs.Interleavings.{interleave}
 use Rattle.cc_tasks.specs.Reports.{told_event, world_in}
 use Rattle.cc_tasks.specs.Tasks.{HaveEnded, IsNext, IsEndOf}
 use Rattle.cc_tasks.proofs.Promises.{runs_entries, runs_soundly}

@@ -1,7 +1,7 @@
 use Rattle.std.proofs.Common.{map}
 use Rattle.std.specs.List.{AllByRecursion}
 use Rattle.cc_machine.specs.Standing.{KeepsShapes}
-use Rattle.cc_meta_runs.specs.Interleavings.{interleave}
+use Rattle.cc_runs.specs.Interleavings.{interleave}
 use Rattle.cc_tasks.specs.Reports.{told_event, world_in}
 use Rattle.cc_tasks.specs.Tasks.{CanGoOn}
 use Rattle.cc_tasks.proofs.TakenTurns.{StandsAt}

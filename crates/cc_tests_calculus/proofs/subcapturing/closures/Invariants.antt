@@ -1,4 +1,4 @@
-use Rattle.cc_core.specs.Views.{context_of}
+use Rattle.cc_core.specs.TermViews.{context_of}
 use Rattle.cc_core.specs.WellFormed.{IsWellFormedContext}
 use Rattle.cc_tests_calculus.proofs.subcapturing.closures.Given as goal
 

@@ -3,8 +3,8 @@ use Rattle.std.specs.Prelude.{slice_get}
 use Rattle.std.proofs.lemmas.Option.{slice_get_read}
 use Rattle.cc_capture.specs.declared.var.Var.TheVariants.{Free}
 use Rattle.cc_core.specs.Terms.{Application}
-use Rattle.cc_core.specs.Views.{term_of, type_of}
-use Rattle.cc_program.specs.Starts.{IsTyped, program_store}
+use Rattle.cc_core.specs.TermViews.{term_of, type_of}
+use Rattle.cc_machine.specs.Starts.{IsTyped, program_store}
 use Rattle.cc_tests_calls.specs.Linked.{takes_unit}
 use Rattle.cc_tests_calls.proofs.Linking.{few_cells, linked_program, of_condition}
 use Rattle.cc_tests_calls.proofs.programs.linked.Goals as goal

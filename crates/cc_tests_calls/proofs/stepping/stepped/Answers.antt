@@ -1,8 +1,8 @@
 use Rattle.std.proofs.Common.{◌≡◌, arith, refl}
 use Rattle.cc_machine.specs.Machines.{held_by}
-use Rattle.cc_meta_runs.specs.Alike.{erased_configuration}
-use Rattle.cc_program.specs.Programs.{shapes_of, values_of, start_of}
-use Rattle.cc_program.proofs.Starting.{program_counted}
+use Rattle.cc_runs.specs.Alike.{erased_configuration}
+use Rattle.cc_machine.specs.Programs.{shapes_of, values_of, start_of}
+use Rattle.cc_machine.proofs.Starting.{program_counted}
 use Rattle.cc_tests_calls.proofs.Linking.{of_value, loaded_ready}
 use Rattle.cc_tests_calls.proofs.stepping.stepped.Goals as goal
 

@@ -1,6 +1,6 @@
 use Rattle.std.proofs.Common.{◌+◌, ◌-◌, ◌<◌}
 use Rattle.cc_machine.specs.Machines.{count_cells, held_by}
-use Rattle.cc_meta_runs.specs.SoundRuns.{HasShapesOfCells}
+use Rattle.cc_runs.specs.SoundRuns.{HasShapesOfCells}
 use Rattle.cc_tests_calls.proofs.stepping.stepped.Given as goal
 
 abbrev pub invariant-loop-call : goal.invariant-loop-call

@@ -1,9 +1,9 @@
 use Rattle.std.proofs.Common.{true, false, subst, sym, ap, ◌∙◌, arith}
-use Rattle.cc_core.specs.Comparison.{same_shape}
-use Rattle.cc_core.specs.Views.{shape_of, type_of, context_of}
-use Rattle.cc_sets.specs.Comparison.{demanded, comparison, type_comparison}
-use Rattle.cc_sets.specs.Inference as plain
-use Rattle.cc_sets.specs.Inference.{shape_in, type_in}
+use Rattle.cc_core.specs.Equality.{same_shape}
+use Rattle.cc_core.specs.TermViews.{shape_of, type_of, context_of}
+use Rattle.cc_checking.specs.Comparison.{demanded, comparison, type_comparison}
+use Rattle.cc_checking.specs.Inference as plain
+use Rattle.cc_checking.specs.Inference.{shape_in, type_in}
 use Rattle.cc_type.specs.Comparing.{most_steps}
 use Rattle.cc_subty.specs.Demands.{asked_of}
 use Rattle.cc_type.specs.FormsAlone.{forces_nothing}

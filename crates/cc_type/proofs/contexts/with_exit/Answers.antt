@@ -3,7 +3,7 @@ use Rattle.cc_capture.specs.declared.var.Elem.TheVariants.{Cap}
 use Rattle.cc_core.specs.Contexts.{Bind}
 use Rattle.cc_core.specs.Shapes.{ExitShape, capturing}
 use Rattle.cc_core.specs.Substitution.{single}
-use Rattle.cc_core.specs.Views.{shape_of, context_of}
+use Rattle.cc_core.specs.TermViews.{shape_of, context_of}
 use Rattle.cc_core.specs.WellFormed.{IsWellFormedContext}
 use Rattle.cc_type.proofs.FormedParts.{with_term, exit_well_formed}
 use Rattle.cc_type.proofs.contexts.with_exit.Goals as goal

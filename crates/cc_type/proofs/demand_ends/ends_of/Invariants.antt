@@ -1,4 +1,4 @@
-use Rattle.cc_core.specs.Views.{context_of}
+use Rattle.cc_core.specs.TermViews.{context_of}
 use Rattle.cc_type.proofs.DemandEnds.{Follows}
 use Rattle.cc_type.proofs.demand_ends.ends_of.Given as goal
 

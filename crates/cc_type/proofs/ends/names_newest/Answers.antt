@@ -1,6 +1,6 @@
 use Rattle.std.proofs.Common.{subst}
 use Rattle.cc_core.specs.Occurrences.{Meets, without}
-use Rattle.cc_core.specs.Views.{shape_of}
+use Rattle.cc_core.specs.TermViews.{shape_of}
 use Rattle.cc_type.proofs.ends.names_newest.Goals as goal
 
 pub returns : goal.returns

@@ -1,7 +1,7 @@
 use Rattle.std.proofs.Common.{sym, ap, ◌∙◌}
 use Rattle.cc_core.specs.Shapes.{capturing}
-use Rattle.cc_core.specs.Views.{shape_of, type_of, context_of}
-use Rattle.cc_sets.specs.Outcomes.{finds}
+use Rattle.cc_core.specs.TermViews.{shape_of, type_of, context_of}
+use Rattle.cc_checking.specs.Outcomes.{finds}
 use Rattle.cc_type.proofs.NewestVariables.{shape_stays_behind}
 use Rattle.cc_type.proofs.ends.shape_left_behind.Goals as goal
 

@@ -1,7 +1,7 @@
 use Rattle.std.proofs.Common.{sym, ◌∙◌}
-use Rattle.cc_core.specs.Views.{shape_of, type_of}
-use Rattle.cc_sets.specs.Comparison.{comparison}
-use Rattle.cc_sets.specs.Inference.{shape_in}
+use Rattle.cc_core.specs.TermViews.{shape_of, type_of}
+use Rattle.cc_checking.specs.Comparison.{comparison}
+use Rattle.cc_checking.specs.Inference.{shape_in}
 use Rattle.cc_type.specs.FormsAlone.{forces_nothing}
 use Rattle.cc_type.proofs.FormsAlone.{types_pass, functions_pass, boxes_pass, same_pass, any_pass, step_passes}
 use Rattle.cc_type.proofs.forms.+forms.Goals as goal

@@ -1,4 +1,4 @@
-use Rattle.cc_core.specs.Views.{type_of, context_of}
+use Rattle.cc_core.specs.TermViews.{type_of, context_of}
 use Rattle.cc_type.proofs.FormedParts.{variable_well_formed, shape_well_formed}
 use Rattle.cc_type.proofs.heads.type_of_variable.Goals as goal
 

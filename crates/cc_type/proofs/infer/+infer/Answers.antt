@@ -2,9 +2,9 @@ use Rattle.std.proofs.Common.{sym, ap, ◌∙◌, subst}
 use Rattle.cc_core.specs.declared.terms.Node.{Node}
 use Rattle.cc_core.specs.Places.{spots_at, places_around, places_of}
 use Rattle.cc_core.specs.Reading.{read_shape}
-use Rattle.cc_core.specs.Views.{shape_of, note_of, form_of, term_of, context_of}
+use Rattle.cc_core.specs.TermViews.{shape_of, note_of, form_of, term_of, context_of}
 use Rattle.cc_core.specs.WellFormed.{IsWellFormedShape}
-use Rattle.cc_sets.specs.Inference.{exit_entry}
+use Rattle.cc_checking.specs.Inference.{exit_entry}
 use Rattle.cc_subty.specs.Demands.{asked_of}
 use Rattle.cc_type.specs.Logs.{Meets}
 use Rattle.cc_type.specs.Parts.{found_of, named_of}

@@ -1,6 +1,6 @@
 use Rattle.std.proofs.Common.{subst}
 use Rattle.cc_core.specs.Places.{places_of}
-use Rattle.cc_core.specs.Views.{term_of, context_of}
+use Rattle.cc_core.specs.TermViews.{term_of, context_of}
 use Rattle.cc_subty.specs.Demands.{asked_of}
 use Rattle.cc_type.specs.Logs.{Meets}
 use Rattle.cc_type.specs.Parts.{found_of}

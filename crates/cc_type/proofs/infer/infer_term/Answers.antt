@@ -1,5 +1,5 @@
 use Rattle.std.proofs.Common.{sym, subst, ◌≤◌, length, arith}
-use Rattle.cc_core.specs.Views.{context_of}
+use Rattle.cc_core.specs.TermViews.{context_of}
 use Rattle.cc_type.proofs.MeasuredEntries.{nothing_measured}
 use Rattle.cc_type.proofs.infer.infer_term.Goals as goal
 

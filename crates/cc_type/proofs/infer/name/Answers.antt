@@ -1,4 +1,4 @@
-use Rattle.cc_core.specs.Views.{type_of, note_of, context_of}
+use Rattle.cc_core.specs.TermViews.{type_of, note_of, context_of}
 use Rattle.cc_type.specs.Parts.{named_of}
 use Rattle.cc_type.proofs.StandingTerms.{noted_well_formed}
 use Rattle.cc_type.proofs.infer.name.Goals as goal

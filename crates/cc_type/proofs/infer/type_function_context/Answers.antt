@@ -1,6 +1,6 @@
 use Rattle.std.proofs.Common.{sym, subst}
 use Rattle.cc_core.specs.Contexts.{TypeEntry}
-use Rattle.cc_core.specs.Views.{shape_of, context_of}
+use Rattle.cc_core.specs.TermViews.{shape_of, context_of}
 use Rattle.cc_type.specs.Measures.{AreMeasuresOf}
 use Rattle.cc_type.proofs.MeasuredEntries.{more_measured}
 use Rattle.cc_type.proofs.infer.type_function_context.Goals as goal

@@ -1,5 +1,5 @@
 use Rattle.std.proofs.Common.{refl}
-use Rattle.cc_core.specs.Views.{context_of}
+use Rattle.cc_core.specs.TermViews.{context_of}
 use Rattle.cc_type.proofs.EndedLists.{known_ended}
 use Rattle.cc_type.proofs.known.known_ends.Goals as goal
 

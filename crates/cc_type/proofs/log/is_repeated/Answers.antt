@@ -1,7 +1,7 @@
 use Rattle.std.proofs.Common.{sym, ◌∙◌}
-use Rattle.cc_core.specs.Views.{context_of}
-use Rattle.cc_sets.specs.Comparison.{demanded}
-use Rattle.cc_sets.specs.Outcomes.{IsBelow}
+use Rattle.cc_core.specs.TermViews.{context_of}
+use Rattle.cc_checking.specs.Comparison.{demanded}
+use Rattle.cc_checking.specs.Outcomes.{IsBelow}
 use Rattle.cc_subty.specs.Demands.{asked_of}
 use Rattle.cc_type.proofs.RepeatedDemands.{force_not_repeated}
 use Rattle.cc_type.proofs.log.is_repeated.Goals as goal

@@ -1,7 +1,7 @@
 use Rattle.std.proofs.Common.{◌≡◌, false, sym, subst}
 use Rattle.cc_core.specs.Occurrences.{Meets, MeetsInType, without}
 use Rattle.cc_core.specs.Questions.{occurs, occurs_in_type}
-use Rattle.cc_core.specs.Views.{shape_of, type_of}
+use Rattle.cc_core.specs.TermViews.{shape_of, type_of}
 use Rattle.cc_type.specs.Measures.{IsClearAlong, position_question}
 use Rattle.cc_type.proofs.MeasuredShapes.{clear_function, clear_type_function, clear_type, clear_shape, clear_from}
 use Rattle.cc_type.proofs.measures.+measured_occurrences.Goals as goal

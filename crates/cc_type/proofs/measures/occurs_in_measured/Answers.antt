@@ -1,4 +1,4 @@
-use Rattle.cc_core.specs.Views.{shape_of}
+use Rattle.cc_core.specs.TermViews.{shape_of}
 use Rattle.cc_type.proofs.MeasuredShapes.{meets_shape}
 use Rattle.cc_type.proofs.measures.occurs_in_measured.Goals as goal
 

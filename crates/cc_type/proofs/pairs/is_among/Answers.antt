@@ -1,5 +1,5 @@
 use Rattle.std.proofs.Common.{arith}
-use Rattle.cc_core.specs.Views.{shape_of}
+use Rattle.cc_core.specs.TermViews.{shape_of}
 use Rattle.cc_type.proofs.RememberedPairs.{among_here}
 use Rattle.cc_type.proofs.pairs.is_among.Goals as goal
 

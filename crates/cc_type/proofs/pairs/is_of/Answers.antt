@@ -1,6 +1,6 @@
 use Rattle.std.proofs.Common.{sym, ◌∙◌}
 use Rattle.cc_capture.proofs.Equality.{same_variable-decides}
-use Rattle.cc_core.specs.Views.{shape_of}
+use Rattle.cc_core.specs.TermViews.{shape_of}
 use Rattle.cc_core.proofs.Comparisons.{same_shape-decides}
 use Rattle.cc_type.proofs.pairs.is_of.Goals as goal
 

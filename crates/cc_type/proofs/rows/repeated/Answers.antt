@@ -1,5 +1,5 @@
 use Rattle.std.proofs.Common.{sym, subst}
-use Rattle.cc_core.specs.Views.{context_of}
+use Rattle.cc_core.specs.TermViews.{context_of}
 use Rattle.cc_core.specs.WellFormed.{IsWellFormedShape}
 use Rattle.cc_type.proofs.FormedParts.{numbers_well_formed}
 use Rattle.cc_type.proofs.rows.repeated.Goals as goal

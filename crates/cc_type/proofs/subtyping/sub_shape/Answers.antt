@@ -1,5 +1,5 @@
-use Rattle.cc_core.specs.Views.{shape_of, context_of}
-use Rattle.cc_sets.specs.Comparison.{comparison}
+use Rattle.cc_core.specs.TermViews.{shape_of, context_of}
+use Rattle.cc_checking.specs.Comparison.{comparison}
 use Rattle.cc_type.specs.Comparing.{most_steps}
 use Rattle.cc_type.proofs.SubtypeAnswers.{handed_compares, shapes_below, shapes_not_below}
 use Rattle.cc_type.proofs.subtyping.sub_shape.Goals as goal

@@ -1,5 +1,5 @@
-use Rattle.cc_core.specs.Views.{type_of, context_of}
-use Rattle.cc_sets.specs.Comparison.{type_comparison}
+use Rattle.cc_core.specs.TermViews.{type_of, context_of}
+use Rattle.cc_checking.specs.Comparison.{type_comparison}
 use Rattle.cc_type.specs.Comparing.{most_steps}
 use Rattle.cc_type.proofs.SubtypeAnswers.{handed_compares, types_below, types_not_below}
 use Rattle.cc_type.proofs.subtyping.subtype.Goals as goal

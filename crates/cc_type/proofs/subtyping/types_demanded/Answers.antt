@@ -1,7 +1,7 @@
 use Rattle.std.proofs.Common.{true, false, Some, sym, subst}
-use Rattle.cc_core.specs.Views.{type_of, context_of}
-use Rattle.cc_sets.specs.Comparison.{type_comparison}
-use Rattle.cc_sets.specs.Inference.{type_in}
+use Rattle.cc_core.specs.TermViews.{type_of, context_of}
+use Rattle.cc_checking.specs.Comparison.{type_comparison}
+use Rattle.cc_checking.specs.Inference.{type_in}
 use Rattle.cc_subty.specs.Demands.{asked_of}
 use Rattle.cc_type.specs.Comparing.{most_steps, Demanded}
 use Rattle.cc_type.specs.KeptWalks.{Keeps}

@@ -2,12 +2,12 @@ use Rattle.std.proofs.Common.{◌≡◌, ◌-◌, length, true, false, Some, ref
 use Rattle.std.proofs.lemmas.Bool.{and_parts}
 use Rattle.std.proofs.lemmas.List.{length-map}
 use Rattle.std.proofs.lemmas.Result.{IfOk-weaker}
-use Rattle.cc_core.specs.Comparison.{same_shape}
+use Rattle.cc_core.specs.Equality.{same_shape}
 use Rattle.cc_core.specs.Contexts.{TypeEntry, entry_of}
 use Rattle.cc_core.specs.Reading.{read_shape}
-use Rattle.cc_core.specs.Views.{shape_of, type_of, context_of}
-use Rattle.cc_sets.specs.Comparison.{comparison, type_comparison}
-use Rattle.cc_sets.specs.Inference.{shape_in, type_in}
+use Rattle.cc_core.specs.TermViews.{shape_of, type_of, context_of}
+use Rattle.cc_checking.specs.Comparison.{comparison, type_comparison}
+use Rattle.cc_checking.specs.Inference.{shape_in, type_in}
 use Rattle.cc_subty.specs.Demands.{demand_of, asked_of}
 use Rattle.cc_subty.specs.Parts.{is_variable}
 use Rattle.cc_type.specs.KeptWalks.{Keeps, is_remembered_as}

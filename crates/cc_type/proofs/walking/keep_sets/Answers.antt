@@ -1,6 +1,6 @@
 use Rattle.std.proofs.Common.{length, sym, ◌∙◌}
 use Rattle.cc_capture.proofs.Equality.{same_set-decides}
-use Rattle.cc_core.specs.Views.{context_of}
+use Rattle.cc_core.specs.TermViews.{context_of}
 use Rattle.cc_subty.specs.Demands.{asked_of}
 use Rattle.cc_type.proofs.EndedLists.{again_goes}
 use Rattle.cc_type.proofs.KeptWalks.{one_read, one_goes}

@@ -1,5 +1,5 @@
 use Rattle.std.proofs.Common.{◌≡◌, ◌+◌, ◌<◌, map, refl, ap, arith}
-use Rattle.cc_derivation.specs.Views.{rule_of, claim_of, premises_of, der_of}
+use Rattle.cc_derivation.specs.DerivationViews.{rule_of, claim_of, premises_of, der_of}
 use Rattle.cc_derivation.specs.declared.derivation.Der.{Der}
 use Rattle.cc_validity.specs.Counting.{nodes_together}
 use Rattle.cc_validity.proofs.CountedNodes.{some_left, one_taken}

@@ -1,6 +1,6 @@
 use Rattle.std.proofs.Common.{◌≡◌, ◌+◌, map}
-use Rattle.cc_derivation.specs.Views.{der_of}
-use Rattle.cc_sets.specs.DerivationSizes.{nodes}
+use Rattle.cc_derivation.specs.DerivationViews.{der_of}
+use Rattle.cc_checking.specs.DerivationSizes.{nodes}
 use Rattle.cc_validity.specs.Counting.{nodes_together}
 use Rattle.cc_validity.proofs.counting.count.Given as goal
 

@@ -1,5 +1,5 @@
 use Rattle.std.proofs.Common.{◌≡◌, ◌++◌, map}
-use Rattle.cc_derivation.specs.Views.{premises_of, der_of}
+use Rattle.cc_derivation.specs.DerivationViews.{premises_of, der_of}
 use Rattle.cc_validity.specs.Counting.{premise_list}
 use Rattle.cc_validity.proofs.counting.wait_above.Given as goal
 

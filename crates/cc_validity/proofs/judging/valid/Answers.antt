@@ -1,6 +1,6 @@
 use Rattle.std.proofs.Common.{sym, ◌∙◌}
-use Rattle.cc_core.specs.Views.{term_of, context_of}
-use Rattle.cc_derivation.specs.Views.{der_of}
+use Rattle.cc_core.specs.TermViews.{term_of, context_of}
+use Rattle.cc_derivation.specs.DerivationViews.{der_of}
 use Rattle.cc_validity.proofs.JudgedRoots.{whole_found, valid_found, least_found, not_valid}
 use Rattle.cc_validity.proofs.judging.valid.Goals as goal
 

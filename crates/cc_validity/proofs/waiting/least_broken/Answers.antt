@@ -1,8 +1,8 @@
 use Rattle.std.proofs.Common.{◌≡◌, ◌+◌, ◌<◌, List, [], ◌∷◌, ◌++◌, map, ap, sym, ◌∙◌, arith}
 use Rattle.std.proofs.lemmas.List.{map_push}
-use Rattle.cc_derivation.specs.Views.{der_of}
-use Rattle.cc_premise_places.specs.Spots.{place_of}
-use Rattle.cc_sets.specs.DerivationSizes.{nodes}
+use Rattle.cc_derivation.specs.DerivationViews.{der_of}
+use Rattle.cc_validity.specs.Spots.{place_of}
+use Rattle.cc_checking.specs.DerivationSizes.{nodes}
 use Rattle.cc_validity.specs.Waiting.{Standing, standing_of, nodes_in, broken_in, first_or}
 use Rattle.cc_validity.proofs.PassedNodes.{last_number, fewer_wait, found_first}
 use Rattle.cc_validity.proofs.waiting.least_broken.Goals as goal

@@ -1,7 +1,7 @@
 use Rattle.std.proofs.Common.{◌≡◌, map, None}
-use Rattle.cc_derivation.specs.Views.{der_of}
-use Rattle.cc_meta_validity.specs.Broken.{broken}
-use Rattle.cc_premise_places.specs.Spots.{place_of}
+use Rattle.cc_derivation.specs.DerivationViews.{der_of}
+use Rattle.cc_derivation.specs.Broken.{broken}
+use Rattle.cc_validity.specs.Spots.{place_of}
 use Rattle.cc_validity.specs.Waiting.{standing_of, nodes_in, broken_in, first_or}
 use Rattle.cc_validity.proofs.waiting.least_broken.Given as goal
 

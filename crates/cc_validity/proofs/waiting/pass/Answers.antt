@@ -1,11 +1,11 @@
 use Rattle.std.proofs.Common.{◌≡◌, ◌++◌, true, false, map, Some, None, refl, ap, sym, ◌∙◌, subst}
 use Rattle.std.specs.Option.{option_map}
-use Rattle.cc_derivation.specs.Views.{rule_of, claim_of, premises_of}
+use Rattle.cc_derivation.specs.DerivationViews.{rule_of, claim_of, premises_of}
 use Rattle.cc_derivation.specs.declared.derivation.Der.{Der}
-use Rattle.cc_instances.specs.Claimed.{instance_of}
-use Rattle.cc_meta_validity.specs.Broken.{claims_of, are_as_many}
-use Rattle.cc_meta_validity.specs.Rows.{row_at}
-use Rattle.cc_premise_places.specs.Spots.{place_of, places_of, places_in}
+use Rattle.cc_validity.specs.ClaimedPremises.{instance_of}
+use Rattle.cc_derivation.specs.Broken.{claims_of, are_as_many}
+use Rattle.cc_derivation.specs.Rows.{row_at}
+use Rattle.cc_validity.specs.Spots.{place_of, places_of, places_in}
 use Rattle.cc_validity.specs.Waiting.{standing_of, standing_among}
 use Rattle.cc_validity.proofs.PassedNodes.{misfit_passes, short_passes, node_passes}
 use Rattle.cc_validity.proofs.waiting.pass.Goals as goal

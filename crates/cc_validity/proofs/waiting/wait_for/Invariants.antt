@@ -1,6 +1,6 @@
 use Rattle.std.proofs.Common.{◌≡◌, ◌++◌, map}
-use Rattle.cc_derivation.specs.Views.{premises_of}
-use Rattle.cc_premise_places.specs.Spots.{places_of}
+use Rattle.cc_derivation.specs.DerivationViews.{premises_of}
+use Rattle.cc_validity.specs.Spots.{places_of}
 use Rattle.cc_validity.specs.Waiting.{standing_of, standing_among}
 use Rattle.cc_validity.proofs.waiting.wait_for.Given as goal
 

@@ -3,7 +3,7 @@ use Rattle.cc_capture.specs.Sets.{empty}
 use Rattle.cc_certificate_judging.specs.AnswerExamples.{function_node}
 use Rattle.cc_certificate_judging.specs.Answers.{ProvesType, HasBadLine, HasBadNode}
 use Rattle.cc_certificate_judging.specs.JudgingExamples.{identity_shape}
-use Rattle.cc_certificate_reading.specs.Examples.{opening, statement, body_node}
+use Rattle.cc_certificate_reading.specs.ReadingExamples.{opening, statement, body_node}
 use Rattle.cc_core.specs.Shapes.{capturing}
 use Rattle.cc_worked_replies.proofs.WorkedCertificates.{found_is_told}
 use Rattle.cc_worked_replies.proofs.certificates.certificates_are_judged.Goals as goal

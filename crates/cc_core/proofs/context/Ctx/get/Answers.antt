@@ -1,4 +1,4 @@
-use Rattle.cc_core.specs.Views.{bind_of}
+use Rattle.cc_core.specs.TermViews.{bind_of}
 use Rattle.cc_core.specs.Entries.{entries}
 use Rattle.cc_core.proofs.IndexedLookups.{found-past, found-at}
 use Rattle.cc_core.proofs.context.Ctx.get.Goals as goal

@@ -1,6 +1,6 @@
 use Rattle.std.proofs.Common.{◌≡◌, map, take}
 use Rattle.cc_device.specs.Declarations.{declared_devices}
-use Rattle.cc_device.specs.Views.{state_of}
+use Rattle.cc_device.specs.DeviceViews.{state_of}
 use Rattle.cc_device.proofs.table.Devices.new.Given as goal
 
 abbrev pub invariant-loop-decl : goal.invariant-loop-decl

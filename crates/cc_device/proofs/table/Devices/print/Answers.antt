@@ -4,7 +4,7 @@ use mir.Val.{of_z, to_z}
 use mir.Syntax.{w64}
 use Rattle.cc_base.specs.declared.literal.Op.TheVariants.{Print}
 use Rattle.cc_base.specs.Literals.{NumberLiteral}
-use Rattle.cc_device.specs.Views.{state_of}
+use Rattle.cc_device.specs.DeviceViews.{state_of}
 use Rattle.cc_device.proofs.Tables.{replied_number, kept_if, no_device}
 use Rattle.cc_device.proofs.table.Devices.print.Goals as goal
 

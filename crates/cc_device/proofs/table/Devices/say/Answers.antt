@@ -3,7 +3,7 @@ use Rattle.std.specs.Rc.{rc_str_bytes}
 use Rattle.std.specs.Str.{chars}
 use Rattle.cc_base.specs.declared.literal.Op.TheVariants.{Say}
 use Rattle.cc_base.specs.Literals.{TextLiteral}
-use Rattle.cc_device.specs.Views.{state_of}
+use Rattle.cc_device.specs.DeviceViews.{state_of}
 use Rattle.cc_device.proofs.Tables.{replied_if, kept_if, no_device}
 use Rattle.cc_device.proofs.table.Devices.say.Goals as goal
 

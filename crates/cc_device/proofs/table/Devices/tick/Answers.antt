@@ -2,7 +2,7 @@ use Rattle.std.proofs.Common.{None, arith}
 use Rattle.std.specs.Option.{option_map}
 use Rattle.cc_base.specs.declared.literal.Op.TheVariants.{Tick}
 use Rattle.cc_base.specs.Literals.{NumberLiteral}
-use Rattle.cc_device.specs.Views.{state_of}
+use Rattle.cc_device.specs.DeviceViews.{state_of}
 use Rattle.cc_device.proofs.Tables.{replied, no_device}
 use Rattle.cc_device.proofs.table.Devices.tick.Goals as goal
 

@@ -1,11 +1,11 @@
 use Rattle.std.proofs.Common.{◌≡◌, None, sym, subst, option_map}
 use Rattle.cc_core.specs.Contexts.{lookup}
-use Rattle.cc_device.specs.Views.{event_of}
+use Rattle.cc_device.specs.DeviceViews.{event_of}
 use Rattle.cc_machine.specs.Machines.{held_by}
-use Rattle.cc_meta_runs.specs.Machine.{step}
-use Rattle.cc_steps.specs.Asking.{question_in}
-use Rattle.cc_steps.specs.Operands.{HasFreeOperands, HoldsFreeContent}
-use Rattle.cc_steps.specs.Parts.{configuration_of}
+use Rattle.cc_runs.specs.Machine.{step}
+use Rattle.cc_machine.specs.Asking.{question_in}
+use Rattle.cc_machine.specs.Operands.{HasFreeOperands, HoldsFreeContent}
+use Rattle.cc_machine.specs.Parts.{configuration_of}
 use Rattle.cc_machine.proofs.FreeOperands.{operands_free, contents_free}
 use Rattle.cc_machine.proofs.GivenAnswers.{advances_alike, advanced_next, advanced_stands}
 use Rattle.cc_machine.proofs.Keeping.{same_held, same_linked, same_sound, room_after}

@@ -1,10 +1,10 @@
 use Rattle.std.proofs.Common.{refl, ap, ◌∙◌}
 use Rattle.cc_base.specs.Literals.{literal_of}
 use Rattle.cc_device.specs.Events.{Operated, literal_shown}
-use Rattle.cc_device.specs.Views.{event_of}
+use Rattle.cc_device.specs.DeviceViews.{event_of}
 use Rattle.cc_machine.specs.Machines.{held_by}
-use Rattle.cc_steps.specs.Asking.{question_of}
-use Rattle.cc_steps.specs.Parts.{configuration_of}
+use Rattle.cc_machine.specs.Asking.{question_of}
+use Rattle.cc_machine.specs.Parts.{configuration_of}
 use Rattle.cc_machine.proofs.GivenAnswers.{goes_on_with, answers_alike, answers_soundly}
 use Rattle.cc_machine.proofs.machine.Machine.answer.Goals as goal
 

@@ -1,7 +1,7 @@
 use Rattle.std.proofs.Common.{refl, sym, ap, length, arith}
 use Rattle.std.proofs.Math.Logic.{∥∥₁_elim}
-use Rattle.cc_program.specs.Programs.{shapes_of, values_of, start_of}
-use Rattle.cc_program.proofs.Starting.{program_counted}
+use Rattle.cc_machine.specs.Programs.{shapes_of, values_of, start_of}
+use Rattle.cc_machine.proofs.Starting.{program_counted}
 use Rattle.cc_machine.proofs.LoadedCells.{loaded_configuration, loaded_few, loaded_linked, loaded_outermost, loaded_room}
 use Rattle.cc_machine.proofs.machine.Machine.load.Goals as goal
 

@@ -1,5 +1,5 @@
 use Rattle.std.proofs.Common.{◌+◌, ◌++◌, map, option_map, refl, sym, ap, ◌∙◌, subst, arith}
-use Rattle.cc_device.specs.Views.{event_of}
+use Rattle.cc_device.specs.DeviceViews.{event_of}
 use Rattle.cc_machine.specs.declared.runs.RunReport.{RunReport}
 use Rattle.cc_machine.specs.Machines.{held_by}
 use Rattle.cc_machine.specs.Reports.{HasEnd}

@@ -1,8 +1,8 @@
 use Rattle.std.proofs.Common.{◌-◌, ◌+◌, ◌≤◌, map}
-use Rattle.cc_device.specs.Views.{event_of}
+use Rattle.cc_device.specs.DeviceViews.{event_of}
 use Rattle.cc_machine.specs.Machines.{count_cells, held_by}
 use Rattle.cc_machine.specs.Standing.{KeepsShapes}
-use Rattle.cc_meta_runs.specs.SoundRuns.{HasShapesOfCells}
+use Rattle.cc_runs.specs.SoundRuns.{HasShapesOfCells}
 use Rattle.cc_machine.proofs.RunLemmas.{AllGoOnward}
 use Rattle.cc_machine.proofs.machine.Machine.run.Given as goal
 

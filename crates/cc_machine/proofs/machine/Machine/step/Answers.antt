@@ -1,11 +1,11 @@
 use Rattle.std.proofs.Common.{refl, sym, ap, ◌∙◌, subst, option_map}
 use Rattle.cc_core.specs.Contexts.{lookup}
-use Rattle.cc_device.specs.Views.{event_of}
+use Rattle.cc_device.specs.DeviceViews.{event_of}
 use Rattle.cc_machine.specs.Machines.{held_by}
 use Rattle.cc_machine.specs.Standing.{StandsSoundly, KeepsShapes}
-use Rattle.cc_meta_runs.specs.SoundRuns.{HasShapesOfCells}
-use Rattle.cc_steps.specs.Operands.{HasFreeOperands, HoldsFreeContent}
-use Rattle.cc_steps.specs.Parts.{configuration_of, IsLinked, HasRoom}
+use Rattle.cc_runs.specs.SoundRuns.{HasShapesOfCells}
+use Rattle.cc_machine.specs.Operands.{HasFreeOperands, HoldsFreeContent}
+use Rattle.cc_machine.specs.Parts.{configuration_of, IsLinked, HasRoom}
 use Rattle.cc_machine.proofs.FreeOperands.{operands_free, contents_free}
 use Rattle.cc_machine.proofs.Keeping.{on_err, same_held, same_linked, same_sound, same_fits, room_after, held_moves, held_steps, held_stands, held_fits, held_shapes}
 use Rattle.cc_machine.proofs.machine.Machine.step.Goals as goal

@@ -1,5 +1,5 @@
 use Rattle.std.proofs.Common.{sym, ap, ◌∙◌, option_map}
-use Rattle.cc_device.specs.Views.{shown_of}
+use Rattle.cc_device.specs.DeviceViews.{shown_of}
 use Rattle.cc_machine.specs.Machines.{held_by}
 use Rattle.cc_machine.proofs.FinalStates.{shows_something}
 use Rattle.cc_machine.proofs.machine.Machine.value.Goals as goal

@@ -2,7 +2,7 @@ use Rattle.std.proofs.Common.{◌≤◌, ◌+◌, List, subst}
 use Rattle.cc_base.specs.declared.device.DeviceDecl.{DeviceDecl}
 use Rattle.cc_judge.specs.Judgements.{stale_count}
 use Rattle.cc_judge.specs.Kept.{judgements_of}
-use Rattle.cc_meta_modules.specs.PresentTexts.{Texts, AreVerdicts}
+use Rattle.cc_verdicts.specs.PresentTexts.{Texts, AreVerdicts}
 use Rattle.cc_session.specs.Sessions.{SessionState}
 use Rattle.cc_session.proofs.session.Session.check.Goals as goal
 

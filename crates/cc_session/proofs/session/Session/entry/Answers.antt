@@ -1,10 +1,10 @@
 use Rattle.std.proofs.Common.{◌≡◌, List, ℕ, Ok, Err, refl, sym, subst}
 use Rattle.cc_base.specs.declared.device.DeviceDecl.{DeviceDecl}
-use Rattle.cc_meta_modules.specs.ModuleVerdicts as judged
-use Rattle.cc_meta_modules.specs.PresentTexts.{Texts, AreVerdicts}
+use Rattle.cc_verdicts.specs.ModuleVerdicts as judged
+use Rattle.cc_verdicts.specs.PresentTexts.{Texts, AreVerdicts}
 use Rattle.cc_module.specs.declared.judgement.ModuleVerdict.{ModuleVerdict}
 use Rattle.cc_module.specs.Judgements.{checked_definition_of}
-use Rattle.cc_meta_entries.specs.PresentEntries.{started_in}
+use Rattle.cc_entry_laws.specs.PresentEntries.{started_in}
 use Rattle.cc_session.specs.EntryAnswers.{AnswersEntry}
 use Rattle.cc_session.specs.EntryParts.{HaveCurrentVerdicts, IsDefinitionOf}
 use Rattle.cc_session.specs.Sessions.{SessionState, IsUpToDate}

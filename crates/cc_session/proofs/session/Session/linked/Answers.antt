@@ -1,7 +1,7 @@
 use Rattle.std.proofs.Common.{◌≡◌, List, ℕ, length, map, refl, sym, ap, ◌∙◌, subst}
 use Rattle.std.specs.Prelude.{IsTrue, IfOk}
 use Rattle.std.proofs.lemmas.Result.{IfOk-weaker}
-use Rattle.cc_entry.specs.Modules.{module_of}
+use Rattle.cc_session.specs.Modules.{module_of}
 use Rattle.cc_session.specs.EntryParts.{AreReachedModules}
 use Rattle.cc_session.specs.LinkedModules.{AreLinked}
 use Rattle.cc_session.specs.Sessions.{SessionState}

@@ -1,5 +1,5 @@
 use Rattle.std.proofs.Common.{sym, subst}
-use Rattle.cc_meta_modules.specs.PresentTexts.{Texts, ArePresent}
+use Rattle.cc_verdicts.specs.PresentTexts.{Texts, ArePresent}
 use Rattle.cc_session.proofs.SessionFacts.{with_texts}
 use Rattle.cc_session.proofs.TextChanges.{inserted_sorted}
 use Rattle.cc_session.proofs.session.Session.put.Goals as goal

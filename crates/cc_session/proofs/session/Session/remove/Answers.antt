@@ -1,5 +1,5 @@
 use Rattle.std.proofs.Common.{sym, subst, ap, length, arith}
-use Rattle.cc_meta_modules.specs.PresentTexts.{Texts, ArePresent}
+use Rattle.cc_verdicts.specs.PresentTexts.{Texts, ArePresent}
 use Rattle.cc_session.proofs.SessionFacts.{with_texts}
 use Rattle.cc_session.proofs.TextChanges.{removed_sorted, removed_fewer}
 use Rattle.cc_session.proofs.session.Session.remove.Goals as goal

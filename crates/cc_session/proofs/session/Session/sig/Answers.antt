@@ -3,7 +3,7 @@ use Rattle.std.specs.List.{slice_get}
 use Rattle.std.specs.Map.{keys_of}
 use Rattle.cc_base.specs.declared.code.Code.TheVariants.{E32, E34}
 use Rattle.cc_judge.specs.Places.{IsAbsentKey}
-use Rattle.cc_meta_modules.specs.ModuleVerdicts.{CheckedDefinition}
+use Rattle.cc_verdicts.specs.ModuleVerdicts.{CheckedDefinition}
 use Rattle.cc_module.specs.Judgements.{checked_definition_of}
 use Rattle.cc_module.specs.declared.judgement.ModuleVerdict.{ModuleVerdict}
 use Rattle.cc_session.specs.Sessions.{SessionState}

@@ -3,9 +3,9 @@ use Rattle.std.specs.Prelude.{IsTrue}
 use Rattle.cc_base.specs.declared.code.Code.{Code}
 use Rattle.cc_base.specs.declared.device.DeviceDecl.{DeviceDecl}
 use Rattle.cc_judge.specs.Kept.{judgements_of, IsKept}
-use Rattle.cc_meta_modules.specs.ModuleVerdicts.{ModuleVerdict}
-use Rattle.cc_meta_modules.specs.PresentTexts.{AreVerdicts}
-use Rattle.cc_meta_modules.specs.StandingDefinitions.{Standing, standing_in}
+use Rattle.cc_verdicts.specs.ModuleVerdicts.{ModuleVerdict}
+use Rattle.cc_verdicts.specs.PresentTexts.{AreVerdicts}
+use Rattle.cc_verdicts.specs.StandingDefinitions.{Standing, standing_in}
 use Rattle.cc_session.specs.Sessions.{SessionState}
 use Rattle.cc_session.specs.StandingAnswers.{AnswersStanding, standing_last}
 use Rattle.cc_session.proofs.StandingFacts.{stands_by_last, accepted_answer}

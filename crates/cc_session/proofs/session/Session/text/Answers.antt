@@ -3,7 +3,7 @@ use Rattle.std.specs.List.{slice_get}
 use Rattle.std.specs.Map.{keys_of}
 use Rattle.cc_judge.specs.Places.{IsAbsentKey}
 use Rattle.cc_judge.proofs.Entries.{lookup_absent}
-use Rattle.cc_meta_modules.specs.PresentTexts.{Texts, text_of}
+use Rattle.cc_verdicts.specs.PresentTexts.{Texts, text_of}
 use Rattle.cc_session.specs.Sessions.{SessionState}
 use Rattle.cc_session.proofs.SessionFacts.{text_at_key}
 use Rattle.cc_session.proofs.session.Session.text.Goals as goal

@@ -1,6 +1,6 @@
 use Rattle.std.proofs.Common.{sym, ◌∙◌}
 use Rattle.cc_capture.proofs.Equality.{same_set-decides}
-use Rattle.cc_core.specs.Views.{context_of}
+use Rattle.cc_core.specs.TermViews.{context_of}
 use Rattle.cc_type.proofs.KnownSets.{known_as}
 use Rattle.cc_type.proofs.known.Known.has.Goals as goal
 

@@ -1,4 +1,4 @@
-use Rattle.cc_core.specs.Views.{context_of}
+use Rattle.cc_core.specs.TermViews.{context_of}
 use Rattle.cc_type.proofs.EndedLists.{known-set}
 use Rattle.cc_type.proofs.known.Known.learn_ends.Goals as goal
 

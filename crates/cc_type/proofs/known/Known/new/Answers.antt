@@ -1,4 +1,4 @@
-use Rattle.cc_core.specs.Views.{context_of}
+use Rattle.cc_core.specs.TermViews.{context_of}
 use Rattle.cc_capture.specs.Sets.{empty}
 use Rattle.cc_type.proofs.KnownSets.{known_as, none_known}
 use Rattle.cc_type.proofs.RememberedPairs.{none_remembered}

@@ -1,5 +1,0 @@
-use Rattle.cc_certificate.proofs.OneLine.{lines_are_one}
-use Rattle.cc_certificate.proofs.laws.lines_have_no_line_feed.Goals as goal
-
-pub returns : goal.returns
-returns c = lines_are_one

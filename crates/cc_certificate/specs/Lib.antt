@@ -1,6 +1,0 @@
-pub mod Certificates
-pub mod DefinitionCertificates
-pub mod ExampleCertificates
-pub mod Examples
-pub mod Laws
-pub mod WaitingLines

@@ -1,0 +1,12 @@
+pub mod CertificateExamples
+pub mod CertificateLaws
+pub mod CertificateLines
+pub mod DefinitionLaws
+pub mod FoundCertificates
+pub mod JudgedCertificates
+pub mod LimitLaws
+pub mod ModuleCertificates
+pub mod ModuleExamples
+pub mod ModuleLimits
+pub mod RuleExamples
+pub mod TextLimits

@@ -1,5 +1,0 @@
-use Rattle.cc_certificate_reading.proofs.WorkedCertificates.{identity_certified, wrong_type}
-use Rattle.cc_certificate_reading.proofs.laws.worked_certificates.Goals as goal
-
-pub returns : goal.returns
-returns c = record { identity = identity_certified; wrong_type = wrong_type }

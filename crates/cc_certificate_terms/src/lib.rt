@@ -1,5 +1,0 @@
-//! Reading the terms of certificates.
-#![tactic(auto)]
-
-pub mod literals;
-pub mod terms;

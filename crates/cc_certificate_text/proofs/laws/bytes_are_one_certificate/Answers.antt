@@ -1,5 +1,0 @@
-use Rattle.cc_certificate_text.proofs.Certified.{one_certificate}
-use Rattle.cc_certificate_text.proofs.laws.bytes_are_one_certificate.Goals as goal
-
-pub returns : goal.returns
-returns c = one_certificate

@@ -1,4 +1,0 @@
-pub mod GatheredSets
-pub mod Positions
-pub mod Rooms
-pub mod WordTurns

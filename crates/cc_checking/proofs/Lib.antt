@@ -1,0 +1,3 @@
+pub mod ComputedChecks
+pub mod ComputedExamples
+pub mod ShapeEquality

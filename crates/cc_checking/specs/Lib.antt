@@ -1,0 +1,12 @@
+pub mod Avoidance
+pub mod CanonicalDerivations
+pub mod Comparison
+pub mod ComparisonExamples
+pub mod DerivationSizes
+pub mod ExampleChecks
+pub mod Exposing
+pub mod Fillings
+pub mod Inference
+pub mod Outcomes
+pub mod Verdicts
+pub mod Weights

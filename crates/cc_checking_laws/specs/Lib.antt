@@ -1,0 +1,11 @@
+pub mod AcceptedDefinitions
+pub mod CanonicalLaws
+pub mod CheckingLaws
+pub mod ExampleDefinitions
+pub mod ExampleDerivations
+pub mod ExampleVerdicts
+pub mod ExistenceLaws
+pub mod FillingLaws
+pub mod InferenceLaws
+pub mod RepetitionLaws
+pub mod StayingLaws

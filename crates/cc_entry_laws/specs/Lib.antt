@@ -1,0 +1,10 @@
+pub mod EntryLaws
+pub mod ExampleEntries
+pub mod ExampleFiles
+pub mod LinkOrders
+pub mod LinkedModules
+pub mod PresentEntries
+pub mod PresentFiles
+pub mod PresentLinkExamples
+pub mod PresentLinkLaws
+pub mod PresentLinks

@@ -1,0 +1,5 @@
+use Rattle.cc_explain.proofs.Computed.{first_chains_exist}
+use Rattle.cc_explain.proofs.chain_laws.first_chains_exist.Goals as goal
+
+pub returns : goal.returns
+returns c = first_chains_exist

@@ -1,5 +1,0 @@
-use Rattle.cc_explain.proofs.Computed.{chains_are_bounded}
-use Rattle.cc_explain.proofs.laws.chains_are_bounded.Goals as goal
-
-pub returns : goal.returns
-returns c = chains_are_bounded

@@ -1,5 +1,0 @@
-use Rattle.cc_graph.proofs.OrderLaws.{orders_are_unique}
-use Rattle.cc_graph.proofs.laws.orders_are_unique.Goals as goal
-
-pub returns : goal.returns
-returns c = orders_are_unique

@@ -1,5 +1,0 @@
-use Rattle.cc_graph.proofs.OrderExistence.{orders_exist}
-use Rattle.cc_graph.proofs.laws.orders_exist.Goals as goal
-
-pub returns : goal.returns
-returns c = orders_exist

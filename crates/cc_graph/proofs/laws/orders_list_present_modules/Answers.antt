@@ -1,5 +1,0 @@
-use Rattle.cc_graph.proofs.OrderLaws.{orders_list_present_modules}
-use Rattle.cc_graph.proofs.laws.orders_list_present_modules.Goals as goal
-
-pub returns : goal.returns
-returns c = orders_list_present_modules

@@ -1,5 +1,0 @@
-use Rattle.cc_graph.proofs.OrderLaws.{orders_put_imports_first}
-use Rattle.cc_graph.proofs.laws.orders_put_imports_first.Goals as goal
-
-pub returns : goal.returns
-returns c = orders_put_imports_first

@@ -1,2 +1,0 @@
-pub mod IndexedElements
-pub mod ReadCaptures

@@ -1,2 +1,0 @@
-pub mod Captures
-pub mod Claimed

@@ -1,5 +1,0 @@
-use Rattle.cc_job.proofs.ReadJobs.{job_or_bad_line}
-use Rattle.cc_job.proofs.laws.bytes_are_a_job_or_bad.Goals as goal
-
-pub returns : goal.returns
-returns c = job_or_bad_line

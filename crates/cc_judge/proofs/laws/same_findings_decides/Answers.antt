@@ -1,5 +1,0 @@
-use Rattle.cc_judge.proofs.FindingTests as tests
-use Rattle.cc_judge.proofs.laws.same_findings_decides.Goals as goal
-
-pub returns : goal.returns
-returns c = tests.same_findings_decides

@@ -1,6 +1,0 @@
-use Rattle.cc_meta_certificates.proofs.WholeTerms.{valid_are_whole}
-use Rattle.cc_meta_certificates.proofs.DefinitionCertificates.{accepted_have_certificates, definitions_are_read_back}
-use Rattle.cc_meta_certificates.proofs.laws.accepted_definitions_have_certificates.Goals as goal
-
-pub returns : goal.returns
-returns c = record { terms = valid_are_whole; certificates = accepted_have_certificates; read_back = definitions_are_read_back }

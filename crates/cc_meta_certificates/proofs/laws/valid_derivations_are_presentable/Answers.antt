@@ -1,6 +1,0 @@
-use Rattle.cc_meta_certificates.proofs.PresentableTypings.{valid_presentable}
-use Rattle.cc_meta_certificates.proofs.ValidCertificates.{valid_have_certificates}
-use Rattle.cc_meta_certificates.proofs.laws.valid_derivations_are_presentable.Goals as goal
-
-pub returns : goal.returns
-returns c = record { claims = valid_presentable; certificates = valid_have_certificates }

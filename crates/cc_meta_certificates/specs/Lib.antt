@@ -1,4 +1,0 @@
-pub mod CertificateExamples
-pub mod CertificateLaws
-pub mod CertificateLines
-pub mod DefinitionLaws

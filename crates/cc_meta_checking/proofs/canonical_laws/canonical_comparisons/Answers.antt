@@ -1,6 +1,0 @@
-use Rattle.cc_meta_checking.proofs.CanonicalSets.{set_derived_valid}
-use Rattle.cc_meta_checking.proofs.CanonicalShapes.{canonical_shapes_valid}
-use Rattle.cc_meta_checking.proofs.canonical_laws.canonical_comparisons.Goals as goal
-
-pub returns : goal.returns
-returns c = record { sets = set_derived_valid; shapes = canonical_shapes_valid }

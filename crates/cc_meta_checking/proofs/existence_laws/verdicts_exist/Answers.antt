@@ -1,6 +1,0 @@
-use Rattle.cc_meta_checking.proofs.ForcedElements.{least_exists}
-use Rattle.cc_meta_checking.proofs.VerdictsExist.{has_verdict}
-use Rattle.cc_meta_checking.proofs.existence_laws.verdicts_exist.Goals as goal
-
-pub returns : goal.returns
-returns c = record { fillings = least_exists; verdicts = has_verdict }

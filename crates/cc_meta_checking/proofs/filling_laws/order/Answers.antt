@@ -1,5 +1,0 @@
-use Rattle.cc_meta_checking.proofs.Reordering.{order_does_not_matter}
-use Rattle.cc_meta_checking.proofs.filling_laws.order.Goals as goal
-
-pub returns : goal.returns
-returns c = order_does_not_matter

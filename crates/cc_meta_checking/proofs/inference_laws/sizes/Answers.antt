@@ -1,5 +1,0 @@
-use Rattle.cc_meta_checking.proofs.InferredSizes.{not_too_large}
-use Rattle.cc_meta_checking.proofs.inference_laws.sizes.Goals as goal
-
-pub returns : goal.returns
-returns c = not_too_large

@@ -1,7 +1,0 @@
-//! Inference repeated. The functions do nothing.
-ghost use Rattle.cc_meta_checking.specs.RepetitionLaws as law;
-
-/// The completed and filled term is inferred again, with the filled type, and all that is then asked holds.
-pub fn filled_terms()
-    ensures { law.FilledTermsAreInferredAgain }
-{}

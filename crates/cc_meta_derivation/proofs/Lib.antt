@@ -1,4 +1,0 @@
-pub mod BecomingTerms
-pub mod FoundAgain
-pub mod Staying
-pub mod StayingDefinitions

@@ -1,5 +1,0 @@
-use Rattle.cc_meta_entries.proofs.WorkedEntries.{main_has_its_entry, numbers_have_none}
-use Rattle.cc_meta_entries.proofs.examples.entries.Goals as goal
-
-pub returns : goal.returns
-returns c = record { entry = main_has_its_entry; none = numbers_have_none }

@@ -1,5 +1,0 @@
-pub mod EntryLaws
-pub mod ExampleEntries
-pub mod LinkOrders
-pub mod LinkedModules
-pub mod PresentEntries

@@ -1,5 +1,0 @@
-pub mod DefinitionCodes
-pub mod OtherCodes
-pub mod ShownVerdicts
-pub mod SoundFiles
-pub mod WorkedFiles

@@ -1,2 +1,0 @@
-pub mod ExampleFiles
-pub mod PresentFiles

@@ -1,5 +1,0 @@
-use Rattle.cc_meta_judging.proofs.FoundValid.{tree_back, tree_of_definition_back}
-use Rattle.cc_meta_judging.proofs.laws.trees_are_read_back.Goals as goal
-
-pub returns : goal.returns
-returns c = record { written = tree_back; definitions = tree_of_definition_back }

@@ -1,5 +1,0 @@
-use Rattle.cc_meta_limits.proofs.LowDefinitions.{accepted_low, heights_kept, literals_kept, signatures_low}
-use Rattle.cc_meta_limits.proofs.laws.accepted_definitions_are_low.Goals as goal
-
-pub returns : goal.returns
-returns c = record { low = accepted_low; heights = heights_kept; literals = literals_kept; signatures = signatures_low }

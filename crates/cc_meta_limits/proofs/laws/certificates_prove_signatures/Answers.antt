@@ -1,5 +1,0 @@
-use Rattle.cc_meta_limits.proofs.FoundSignatures.{right_prove, present_prove, named_prove}
-use Rattle.cc_meta_limits.proofs.laws.certificates_prove_signatures.Goals as goal
-
-pub returns : goal.returns
-returns c = record { right = right_prove; present = present_prove; named = named_prove }

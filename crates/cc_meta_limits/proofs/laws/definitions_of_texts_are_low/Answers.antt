@@ -1,5 +1,0 @@
-use Rattle.cc_meta_limits.proofs.TextDefinitions.{definitions_of_texts_low, imports_of_texts_named}
-use Rattle.cc_meta_limits.proofs.laws.definitions_of_texts_are_low.Goals as goal
-
-pub returns : goal.returns
-returns c = record { definitions = definitions_of_texts_low; imports = imports_of_texts_named }

@@ -1,5 +1,0 @@
-use Rattle.cc_meta_limits.proofs.EveryRule.{generic_is_written, control_is_written}
-use Rattle.cc_meta_limits.proofs.laws.every_rule_is_written.Goals as goal
-
-pub returns : goal.returns
-returns c = record { generic = generic_is_written; control = control_is_written }

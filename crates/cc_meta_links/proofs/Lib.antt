@@ -1,4 +1,0 @@
-pub mod Linked
-pub mod Positions
-pub mod Reached
-pub mod Worked

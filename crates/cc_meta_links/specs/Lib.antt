@@ -1,3 +1,0 @@
-pub mod PresentLinks
-pub mod Laws
-pub mod Examples

@@ -1,5 +1,0 @@
-use Rattle.cc_meta_modules.proofs.ModuleVerdictLaws.{accepted_modules_are_sound}
-use Rattle.cc_meta_modules.proofs.module_laws.accepted_modules.Goals as goal
-
-pub returns : goal.returns
-returns c = record { sound = accepted_modules_are_sound }

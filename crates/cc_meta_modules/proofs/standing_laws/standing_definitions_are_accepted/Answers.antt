@@ -1,5 +1,0 @@
-use Rattle.cc_meta_modules.proofs.PlacedDefinitions.{standing_accepted}
-use Rattle.cc_meta_modules.proofs.standing_laws.standing_definitions_are_accepted.Goals as goal
-
-pub returns : goal.returns
-returns c = standing_accepted

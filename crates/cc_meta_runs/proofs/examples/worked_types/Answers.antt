@@ -1,5 +1,0 @@
-use Rattle.cc_meta_runs.proofs.WorkedTypes.{leaving_at_once_is_typed}
-use Rattle.cc_meta_runs.proofs.examples.worked_types.Goals as goal
-
-pub returns : goal.returns
-returns c = leaving_at_once_is_typed

@@ -1,6 +1,0 @@
-use Rattle.cc_meta_runs.proofs.InterleavedTasks.{devices_have_histories}
-use Rattle.cc_meta_runs.proofs.TasksApart.{tasks_apart_run_as_alone}
-use Rattle.cc_meta_runs.proofs.interleavings.tasks_share_devices_alone.Goals as goal
-
-pub returns : goal.returns
-returns c = record { histories = devices_have_histories; alone = tasks_apart_run_as_alone }

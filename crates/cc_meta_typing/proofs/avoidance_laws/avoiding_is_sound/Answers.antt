@@ -1,9 +1,0 @@
-use Rattle.cc_meta_typing.proofs.Avoiding.{positive_above, negative_below}
-use Rattle.cc_meta_typing.proofs.avoidance_laws.avoiding_is_sound.Goals as goal
-
-pub returns : goal.returns
-returns c =
-    record {
-      positive = positive_above;
-      negative = negative_below;
-    }

@@ -1,5 +1,0 @@
-use Rattle.cc_meta_typing.proofs.WorkedExamples.{results_are_under_the_right_parameter}
-use Rattle.cc_meta_typing.proofs.examples.results_of_functions.Goals as goal
-
-pub returns : goal.returns
-returns c = results_are_under_the_right_parameter

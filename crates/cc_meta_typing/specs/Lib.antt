@@ -1,9 +1,0 @@
-pub mod AvoidanceLaws
-pub mod ContextMapLaws
-pub mod ContextMaps
-pub mod Examples
-pub mod ExposingLaws
-pub mod Inversion
-pub mod MappedTyping
-pub mod SubtypingLaws
-pub mod TypingLaws

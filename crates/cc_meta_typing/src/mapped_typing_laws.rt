@@ -1,8 +1,0 @@
-//! Typing along maps of contexts. The functions do nothing.
-ghost use Rattle.cc_meta_typing.specs.MappedTyping as law;
-
-/// Typing is kept along each map of contexts, and so by renaming.
-pub fn maps_keep_typing()
-    ensures maps { law.TypingAlongMaps }
-    ensures renames { law.TypingRenames }
-{}

@@ -1,4 +1,0 @@
-pub mod Rows
-pub mod Broken
-pub mod ValidityLaws
-pub mod ValidityExamples

@@ -1,4 +1,0 @@
-mod EarlierEntries
-mod Listed
-pub mod NumberedEntries
-mod Turned

@@ -1,3 +1,0 @@
-pub mod ModuleLinks
-pub mod EntryLists
-pub mod Laws

@@ -1,5 +1,0 @@
-use Rattle.cc_policy.proofs.Deciding.{rules_decide}
-use Rattle.cc_policy.proofs.laws.rules_decide.Goals as goal
-
-pub returns : goal.returns
-returns c = rules_decide

@@ -1,5 +1,0 @@
-use Rattle.cc_policy.proofs.Deciding.{rules_decide_once}
-use Rattle.cc_policy.proofs.laws.rules_decide_once.Goals as goal
-
-pub returns : goal.returns
-returns c = rules_decide_once

@@ -1,2 +1,0 @@
-pub mod AlikePlaces
-pub mod ReadTerms

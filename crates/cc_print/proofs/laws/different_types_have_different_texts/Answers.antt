@@ -1,5 +1,0 @@
-use Rattle.cc_print.proofs.TypeTextLaws.{different_types}
-use Rattle.cc_print.proofs.laws.different_types_have_different_texts.Goals as goal
-
-pub returns : goal.returns
-returns c = different_types

@@ -1,5 +1,0 @@
-use Rattle.cc_replay.proofs.WorkedReplays as worked
-use Rattle.cc_replay.proofs.examples.answers_come_from_lines.Goals as goal
-
-pub returns : goal.returns
-returns c = worked.answers_come_from_lines

@@ -1,5 +1,0 @@
-use Rattle.cc_replay.proofs.WorkedReplays as worked
-use Rattle.cc_replay.proofs.examples.fuel_is_counted.Goals as goal
-
-pub returns : goal.returns
-returns c = worked.fuel_is_counted

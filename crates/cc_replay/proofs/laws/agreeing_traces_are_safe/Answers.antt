@@ -1,5 +1,0 @@
-use Rattle.cc_replay.proofs.SafeTraces.{agreeing_traces_are_safe}
-use Rattle.cc_replay.proofs.laws.agreeing_traces_are_safe.Goals as goal
-
-pub returns : goal.returns
-returns c = agreeing_traces_are_safe

@@ -1,5 +1,0 @@
-use Rattle.cc_replay.proofs.FirstDifferences.{replays_differ_first}
-use Rattle.cc_replay.proofs.laws.replays_differ_first.Goals as goal
-
-pub returns : goal.returns
-returns c = replays_differ_first

@@ -1,5 +1,0 @@
-use Rattle.cc_replay.proofs.ReplayedRuns.{runs_are_replayed}
-use Rattle.cc_replay.proofs.laws.runs_are_replayed.Goals as goal
-
-pub returns : goal.returns
-returns c = runs_are_replayed

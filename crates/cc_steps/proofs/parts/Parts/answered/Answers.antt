@@ -1,5 +1,0 @@
-use Rattle.cc_steps.proofs.Answering.{popped_goes}
-use Rattle.cc_steps.proofs.parts.Parts.answered.Goals as goal
-
-pub returns-in-Some : goal.returns-in-Some
-returns-in-Some c = popped_goes c.requires.linked c.in-Some.ensures c.answer.ensures

@@ -1,0 +1,5 @@
+use Rattle.cc_type.proofs.ComparedAgain.{compared_again}
+use Rattle.cc_type.proofs.keeping_laws.compared_again.Goals as goal
+
+pub returns : goal.returns
+returns c = compared_again

@@ -1,5 +1,0 @@
-use Rattle.cc_type.proofs.ComparedAgain.{compared_again}
-use Rattle.cc_type.proofs.laws.compared_again.Goals as goal
-
-pub returns : goal.returns
-returns c = compared_again

@@ -1,5 +1,0 @@
-use Rattle.cc_type.proofs.KeptDemands.{test_of_sets_decides}
-use Rattle.cc_type.proofs.laws.test_of_sets.Goals as goal
-
-pub returns : goal.returns
-returns c = test_of_sets_decides

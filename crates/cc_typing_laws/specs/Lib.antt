@@ -1,0 +1,9 @@
+pub mod AvoidanceLaws
+pub mod ContextMapLaws
+pub mod ContextMaps
+pub mod ExposingLaws
+pub mod Inversion
+pub mod MappedTyping
+pub mod SubtypingLaws
+pub mod TypingExamples
+pub mod TypingLaws
