@@ -8,7 +8,7 @@
 # it. It fails where there is no program, where an answer is wrong, where the first check of the modules that import 2,700
 # definitions takes more than 150 ms, or 20 edits beside them, with that check, more than 600 ms. Where another program is
 # named that does the same, it is measured too, and it fails where an ordinary job takes more than twice as long as by that.
-# Build the program first: cd crates/capc && rt run
+# Build the program first: cd crates/capc && rt run < stdin
 # Usage: bench/jobs.sh [PROGRAM [RUNS [OTHER]]]
 set -u
 program=${1:-$(dirname "$0")/../crates/capc/out/capc}

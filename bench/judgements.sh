@@ -3,7 +3,7 @@
 # in a check behind an edit of the module in the middle that leaves its signature. The counts are calls of the built
 # program's function that judges a module that is read, as valgrind sees them. It fails where there is no program, where
 # valgrind is missing, and where another number of modules is judged than are stale.
-# Build the program first: cd crates/capc && rt run
+# Build the program first: cd crates/capc && rt run < stdin
 # Usage: bench/judgements.sh [PROGRAM]
 set -u
 program=${1:-$(dirname "$0")/../crates/capc/out/capc}

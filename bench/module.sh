@@ -1,7 +1,7 @@
 #!/usr/bin/env bash
 # Measures how long the built program takes for a module of 4,096 bytes, in microseconds a run, the start of the process
 # among them. It fails where there is no program, or where a run answers anything but that the module is accepted.
-# Build the program first: cd crates/capc && rt run < ../../examples/accepted.job
+# Build the program first: cd crates/capc && rt run < stdin
 # Usage: bench/module.sh [PROGRAM [RUNS]]
 set -u
 program=${1:-$(dirname "$0")/../crates/capc/out/capc}

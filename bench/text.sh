@@ -2,7 +2,7 @@
 # Measures how long the built program takes for texts of the greatest length, 65,536 bytes, and of half of it, in
 # milliseconds a run, the start of the process among them: spaces, one long comment, 99 nested parentheses again and
 # again, and sums of 99 additions again and again. It fails where there is no program or a wrong answer.
-# Build the program first: cd crates/capc && rt run < ../../examples/accepted.job
+# Build the program first: cd crates/capc && rt run < stdin
 # Usage: bench/text.sh [PROGRAM [RUNS]]
 set -u
 program=${1:-$(dirname "$0")/../crates/capc/out/capc}

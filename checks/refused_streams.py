@@ -5,10 +5,10 @@
   is a front of the whole text, which is longer for each later write.
 - Where a message is refused, status and text are the same, and only a piece of what is told is missing, or nothing.
 - Where each call moves one byte, or seven, the answer is the same.
-A read or a write is refused by an error of the device, and by a signal that interrupts it: none is tried again. The programs that
-are run are the built ones; the refusals come from a library in C that is laid before the C library (refusing.c), which gcc
-builds. The jobs and certificates are those that are named, or else the examples; workloads and bad words are tried besides.
-It prints a line for each wrong answer and then one for each run.
+A read or a write is refused by an error of the device, and by a signal that interrupts it: none is tried again. The
+programs that are run are the built ones; the refusals come from a library in C that is laid before the C library
+(refusing.c), which gcc builds. The jobs and certificates are those that are named, or else the examples; workloads and bad
+words are tried besides. It prints a line for each wrong answer and then one for each run.
 
 Usage: python3 checks/refused_streams.py [--most N] [--capc PROGRAM] [--certify PROGRAM] [FILE ..]
 """

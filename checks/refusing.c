@@ -1,7 +1,8 @@
 // Laid before the C library (LD_PRELOAD), this refuses one call: of the kind that stands in KIND (memory: of the allocator;
 // input, output, message: of the stream), the one whose number stands in REFUSED, counted from 1 behind the start of the
 // program. A stream refuses by the error whose number stands in ERROR; with none it moves nothing. Where MOST has a number,
-// a call moves at most so many bytes. At the end it writes how many calls of the kind there were to the file named in COUNTED.
+// a call moves at most so many bytes. At the end it writes how many calls of the kind there were to the file that COUNTED
+// names.
 #include <errno.h>
 #include <stddef.h>
 #include <stdio.h>
