@@ -1,4 +1,4 @@
-//! The laws that checking a definition stands on, apart from any code. The functions do nothing; each has a law as its
+//! The laws of what is kept of all that is asked, apart from any code. The functions do nothing; each has a law as its
 //! contract.
 ghost use Rattle.cc_type.specs.ComparedAgain.{ComparedAgain, ComparedEmbedded, SettledEmbedded};
 ghost use Rattle.cc_type.specs.FilledHoles as holes;

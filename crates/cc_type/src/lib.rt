@@ -1,4 +1,5 @@
-//! Inference of a term: its type, the completed term, and a log of what is asked.
+//! The comparison of shapes and types, and inference of a term: its type, the completed term, and a log of what is asked
+//! and may still decide.
 #![tactic(auto)]
 
 pub mod comparing;
