@@ -1,23 +1,21 @@
 #!/usr/bin/env python3
-"""Runs `rt ci`, and takes down what processor time each crate's proof, tests and edits took.
+"""Looks on while `rt ci` runs, and takes down what processor time each crate's proof, tests and edits took.
 
-The output and the exit status are those of `rt ci`. While it runs, each check that it has started is looked at five times a
-second for its time so far; what came behind the last look is not seen. A check that works in its crate's folder is one of
-the proof, or of the tests where it says so; any other is one of the edits: also that of the crate as it stands, with which
-its edits begin. What is left of the whole run, `rt` itself, linking and the runs of tests, is no crate's: a hundredth of it.
+Each check that `rt ci` has started is looked at five times a second for its time so far; what came behind the last look is
+not seen. A check that works in its crate's folder is one of the proof, or of the tests where it says so; any other is one of
+the edits: also that of the crate as it stands, with which its edits begin. What is left of the whole run, `rt` itself, linking
+and the runs of tests, is no crate's: a hundredth of it. Nothing of the run depends on this script.
 
 Crates that it proved get new lines in out/minutes.txt. For one that it took from an earlier run the line is kept, with what
 was tried of its edits in this run where that took longer.
 
-Usage: .ci/minutes.py [WORD ..]   runs `rt ci` with the words
-       .ci/minutes.py --write     writes the table of docs/developing.md from out/minutes.txt
+Usage: .ci/minutes.py SHELL     waits for an `rt ci` that the process of this number starts, and looks on until that ends
+       .ci/minutes.py --write   writes the table of docs/developing.md from out/minutes.txt
 """
 import collections
 import contextlib
 import glob
 import os
-import signal
-import subprocess
 import sys
 import time
 
@@ -36,16 +34,34 @@ def text(path):
         return file.read()
 
 
+def children(process):
+    """The numbers of the processes that this one has started."""
+    numbers = []
+    for file in glob.glob(f"/proc/{process}/task/*/children"):
+        with contextlib.suppress(OSError):  # it has ended
+            numbers += text(file).split()
+    return numbers
+
+
+def started(shell):
+    """The number of the `rt ci` that the shell has started, if there is one."""
+    for number in children(shell):
+        with contextlib.suppress(OSError):  # it has ended
+            words = text(f"/proc/{number}/cmdline").split("\0")
+            if "ci" in words and "rt" in map(os.path.basename, words):
+                return number
+    return None
+
+
 def looked_at(run, kinds, times):
     """Takes down the time so far of each check that the run has started, and of the children of these that have ended."""
-    for children in glob.glob(f"/proc/{run.pid}/task/*/children"):
-        for number in text(children).split():
-            with contextlib.suppress(OSError, IndexError):  # it has ended
-                # (a name between brackets stands before the fields, and may have spaces)
-                fields = text(f"/proc/{number}/stat").rpartition(")")[2].split()
-                process = number, fields[19]  # with the moment when it began: numbers are used again
-                kinds[process] = kinds.get(process) or what(number)
-                times[process] = sum(map(int, fields[11:15])) / TICKS
+    for number in children(run):
+        with contextlib.suppress(OSError, IndexError):  # it has ended
+            # (a name between brackets stands before the fields, and may have spaces)
+            fields = text(f"/proc/{number}/stat").rpartition(")")[2].split()
+            process = number, fields[19]  # with the moment when it began: numbers are used again
+            kinds[process] = kinds.get(process) or what(number)
+            times[process] = sum(map(int, fields[11:15])) / TICKS
 
 
 def what(number):
@@ -59,20 +75,19 @@ def what(number):
     return crate, "tests" if "--test" in words else "proof"
 
 
-def measured(words):
-    """The exit status of `rt ci`, and the seconds of each crate and kind."""
-    run = subprocess.Popen(["rt", "ci", *words])
-    signal.signal(signal.SIGINT, signal.SIG_IGN)  # `rt` gets it too, and ends
-    signal.signal(signal.SIGTERM, lambda *_: run.terminate())
-    kinds, times, totals = {}, {}, collections.Counter()
-    while run.poll() is None:
-        with contextlib.suppress(OSError):
-            looked_at(run, kinds, times)
+def measured(shell):
+    """The seconds of each crate and kind, once the `rt ci` of the shell has ended."""
+    kinds, times, totals, run = {}, {}, collections.Counter(), None
+    while run is None and os.path.exists(f"/proc/{shell}"):
+        run = started(shell)
+        time.sleep(EACH)
+    while run is not None and run in children(shell):
+        looked_at(run, kinds, times)
         time.sleep(EACH)
     for process, kind in kinds.items():
         if kind:
             totals[kind] += times[process]
-    return run.returncode, totals
+    return totals
 
 
 def figures():
@@ -121,12 +136,12 @@ def main():
         with open(PAGE, "w", encoding="utf-8") as file:
             file.write(before + mark + "\n" + table() + "\n" + behind[end:])
         return 0
-    status, totals = measured(sys.argv[1:])
     try:
-        keep(totals)
+        keep(measured(sys.argv[1]))
     except (OSError, ValueError) as error:
         print(f"out/minutes.txt is not written: {error}", file=sys.stderr)
-    return status if status >= 0 else 128 - status
+        return 1
+    return 0
 
 
 if __name__ == "__main__":
