@@ -220,10 +220,46 @@ def chains_of_bounds_apart(count):
     return chains_of_bounds(count, '^{c}')
 
 
+def chains_of_own_binders(count, lower='w', upper='%s'):
+    """A chain of so many type parameters on each side, where the sets of each bound name parameters of the types that are
+    compared. In the end the lower set is compared with the empty one."""
+    text = 'def f=fun(c:Console^{cap})=>fun[X0<:(q:Unit)->(z:Int)->Int]=>fun[Y0<:Int]=>'
+    for at in range(1, count + 1):
+        takes = '(w:Unit)->X%d^{q}' % (at - 1)
+        text += 'fun[X%d<:(q:Unit)->(p:%s)->Int]=>' % (at, functions(takes, 2, 'Int'))
+        above = '(q:Unit)->(z:Y%d^{%s})->Int' % (at - 1, 'w' if at > 1 else lower)
+        text += 'fun[Y%d<:%s]=>' % (at, functions('(w:Unit)->(%s)^{w}' % above, 2, 'Int'))
+    upper = upper % ('(q:Unit)->(z:Y%d)->Int' % count)
+    return text + 'fun(x:X%d)=>val r:%s=x;unit\n' % (count, upper)
+
+
+def chains_of_own_binders_apart(count):
+    """The same where sets are not below each other in the end."""
+    return chains_of_own_binders(count, 'c')
+
+
+def chains_of_own_binders_beside_a_hole(count):
+    """The same beside an omitted set."""
+    return chains_of_own_binders(count, upper='(%s)^?')
+
+
+def chains_of_own_parameters(count):
+    """A chain of bounds of type parameters of the types that are compared."""
+    text = '[X0<:(z:Int)->Int]->[Y0<:Int]->'
+    for at in range(1, count + 1):
+        text += '[X%d<:(p:%s)->Int]->' % (at, functions('X%d' % (at - 1), 2, 'Int'))
+        text += '[Y%d<:%s]->' % (at, functions('(z:Y%d)->Int' % (at - 1), 2, 'Int'))
+    return 'def f=fun(x:%s(u:Unit)->X%d)=>val r:%s(u:Unit)->(z:Y%d)->Int=x;unit\n' % (text, count, text, count)
+
+
 TEXTS = [
     ('definitions', definitions, 5000, 5000),
     ('a chain of bounds', chains_of_bounds, 45, 1),
     ('the same where sets are apart', chains_of_bounds_apart, 45, 'E15'),
+    ('a chain of bounds that name own binders', chains_of_own_binders, 45, 1),
+    ('own binders where sets are apart', chains_of_own_binders_apart, 45, 'E15'),
+    ('own binders beside an omitted set', chains_of_own_binders_beside_a_hole, 45, 1),
+    ('a chain of bounds of own parameters', chains_of_own_parameters, 45, 1),
     ('98 vals inside one another', vals, 80, 80),
     ('comparisons of types of size 1,985', comparisons, 4200, 1),
     ('the same beside an omitted set', comparisons_beside_a_hole, 4200, 1),

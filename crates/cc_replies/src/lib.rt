@@ -1,5 +1,5 @@
-//! The text of replies to commands that put, remove and check modules, show signatures and certificates, run definitions,
-//! audit and guard them by a policy, and compare lines with runs of them.
+//! The text of replies to commands that put, remove and check modules, show and explain signatures, show and judge
+//! certificates, run definitions, audit and guard them by a policy, and compare lines with runs of them.
 #![tactic(auto)]
 
 pub mod certificates;

@@ -19,6 +19,7 @@ pub mod KeptExamples
 pub mod KeptLists
 pub mod KeptVerdicts
 pub mod KeptWalks
+pub mod KeyedPairs
 pub mod KnownSets
 pub mod LoggedDemands
 pub mod LostDemands

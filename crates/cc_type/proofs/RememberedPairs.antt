@@ -38,12 +38,12 @@ pub untrue : false ≡ true → ⊥
 untrue e = cc
 
 -- the test is the same for what comes again
-goes_again : (lost : Bool) → TestsAgain (goes lost)
-goes_again lost base passed formed to back undone stays moves more l r i =
-    settled-again base passed formed to back undone stays moves more l r i
-    || (lost && not (has_hole-renamed base passed formed to back undone stays moves r i))
+pub goes_again : (lost : Bool) → TestsAgain (goes lost)
+goes_again lost small real to back moves more l r i =
+    settled-again small real to back moves more l r i
+    || (lost && not (has_hole-renamed small real to back moves r i))
 
-older_formed : (passed base : Context) → IsWellFormedContext (passed ++ base) → IsWellFormedContext base
+pub older_formed : (passed base : Context) → IsWellFormedContext (passed ++ base) → IsWellFormedContext base
 older_formed [] base h = h
 older_formed (b ∷ passed) base h =
     older_formed passed base (and_parts (is_well_formed_entry (kinds_of (passed ++ base)) b) (is_well_formed_context (passed ++ base)) h).1
@@ -118,7 +118,7 @@ go_all (d ∷ ds) h =
     let both = and_parts (is_demand_settled d) (list_all is_demand_settled ds) h in
     and_from (goes false d) (list_all (goes false) ds) (or_left (is_demand_settled d) false both.0) (go_all ds both.1)
 
-told_keeps : (lost : Bool) (at : Place) (c : Comparison) (was is : Bool) (log : List Placed)
+pub told_keeps : (lost : Bool) (at : Place) (c : Comparison) (was is : Bool) (log : List Placed)
     → (lost ≡ true → has_lost log ≡ true) → (is ≡ true → (was ≡ true) × (lost ≡ false))
     → is_told (told (goes lost) c) ≡ true → Keeps false at c true was is log log
 told_keeps lost at Unfinished was is log l w h = untrue h
@@ -154,7 +154,7 @@ remembers lost base g v bound right steps formed on there named shape h =
     (and_from (is_well_formed_shape (kinds_of base) [] (TypeVariable v)) (is_well_formed_shape (kinds_of base) [] right) named shape)
     (subst (λ o. is_told o ≡ true) (told_alike lost base g v bound right steps formed on there named shape) h)
 
-settled_told : (at : Place) (c : Comparison) (was is : Bool) (before after : List Placed) → is ≡ true
+pub settled_told : (at : Place) (c : Comparison) (was is : Bool) (before after : List Placed) → is ≡ true
     → Keeps false at c true was is before after → is_told (told (goes false) c) ≡ true
 settled_told at Unfinished was is before after e k = absurd k
 settled_told at Mismatch was is before after e k = sym k
@@ -216,7 +216,7 @@ needless_go at log [] h = refl
 needless_go at log (d ∷ ds) h =
     and_from (goes true d) (list_all (goes true) ds) (needless_goes log d h.0) (needless_go at log ds h.1)
 
-lost_told : (at : Place) (c : Comparison) (was is : Bool) (before after : List Placed) → length after ≡ length before
+pub lost_told : (at : Place) (c : Comparison) (was is : Bool) (before after : List Placed) → length after ≡ length before
     → Keeps false at c true was is before after → is_told (told (goes true) c) ≡ true
 lost_told at Unfinished was is before after e k = absurd k
 lost_told at Mismatch was is before after e k = sym k
@@ -264,7 +264,7 @@ told_more lost g (Some bound) right few many h k =
     (λ none. untrue (subst (λ c. is_told (told (goes lost) c) ≡ true) none k))))
     k
 
-remembered_more : (lost : Bool) (g : Context) (v : Var) (right : Shape) (few many : ℕ) → few ≤ many
+pub remembered_more : (lost : Bool) (g : Context) (v : Var) (right : Shape) (few many : ℕ) → few ≤ many
     → is_remembered_as g lost few v right ≡ true → is_remembered_as g lost many v right ≡ true
 remembered_more lost g v right few many h k =
     let both = and_parts (is_well_formed_shape (kinds_of g) [] (TypeVariable v) && is_well_formed_shape (kinds_of g) [] right)

@@ -10,14 +10,15 @@ use Rattle.cc_core.specs.Contexts.{Context}
 use Rattle.cc_core.specs.Equality.{same_shape}
 use Rattle.cc_core.specs.Reading.{read_shape}
 use Rattle.cc_core.specs.Shapes.{Shape, TypeVariable}
-use Rattle.cc_core.specs.TermViews.{shape_of}
-use Rattle.cc_core.specs.WellFormed.{kinds_of, is_well_formed_shape, IsWellFormedSet}
+use Rattle.cc_core.specs.TermViews.{shape_of, context_of}
+use Rattle.cc_core.specs.WellFormed.{kinds_of, is_well_formed_context, is_well_formed_shape, IsWellFormedSet}
 use Rattle.cc_checking.specs.Comparison.{Demand, demanded, Comparison, Unfinished, Mismatch, Matches, bound_of}
 use Rattle.cc_checking.specs.Comparison.{bound_compared, by_form, comparison}
 use Rattle.cc_checking.specs.Outcomes.{IsBelow, Placed}
 use Rattle.cc_checking.specs.Inference.{demand_at}
 use Rattle.cc_type.specs.ComparedAgain.{told}
 use Rattle.cc_type.specs.Keeping.{has_hole, is_demand_settled, is_repeated, keeping}
+use Rattle.cc_type.specs.declared.keys.KeyedPair.{KeyedPair}
 use Rattle.cc_type.specs.declared.pairs.Pair.{Pair}
 
 -- The list with all that is asked then behind it: the whole of it, or what is not needless.
@@ -75,13 +76,24 @@ abbrev pub is_told : Option Bool → Bool
 is_told (Some all) = all
 is_told None = false
 
--- Whether a type variable and a shape are names and shapes of the context, and the comparison of the variable's bound
--- with the shape matches in so many steps, with demands that are not kept.
+-- whether the comparison of a type variable's bound with a shape matches in so many steps, with demands that are not
+-- kept
+abbrev pub is_matched : Context → Bool → ℕ → Var → Shape → Bool
+is_matched context lost steps variable right =
+    is_told (told (goes lost) (bound_compared (comparison steps) context (bound_of context variable) right))
+
+-- whether, besides, the type variable and the shape are a name and a shape of the context
 abbrev pub is_remembered_as : Context → Bool → ℕ → Var → Shape → Bool
 is_remembered_as context lost steps variable right =
     (is_well_formed_shape (kinds_of context) [] (TypeVariable variable) && is_well_formed_shape (kinds_of context) [] right)
-    && is_told (told (goes lost) (bound_compared (comparison steps) context (bound_of context variable) right))
+    && is_matched context lost steps variable right
 
 -- the same of a pair as it is stored
 abbrev pub is_remembered : Context → Pair → Bool
 is_remembered context pair = is_remembered_as context pair.lost pair.steps pair.variable (shape_of pair.right)
+
+-- The same of a pair that is stored with the entries that it goes by, where they stand on top of a base.
+abbrev pub is_keyed : Context → KeyedPair → Bool
+is_keyed base pair =
+    is_well_formed_context (context_of pair.entries ++ base)
+    && is_remembered_as (context_of pair.entries ++ base) pair.lost pair.steps pair.variable (shape_of pair.right.value)

@@ -1,6 +1,6 @@
-//! The laws that checking a definition stands on, apart from any code. The functions do nothing; each has a law as its
+//! The laws of what is kept of all that is asked, apart from any code. The functions do nothing; each has a law as its
 //! contract.
-ghost use Rattle.cc_type.specs.ComparedAgain.{ComparedAgain};
+ghost use Rattle.cc_type.specs.ComparedAgain.{ComparedAgain, ComparedEmbedded, SettledEmbedded};
 ghost use Rattle.cc_type.specs.FilledHoles as holes;
 ghost use Rattle.cc_type.specs.KeepingExamples as example;
 ghost use Rattle.cc_type.specs.KeepingLaws as keeping;
@@ -40,6 +40,12 @@ pub fn kept()
 /// A comparison that comes again where other binders were passed tells the same of what it demands.
 pub fn compared_again()
     ensures { ComparedAgain }
+{}
+
+/// So does one that comes again where the entries that it goes by stand elsewhere, and so does each demand.
+pub fn compared_embedded()
+    ensures compared { ComparedEmbedded }
+    ensures settled { SettledEmbedded }
 {}
 
 /// The greatest position is the greatest that is free; among globals it is that of a definition.

@@ -5,15 +5,19 @@ ghost use Rattle.std.specs.List.{list_all};
 ghost use Rattle.cc_core.specs.Contexts.{Context};
 ghost use Rattle.cc_core.specs.TermViews.{shape_of, context_of};
 ghost use Rattle.cc_type.specs.EndedDemands.{IsEndedIn, is_known_end};
-ghost use Rattle.cc_type.specs.KeptWalks.{IsKnown, is_remembered, is_remembered_as};
+ghost use Rattle.cc_core.specs.WellFormed.{IsWellFormedContext};
+ghost use Rattle.cc_type.specs.KeptWalks.{IsKnown, StandsOn, is_keyed, is_matched, is_remembered, is_remembered_as};
 
 use crate::ended::{EndedDemand, number_of};
+use crate::keys::{self, KeyedPair};
+use crate::names::Key;
 use crate::pairs::{Pair, is_among, pair_of};
 use crate::traces::trace_of;
 use cc_capture::{CapSet, Var};
 use cc_core::{Ctx, Shape};
 use std::alloc::{AllocError, Global};
 use std::collections::HashMap;
+use std::rc::Rc;
 
 // For so many places the ends of a set are known.
 const PLACES: usize = 64;
@@ -98,8 +102,12 @@ pub struct Known {
     // Where the last pair with a trace stands.
     pub last: HashMap<u64, usize>,
     pub sets: Vec<KnownEnds>,
+    // The pairs that name more than the base has, and where the last one with a trace stands.
+    pub keyed: Vec<KeyedPair>,
+    pub last_keyed: HashMap<u64, usize>,
     pub ghost known: { IsKnown (context_of base) left right },
     pub ghost remembered: { list_all (is_remembered (context_of base)) pairs.items ≡ true },
+    pub ghost matched: { list_all (is_keyed (context_of base)) keyed.items ≡ true },
     pub ghost ended: { list_all (is_known_end (context_of base)) sets.items ≡ true },
 }
 
@@ -115,6 +123,8 @@ impl Known {
             pairs: Vec::new(alloc),
             last: HashMap::new(alloc),
             sets: Vec::new(alloc),
+            keyed: Vec::new(alloc),
+            last_keyed: HashMap::new(alloc),
         }
     }
 
@@ -164,6 +174,74 @@ impl Known {
         match self.last.insert(trace, place) {
             Ok(_) => Ok(()),
             Err(_) => Err(AllocError),
+        }
+    }
+
+    /// Whether the variable and the shape of the context are remembered to match in so many steps, by their key.
+    pub(crate) fn matches_keyed(
+        &self,
+        alloc: Global,
+        ctx: &Ctx,
+        key: &Key,
+        variable: Var,
+        right: &Rc<Shape>,
+        steps: u32,
+        lost: bool,
+    ) -> Result<bool, AllocError>
+        requires context { IsWellFormedContext (context_of ctx.now) }
+        requires base { StandsOn (context_of self.now.base) (context_of ctx.now) }
+        ensures { IfOk result (λ b. IsTrue b → is_matched (context_of ctx.now) lost steps variable (shape_of right.now.value) ≡ true) }
+    {
+        let last = self.last_keyed.get(&key.trace).copied();
+        keys::is_among(
+            alloc,
+            self.keyed.as_slice(),
+            last,
+            &self.base,
+            ctx,
+            key.places.as_slice(),
+            variable,
+            right,
+            steps,
+            lost,
+        )
+    }
+
+    // Remembers the pair, by its trace.
+    fn add_keyed(&mut self, trace: u64, pair: KeyedPair) -> Result<(), AllocError>
+        requires { is_keyed (context_of self.old.base) pair ≡ true }
+        ensures { self.new.base ≡ self.old.base }
+    {
+        let place = self.keyed.len();
+        self.keyed.push(pair)?;
+        match self.last_keyed.insert(trace, place) {
+            Ok(_) => Ok(()),
+            Err(_) => Err(AllocError),
+        }
+    }
+
+    /// Remembers by their key that the variable and the shape of the context match in so many steps.
+    pub(crate) fn remember_keyed(
+        &mut self,
+        alloc: Global,
+        ctx: &Ctx,
+        key: &Key,
+        variable: Var,
+        right: &Rc<Shape>,
+        steps: u32,
+        lost: bool,
+    ) -> Result<(), AllocError>
+        requires context { IsWellFormedContext (context_of ctx.now) }
+        requires base { StandsOn (context_of self.old.base) (context_of ctx.now) }
+        requires matched { is_matched (context_of ctx.now) lost steps variable (shape_of right.now.value) ≡ true }
+        ensures { self.new.base ≡ self.old.base }
+    {
+        let before = self.last_keyed.get(&key.trace).copied();
+        match keys::pair_of(
+            alloc, &self.base, ctx, key, variable, right, steps, lost, before,
+        )? {
+            Some(pair) => self.add_keyed(key.trace, pair),
+            None => Ok(()),
         }
     }
 

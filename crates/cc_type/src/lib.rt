@@ -1,4 +1,5 @@
-//! Inference of a term: its type, the completed term, and a log of what is asked.
+//! The comparison of shapes and types, and inference of a term: its type, the completed term, and a log of what is asked
+//! and may still decide.
 #![tactic(auto)]
 
 pub mod comparing;
@@ -12,9 +13,11 @@ mod heads;
 pub mod infer;
 pub mod instances;
 pub mod keeping_laws;
+mod keys;
 mod known;
 pub mod log;
 pub mod measures;
+mod names;
 pub mod operands;
 mod pairs;
 mod rows;

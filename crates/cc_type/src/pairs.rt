@@ -24,7 +24,7 @@ pub struct Pair {
 }
 
 // The same shape. Its parts are shared.
-fn copy(shape: &Shape) -> Result<Shape, AllocError>
+pub(crate) fn copy(shape: &Shape) -> Result<Shape, AllocError>
     ensures { IfOk result (λ s. shape_of s ≡ shape_of shape.now) }
 {
     match shape {

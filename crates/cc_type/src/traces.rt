@@ -56,6 +56,21 @@ fn number_of_base(base: Base) -> u32 {
     }
 }
 
+/// The number with a variable.
+pub(crate) fn with_variable(variable: Var, before: u64) -> u64 {
+    mixed(before, number_of(Elem::Var(variable)))
+}
+
+/// The number with a set.
+pub(crate) fn with_set(set: &CapSet, before: u64) -> u64 {
+    of_set(set, before)
+}
+
+/// The number with a shape.
+pub(crate) fn with_shape(shape: &Shape, before: u64) -> u64 {
+    of_shape(shape, before)
+}
+
 /// The number of a variable with a shape.
 pub(crate) fn trace_of(variable: Var, right: &Shape) -> u64 {
     of_shape(right, u64::from(number_of(Elem::Var(variable))))

@@ -3,7 +3,7 @@
 //! What matched with demands that need not be kept is remembered, and not gone through again. The same walk gives all
 //! that is demanded, where that is asked for.
 
-ghost use Rattle.std.specs.Prelude.{◌≡◌, ◌<◌, true, false, ◌&&◌, [], ◌∷◌, ◌++◌, length, IfOk, OnOk, Some, IsTrue};
+ghost use Rattle.std.specs.Prelude.{◌≡◌, ◌<◌, true, false, ◌&&◌, [], ◌∷◌, ◌++◌, length, IfOk, IfSome, OnOk, Some, IsTrue};
 ghost use Rattle.std.specs.Option.{unwrap_or};
 ghost use Rattle.cc_core.specs.Equality.{same_shape};
 ghost use Rattle.cc_core.specs.Reading as reading;
@@ -14,12 +14,14 @@ ghost use Rattle.cc_checking.specs.Comparison as plain;
 ghost use Rattle.cc_checking.specs.Comparison.{comparison, demanded};
 ghost use Rattle.cc_checking.specs.Inference.{demand_at, shape_in, type_in};
 ghost use Rattle.cc_subty.specs.Demands.{asked_of};
-ghost use Rattle.cc_type.specs.Keeping.{with_one, is_demand_settled};
-ghost use Rattle.cc_type.specs.KeptWalks.{put, Keeps, StandsOn, IsKnownAgain, form_compared, variable_compared};
+ghost use Rattle.cc_type.specs.Keeping.{with_one, is_demand_settled, has_lost};
+ghost use Rattle.cc_type.specs.KeptWalks.{put, Keeps, StandsOn, IsKnownAgain, form_compared, variable_compared, is_matched};
 ghost use Rattle.cc_type.specs.WholeLogs.{listed};
 
 use crate::demand_ends::ended;
+use crate::keys::read_right;
 use crate::log::{Log, has_hole, keep_below};
+use crate::names::{Key, key_of};
 use crate::steps::entries;
 use cc_base::place::Place;
 use cc_capture::{CapSet, Var};
@@ -270,6 +272,127 @@ fn keep_new(
     Ok(true)
 }
 
+// Whether it is remembered by their key that the variable and the shape of the context match: with demands that are
+// settled, or else, where something is lost, with such as need not be kept for that.
+fn known_again(
+    alloc: Global,
+    ctx: &Ctx,
+    variable: Var,
+    read: &Rc<Shape>,
+    steps: u32,
+    key: &Key,
+    log: &Log,
+) -> Result<Option<bool>, AllocError>
+    requires context { IsWellFormedContext (context_of ctx.now) }
+    requires base { StandsOn (context_of log.now.known.base) (context_of ctx.now) }
+    ensures matched { IfOk result (λ o. IfSome o (λ lost. is_matched (context_of ctx.now) lost steps variable (shape_of read.now.value) ≡ true)) }
+    ensures lost { IfOk result (λ o. IfSome o (λ lost. lost ≡ true → has_lost (asked_of log.now.demands) ≡ true)) }
+{
+    if log
+        .known
+        .matches_keyed(alloc, ctx, key, variable, read, steps, false)?
+    {
+        return Ok(Some(false));
+    }
+    if !log.is_lost() {
+        return Ok(None);
+    }
+    if log
+        .known
+        .matches_keyed(alloc, ctx, key, variable, read, steps, true)?
+    {
+        return Ok(Some(true));
+    }
+    Ok(None)
+}
+
+// Goes over the bound of a variable and a shape that name more than the base has, as `keep_new` does.
+#[cycle(walk)]
+fn keep_keyed(
+    alloc: Global,
+    ctx: &Ctx,
+    variable: Var,
+    bound: &Shape,
+    right: &Shape,
+    at: Place,
+    log: &mut Log,
+    steps: u32,
+    key: &Key,
+    read: &Rc<Shape>,
+) -> Result<bool, AllocError>
+    requires context { IsWellFormedContext (context_of ctx.now) }
+    requires right { IsWellFormedShape (context_of ctx.now) (shape_in (context_of ctx.now) (shape_of right.now)) }
+    requires base { StandsOn (context_of log.old.known.base) (context_of ctx.now) }
+    requires there { plain.bound_of (context_of ctx.now) variable ≡ Some (shape_of bound.now) }
+    requires read { shape_of read.now.value ≡ shape_in (context_of ctx.now) (shape_of right.now) }
+    ensures kept { IfOk result (λ m. Keeps false at (comparison steps (context_of ctx.now) (shape_in (context_of ctx.now) (shape_of bound.now)) (shape_in (context_of ctx.now) (shape_of right.now))) m log.old.settled log.new.settled (asked_of log.old.demands) (asked_of log.new.demands)) }
+    ensures base { log.new.known.base ≡ log.old.known.base }
+{
+    let settled = log.settled;
+    let count = log.demands.len();
+    log.settled = true;
+    let matched = keep_shapes(alloc, ctx, bound, right, at, log, steps, false)?;
+    if !matched {
+        return Ok(false);
+    }
+    let all = log.settled;
+    if all {
+        log.known
+            .remember_keyed(alloc, ctx, key, variable, read, steps, false)?;
+    } else if log.demands.len() == count {
+        log.known
+            .remember_keyed(alloc, ctx, key, variable, read, steps, true)?;
+    }
+    log.settled = settled && all;
+    Ok(true)
+}
+
+// Goes over the bound of a variable and a shape that name more than the base has, unless it is remembered that they
+// match.
+#[cycle(walk)]
+fn keep_own(
+    alloc: Global,
+    ctx: &Ctx,
+    variable: Var,
+    bound: &Shape,
+    right: &Shape,
+    at: Place,
+    log: &mut Log,
+    steps: u32,
+) -> Result<bool, AllocError>
+    requires context { IsWellFormedContext (context_of ctx.now) }
+    requires right { IsWellFormedShape (context_of ctx.now) (shape_in (context_of ctx.now) (shape_of right.now)) }
+    requires base { StandsOn (context_of log.old.known.base) (context_of ctx.now) }
+    requires there { plain.bound_of (context_of ctx.now) variable ≡ Some (shape_of bound.now) }
+    requires many { FEWER < steps }
+    ensures kept { IfOk result (λ m. Keeps false at (comparison steps (context_of ctx.now) (shape_in (context_of ctx.now) (shape_of bound.now)) (shape_in (context_of ctx.now) (shape_of right.now))) m log.old.settled log.new.settled (asked_of log.old.demands) (asked_of log.new.demands)) }
+    ensures base { log.new.known.base ≡ log.old.known.base }
+{
+    let read = read_right(alloc, right, entries(ctx))?;
+    let key = key_of(alloc, log.known.base.len(), ctx, variable, &read)?;
+    match known_again(alloc, ctx, variable, &read, steps, &key, log)? {
+        Some(lost) => {
+            if lost {
+                log.settled = false;
+                return Ok(true);
+            }
+            Ok(true)
+        }
+        None => keep_keyed(
+            alloc,
+            ctx,
+            variable,
+            bound,
+            right,
+            at,
+            log,
+            steps - FEWER,
+            &key,
+            &read,
+        ),
+    }
+}
+
 // Goes over the bound of the variable and the shape, unless it is remembered that they match.
 #[cycle(walk)]
 fn keep_bound(
@@ -294,10 +417,10 @@ fn keep_bound(
     }
     let name = Shape::TVar(variable);
     if !wf_shape(&log.known.base, &name) {
-        return keep_shapes(alloc, ctx, bound, right, at, log, steps, false);
+        return keep_own(alloc, ctx, variable, bound, right, at, log, steps);
     }
     if !wf_shape(&log.known.base, right) {
-        return keep_shapes(alloc, ctx, bound, right, at, log, steps, false);
+        return keep_own(alloc, ctx, variable, bound, right, at, log, steps);
     }
     if log.known.matches(variable, right, steps, false) {
         return Ok(true);

@@ -1,5 +1,6 @@
 use Rattle.std.proofs.Common.{◌≡◌, ◌-◌, length, true, false, Some, refl, sym, ap, ◌∙◌, subst, arith}
 use Rattle.std.proofs.lemmas.Bool.{and_parts}
+use Rattle.std.specs.Prelude.{IfSome}
 use Rattle.std.proofs.lemmas.List.{length-map}
 use Rattle.std.proofs.lemmas.Result.{IfOk-weaker}
 use Rattle.cc_core.specs.Equality.{same_shape}
@@ -10,10 +11,12 @@ use Rattle.cc_checking.specs.Comparison.{comparison, type_comparison}
 use Rattle.cc_checking.specs.Inference.{shape_in, type_in}
 use Rattle.cc_subty.specs.Demands.{demand_of, asked_of}
 use Rattle.cc_subty.specs.Parts.{is_variable}
-use Rattle.cc_type.specs.KeptWalks.{Keeps, is_remembered_as}
+use Rattle.cc_type.specs.Keeping.{has_lost}
+use Rattle.cc_type.specs.KeptWalks.{Keeps, StandsOn, is_matched, is_remembered_as}
 use Rattle.cc_type.specs.WholeLogs.{listed}
 use Rattle.cc_type.proofs.KeptWalks.{step_keeps, any_keeps, same_keeps, functions_kept, functions_parted, boxes_kept, variable_keeps}
 use Rattle.cc_type.proofs.KeptWalks.{type_functions_kept, type_functions_parted}
+use Rattle.cc_type.proofs.KeyedPairs.{matched_keeps, settled_matched, lost_matched}
 use Rattle.cc_type.proofs.KnownSets.{stands_same, stands_deeper}
 use Rattle.cc_type.proofs.RememberedPairs.{remembered_keeps, remembers_settled, remembers_lost, more_keep}
 use Rattle.cc_type.proofs.WalkedParts.{under_takes, gives_part, under_bound, result_part, bound_part, bound_read}
@@ -21,32 +24,6 @@ use Rattle.cc_type.proofs.walking.+walk.Goals as goal
 
 pub keep_bound-keep_shapes-requires : goal.keep_bound-keep_shapes-requires
 keep_bound-keep_shapes-requires t c =
-    let g = context_of c.args.ctx.now in (
-      omega arith,
-      (
-        c.requires.context,
-        (
-          bound_part g c.args.variable (shape_of c.args.bound.now) c.requires.context c.requires.there,
-          (c.requires.right, c.requires.base),
-        ),
-      ),
-    )
-
-pub keep_bound-keep_shapes-requires-then-not-wf_shape : goal.keep_bound-keep_shapes-requires-then-not-wf_shape
-keep_bound-keep_shapes-requires-then-not-wf_shape t c =
-    let g = context_of c.args.ctx.now in (
-      omega arith,
-      (
-        c.requires.context,
-        (
-          bound_part g c.args.variable (shape_of c.args.bound.now) c.requires.context c.requires.there,
-          (c.requires.right, c.requires.base),
-        ),
-      ),
-    )
-
-pub keep_bound-keep_shapes-requires-then-not-wf_shape-2 : goal.keep_bound-keep_shapes-requires-then-not-wf_shape-2
-keep_bound-keep_shapes-requires-then-not-wf_shape-2 t c =
     let g = context_of c.args.ctx.now in (
       omega arith,
       (
@@ -148,6 +125,98 @@ keep_functions-returns-clause-kept t c =
     log.settled mid.settled after.settled (listed c.args.whole log) (listed c.args.whole mid) (listed c.args.whole after)
     c.requires.apart c.in_ok-under.ensures first k)
     c.keep_types-2.ensures.kept
+
+pub keep_keyed-keep_shapes-requires : goal.keep_keyed-keep_shapes-requires
+keep_keyed-keep_shapes-requires t c =
+    let g = context_of c.args.ctx.now in (
+      omega arith,
+      (
+        c.requires.context,
+        (
+          bound_part g c.args.variable (shape_of c.args.bound.now) c.requires.context c.requires.there,
+          (c.requires.right, c.requires.base),
+        ),
+      ),
+    )
+
+pub keep_keyed-remember_keyed-requires : goal.keep_keyed-remember_keyed-requires
+keep_keyed-remember_keyed-requires t c =
+    let g = context_of c.args.ctx.now in
+    let log = c.args.log.now in
+    let after = c.keep_shapes.new.log in
+    let bound = shape_of c.args.bound.now in
+    let right = shape_of c.args.right.now in
+    let kept =
+    subst (λ m. Keeps false c.args.at (comparison c.args.steps g (shape_in g bound) (shape_in g right)) m true after.settled
+    (asked_of log.demands) (asked_of after.demands)) c.if-not-matched.false c.in_ok-matched.ensures.kept in
+    record {
+      context = c.requires.context;
+      base = subst (λ b. StandsOn (context_of b) g) (sym c.keep_shapes.ensures.base) c.requires.base;
+      matched =
+          settled_matched c.args.at g c.args.variable bound right (shape_of c.args.read.now.value) c.args.steps true
+          after.settled (asked_of log.demands) (asked_of after.demands) c.requires.context c.requires.there
+          c.requires.read c.if-all.true kept;
+    }
+
+pub keep_keyed-remember_keyed-requires-then-len-count : goal.keep_keyed-remember_keyed-requires-then-len-count
+keep_keyed-remember_keyed-requires-then-len-count t c =
+    let g = context_of c.args.ctx.now in
+    let log = c.args.log.now in
+    let after = c.keep_shapes.new.log in
+    let bound = shape_of c.args.bound.now in
+    let right = shape_of c.args.right.now in
+    let kept =
+    subst (λ m. Keeps false c.args.at (comparison c.args.steps g (shape_in g bound) (shape_in g right)) m true after.settled
+    (asked_of log.demands) (asked_of after.demands)) c.if-not-matched.false c.in_ok-matched.ensures.kept in
+    let same : length (asked_of after.demands) ≡ length (asked_of log.demands) =
+    length-map after.demands demand_of ∙ sym c.len.ensures ∙ c.if-len-count.true ∙ c.len-count.ensures
+    ∙ sym (length-map log.demands demand_of) in
+    record {
+      context = c.requires.context;
+      base = subst (λ b. StandsOn (context_of b) g) (sym c.keep_shapes.ensures.base) c.requires.base;
+      matched =
+          lost_matched c.args.at g c.args.variable bound right (shape_of c.args.read.now.value) c.args.steps true
+          after.settled (asked_of log.demands) (asked_of after.demands) c.requires.context c.requires.there
+          c.requires.read same kept;
+    }
+
+pub keep_own-returns-then-lost-clause-kept : goal.keep_own-returns-then-lost-clause-kept
+keep_own-returns-then-lost-clause-kept t c =
+    let log = c.args.log.now in
+    let g = context_of c.args.ctx.now in
+    let read = shape_of c.in_ok-read.read.value in
+    matched_keeps c.in-Some.lost c.args.at g c.args.variable (shape_of c.args.bound.now) (shape_of c.args.right.now) read
+    c.args.steps log.settled false (asked_of log.demands) c.requires.context c.requires.there
+    (c.in_ok-read.ensures ∙ ap (λ n. read_shape n (shape_of c.args.right.now)) c.entries.ensures)
+    (subst (λ o. IfSome o (λ lost. lost ≡ true → has_lost (asked_of log.demands) ≡ true)) c.in-Some.is
+    c.in_ok-lost.ensures.lost) (λ e. cc)
+    (subst (λ o. IfSome o (λ lost. is_matched g lost c.args.steps c.args.variable read ≡ true)) c.in-Some.is
+    c.in_ok-lost.ensures.matched)
+
+pub keep_own-returns-in-Some-clause-kept : goal.keep_own-returns-in-Some-clause-kept
+keep_own-returns-in-Some-clause-kept t c =
+    let log = c.args.log.now in
+    let g = context_of c.args.ctx.now in
+    let read = shape_of c.in_ok-read.read.value in
+    matched_keeps c.in-Some.lost c.args.at g c.args.variable (shape_of c.args.bound.now) (shape_of c.args.right.now) read
+    c.args.steps log.settled log.settled (asked_of log.demands) c.requires.context c.requires.there
+    (c.in_ok-read.ensures ∙ ap (λ n. read_shape n (shape_of c.args.right.now)) c.entries.ensures)
+    (subst (λ o. IfSome o (λ lost. lost ≡ true → has_lost (asked_of log.demands) ≡ true)) c.in-Some.is
+    c.in_ok-lost.ensures.lost) (λ e. (e, c.if-lost.false))
+    (subst (λ o. IfSome o (λ lost. is_matched g lost c.args.steps c.args.variable read ≡ true)) c.in-Some.is
+    c.in_ok-lost.ensures.matched)
+
+pub keep_own-returns-clause-kept : goal.keep_own-returns-clause-kept
+keep_own-returns-clause-kept t c =
+    let g = context_of c.args.ctx.now in
+    let log = c.args.log.now in
+    let after = c.keep_keyed.new.log in
+    IfOk-weaker c.keep_keyed.result _ _
+    (λ m k.
+    more_keep c.args.at (c.args.steps - 262144) c.args.steps g (shape_in g (shape_of c.args.bound.now))
+    (shape_in g (shape_of c.args.right.now)) m log.settled after.settled (asked_of log.demands) (asked_of after.demands)
+    (omega arith) k)
+    c.keep_keyed.ensures.kept
 
 pub keep_new-keep_shapes-requires : goal.keep_new-keep_shapes-requires
 keep_new-keep_shapes-requires t c =

@@ -11,13 +11,13 @@ abbrev pub decreases-keep_new : goal.decreases-keep_new
 decreases-keep_new l = 8 * l.steps + 1
 
 abbrev pub decreases-keep_bound : goal.decreases-keep_bound
-decreases-keep_bound l = 8 * l.steps + 2
+decreases-keep_bound l = 8 * l.steps + 3
 
 abbrev pub decreases-walk_bound : goal.decreases-walk_bound
-decreases-walk_bound l = 8 * l.steps + 3
+decreases-walk_bound l = 8 * l.steps + 4
 
 abbrev pub decreases-keep_variable : goal.decreases-keep_variable
-decreases-keep_variable l = 8 * l.steps + 4
+decreases-keep_variable l = 8 * l.steps + 5
 
 abbrev pub decreases-keep_boxes : goal.decreases-keep_boxes
 decreases-keep_boxes l = 8 * l.steps + 2
@@ -29,4 +29,10 @@ abbrev pub decreases-keep_functions : goal.decreases-keep_functions
 decreases-keep_functions l = 8 * l.steps + 2
 
 abbrev pub decreases-keep_form : goal.decreases-keep_form
-decreases-keep_form l = 8 * l.steps + 5
+decreases-keep_form l = 8 * l.steps + 6
+
+abbrev pub decreases-keep_own : goal.decreases-keep_own
+decreases-keep_own l = 8 * l.steps + 2
+
+abbrev pub decreases-keep_keyed : goal.decreases-keep_keyed
+decreases-keep_keyed l = 8 * l.steps + 1
