@@ -28,6 +28,7 @@ use cc_replies::signatures::names_of;
 use cc_session::refusals::{NoSuchModule, PutRefused};
 use cc_session::session::Session;
 use std::alloc::{AllocError, Global};
+use std::mem::forget;
 use std::sync::ledger::Ledger;
 
 // Puts the module in, whose name and text were copied, and writes the reply.
@@ -242,6 +243,9 @@ fn answer_all<'a, K: Sink, L: Ledger>(
 }
 
 /// Carries out the job, with a reply for each command. It answers whether a reply is a refusal.
+///
+/// The memory of the modules is not given back piece by piece: it goes back to the system with the program, which has
+/// nothing more to do then.
 pub fn carry_out<K: Sink, L: Ledger>(
     alloc: Global,
     job: Job,
@@ -261,7 +265,7 @@ pub fn carry_out<K: Sink, L: Ledger>(
     };
     let mut session = Session::new(alloc, devices.into_vec());
     let none = Policy::new(Vec::new(alloc));
-    answer_all(
+    let answer = answer_all(
         alloc,
         &names,
         &mut session,
@@ -269,5 +273,7 @@ pub fn carry_out<K: Sink, L: Ledger>(
         commands.as_slice(),
         sink,
         steps,
-    )
+    );
+    forget(session);
+    answer
 }
