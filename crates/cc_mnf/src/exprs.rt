@@ -9,8 +9,9 @@ ghost use Rattle.cc_mnf.specs.Elaboration as plain;
 ghost use Rattle.cc_mnf.specs.Operands as operands;
 ghost use Rattle.cc_mnf.specs.OperandViews.{operand_seen, placed_of};
 ghost use Rattle.cc_mnf.specs.ScopeViews.{scope_of};
-ghost use Rattle.cc_mnf.specs.StepAnswers.{Meets};
-ghost use Rattle.cc_parse.specs.Trees.{expr_syntax};
+ghost use Rattle.cc_mnf.specs.ElaboratedTypes.{elaborated_type};
+ghost use Rattle.cc_mnf.specs.StepAnswers.{Meets, MeetsWithoutHoles};
+ghost use Rattle.cc_parse.specs.Trees.{expr_syntax, type_syntax};
 
 use crate::operands::{
     Operand, behind, name_of, named, node, past, shape_start, start, variable_of, with_operand,
@@ -24,7 +25,7 @@ use crate::types::{
 };
 use cc_base::place::Place;
 use cc_core::{Form, Node, Note, Op, Operator, Ty, copy_literal};
-use cc_parse::tree::{ExprForm, ExprTree};
+use cc_parse::tree::{ExprForm, ExprTree, TypeTree};
 use std::alloc::{AllocError, Global};
 use std::rc::Rc;
 
@@ -92,6 +93,20 @@ fn telling(
     let before = past(&argument, variable_of(&receiver))?;
     let form = Form::Operate(operation, before, Some(variable_of(&argument)));
     with_operands(alloc, receiver, argument, form, at, start(x), start(y))
+}
+
+/// The type that an exit takes, which is written behind both operands.
+fn taken(
+    alloc: Global,
+    scope: &Scope,
+    x: &ExprTree,
+    y: &ExprTree,
+    takes: &TypeTree,
+) -> Result<Rc<Ty>, Stop>
+    ensures { MeetsWithoutHoles (λ t. type_of t.value) result (elaborated_type (operands.behind (operands.name_of (expr_syntax y.now)) (operands.behind (operands.name_of (expr_syntax x.now)) (scope_of scope.now))) (type_syntax takes.now)) }
+{
+    let outer = behind(scope, x);
+    elaborated_type(alloc, &behind(&outer, y), takes)
 }
 
 /// The way out of a boundary with a value.
@@ -239,10 +254,9 @@ pub fn elaborated(
             }
         }
         ExprForm::Leave(takes, x, y) => {
-            let outer = behind(&*scope, x);
-            let takes = elaborated_type(alloc, &behind(&outer, y), takes)?;
+            let takes = taken(alloc, scope, x, y, takes)?;
             let exit = operand(alloc, scope, x, holes)?;
-            let value = operand(alloc, &outer, y, holes)?;
+            let value = operand(alloc, &behind(&*scope, x), y, holes)?;
             Ok(leaving(alloc, takes, exit, value, at, x, y)?)
         }
         ExprForm::Repeat(x, y) => {

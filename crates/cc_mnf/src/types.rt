@@ -8,7 +8,7 @@ ghost use Rattle.cc_core.specs.TermViews.{shape_of, type_of, note_of};
 ghost use Rattle.cc_mnf.specs.ElaboratedTypes as plain;
 ghost use Rattle.cc_mnf.specs.ScopeViews.{scope_of};
 ghost use Rattle.cc_mnf.specs.StepAnswers.{Meets, MeetsWithoutHoles};
-ghost use Rattle.cc_parse.specs.Trees.{captures_syntax, elements_syntax, set_syntax, shape_syntax, type_syntax};
+ghost use Rattle.cc_parse.specs.Trees.{boxed_type_syntax, captures_syntax, elements_syntax, set_syntax, shape_syntax, type_syntax};
 
 use crate::scope::{Binder, Scope, visible_term, visible_type};
 use crate::stop::Stop;
@@ -175,8 +175,12 @@ pub fn elaborated_note(alloc: Global, scope: &Scope, ty: &TypeTree) -> Result<No
 }
 
 /// What is written for the type of a term, which may be nothing.
-pub fn optional_note(alloc: Global, scope: &Scope, written: &Option<TypeTree>) -> Result<Note, Stop>
-    ensures { MeetsWithoutHoles note_of result (plain.optional_note (scope_of scope.now) (option_map type_syntax written.now)) }
+pub fn optional_note(
+    alloc: Global,
+    scope: &Scope,
+    written: &Option<Box<TypeTree>>,
+) -> Result<Note, Stop>
+    ensures { MeetsWithoutHoles note_of result (plain.optional_note (scope_of scope.now) (option_map boxed_type_syntax written.now)) }
 {
     match written {
         None => Ok(Note::Absent),
@@ -185,8 +189,12 @@ pub fn optional_note(alloc: Global, scope: &Scope, written: &Option<TypeTree>) -
 }
 
 /// The same where a set that is written may not be omitted.
-pub fn optional_type(alloc: Global, scope: &Scope, written: &Option<TypeTree>) -> Result<Note, Stop>
-    ensures { MeetsWithoutHoles note_of result (plain.optional_type (scope_of scope.now) (option_map type_syntax written.now)) }
+pub fn optional_type(
+    alloc: Global,
+    scope: &Scope,
+    written: &Option<Box<TypeTree>>,
+) -> Result<Note, Stop>
+    ensures { MeetsWithoutHoles note_of result (plain.optional_type (scope_of scope.now) (option_map boxed_type_syntax written.now)) }
 {
     match written {
         None => Ok(Note::Absent),

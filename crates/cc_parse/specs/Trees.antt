@@ -78,16 +78,16 @@ abbrev mutual
   -- the expression at a place that is made so
   pub expr_form_syntax : Place → ExprForm → ExprSyntax
   expr_form_syntax at (exprs.Val' name written p right_at right q body_at body) =
-      ValExpr at name (option_map type_syntax written) (expr_form_syntax right_at right) (expr_form_syntax body_at body)
+      ValExpr at name (option_map boxed_type_syntax written) (expr_form_syntax right_at right) (expr_form_syntax body_at body)
   expr_form_syntax at (exprs.Fun' parameter takes p body_at body) =
-      FunExpr at parameter (type_syntax takes) (expr_form_syntax body_at body)
+      FunExpr at parameter (boxed_type_syntax takes) (expr_form_syntax body_at body)
   expr_form_syntax at (exprs.TFun' parameter bound p body_at body) =
-      TypeFunExpr at parameter (shape_syntax bound) (expr_form_syntax body_at body)
+      TypeFunExpr at parameter (boxed_shape_syntax bound) (expr_form_syntax body_at body)
   expr_form_syntax at (exprs.If' gives p test_at test q positive_at positive r negative_at negative) =
-      IfExpr at (type_syntax gives) (expr_form_syntax test_at test) (expr_form_syntax positive_at positive)
+      IfExpr at (boxed_type_syntax gives) (expr_form_syntax test_at test) (expr_form_syntax positive_at positive)
       (expr_form_syntax negative_at negative)
   expr_form_syntax at (exprs.Boundary' gives exit p body_at body) =
-      BoundaryExpr at (shape_syntax gives) exit (expr_form_syntax body_at body)
+      BoundaryExpr at (boxed_shape_syntax gives) exit (expr_form_syntax body_at body)
   expr_form_syntax at (exprs.Prim' operator p left_at left q right_at right) =
       OperatorExpr at operator (expr_form_syntax left_at left) (expr_form_syntax right_at right)
   expr_form_syntax at (exprs.Boxed' p content_at content) = BoxExpr at (expr_form_syntax content_at content)
@@ -96,14 +96,14 @@ abbrev mutual
   expr_form_syntax at (exprs.App' p function_at function q argument_at argument) =
       CallExpr at (expr_form_syntax function_at function) (expr_form_syntax argument_at argument)
   expr_form_syntax at (exprs.TApp' p function_at function argument) =
-      TypeCallExpr at (expr_form_syntax function_at function) (shape_syntax argument)
+      TypeCallExpr at (expr_form_syntax function_at function) (boxed_shape_syntax argument)
   expr_form_syntax at (exprs.Operate' operation p receiver_at receiver argument) =
       operation_syntax at operation (expr_form_syntax receiver_at receiver) (argument_syntax argument)
   expr_form_syntax at (exprs.Name name) = NameExpr at name
   expr_form_syntax at (exprs.Lit literal) = LiteralExpr at (literal_of literal)
   expr_form_syntax at (exprs.Paren' p inner_at inner) = ParenthesizedExpr at (expr_form_syntax inner_at inner)
   expr_form_syntax at (exprs.Leave' gives p exit_at exit q value_at value) =
-      ExitExpr at (type_syntax gives) (expr_form_syntax exit_at exit) (expr_form_syntax value_at value)
+      ExitExpr at (boxed_type_syntax gives) (expr_form_syntax exit_at exit) (expr_form_syntax value_at value)
   expr_form_syntax at (exprs.Repeat' p count_at count q function_at function) =
       RepeatExpr at (expr_form_syntax count_at count) (expr_form_syntax function_at function)
 
@@ -129,7 +129,7 @@ def_syntax def = record {
   own = def.own;
   name = def.name;
   name_at = def.name_at;
-  written = option_map type_syntax def.ty;
+  written = option_map boxed_type_syntax def.ty;
   right = expr_syntax def.right;
 }
 

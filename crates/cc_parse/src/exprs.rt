@@ -41,7 +41,7 @@ use crate::pieces::{begins_symbol, read_name, read_symbol, read_word};
 use crate::sets::read_captures;
 use crate::stop::{Reading, Stop};
 use crate::tree::{ExprForm, ExprTree};
-use crate::types::{read_boxed_shape, read_boxed_type, read_boxed_written, unboxed};
+use crate::types::{read_boxed_shape, read_boxed_type, read_boxed_written};
 use cc_base::literal::{Op, Operator};
 use cc_base::place::Place;
 use cc_lex::token::{Symbol, Token, Word};
@@ -79,11 +79,7 @@ fn read_val(alloc: Global, room: u32, at: Place, tokens: &[Token]) -> Reading<'_
     let (right, part, rest) = read_expr(alloc, room, 0, rest)?;
     let (_, spare, rest) = read_symbol(Symbol::Semicolon, spare.min(part), rest)?;
     let (body, part, rest) = read_expr(alloc, room, 0, rest)?;
-    let expr = node(
-        alloc,
-        at,
-        ExprForm::Val(name, unboxed(written), right, body),
-    )?;
+    let expr = node(alloc, at, ExprForm::Val(name, written, right, body))?;
     Ok((expr, spare.min(part), rest))
 }
 
@@ -100,11 +96,7 @@ fn read_fun(alloc: Global, room: u32, at: Place, tokens: &[Token]) -> Reading<'_
     let (_, spare, rest) = read_symbol(Symbol::Close, spare.min(part), rest)?;
     let (_, spare, rest) = read_symbol(Symbol::DoubleArrow, spare, rest)?;
     let (body, part, rest) = read_expr(alloc, room, 0, rest)?;
-    let expr = node(
-        alloc,
-        at,
-        ExprForm::Fun(parameter, Box::into_inner(takes), body),
-    )?;
+    let expr = node(alloc, at, ExprForm::Fun(parameter, takes, body))?;
     Ok((expr, spare.min(part), rest))
 }
 
@@ -126,11 +118,7 @@ fn read_type_fun(
     let (_, spare, rest) = read_symbol(Symbol::CloseBracket, spare.min(part), rest)?;
     let (_, spare, rest) = read_symbol(Symbol::DoubleArrow, spare, rest)?;
     let (body, part, rest) = read_expr(alloc, room, 0, rest)?;
-    let expr = node(
-        alloc,
-        at,
-        ExprForm::TFun(parameter, Box::into_inner(bound), body),
-    )?;
+    let expr = node(alloc, at, ExprForm::TFun(parameter, bound, body))?;
     Ok((expr, spare.min(part), rest))
 }
 
@@ -148,11 +136,7 @@ fn read_if(alloc: Global, room: u32, at: Place, tokens: &[Token]) -> Reading<'_,
     let (positive, part, rest) = read_expr(alloc, room, 0, rest)?;
     let (_, spare, rest) = read_word(Word::Else, spare.min(part), rest)?;
     let (negative, part, rest) = read_expr(alloc, room, 0, rest)?;
-    let expr = node(
-        alloc,
-        at,
-        ExprForm::If(Box::into_inner(gives), test, positive, negative),
-    )?;
+    let expr = node(alloc, at, ExprForm::If(gives, test, positive, negative))?;
     Ok((expr, spare.min(part), rest))
 }
 
@@ -173,11 +157,7 @@ fn read_boundary(
     let (exit, spare, rest) = read_name(spare, rest)?;
     let (_, spare, rest) = read_symbol(Symbol::DoubleArrow, spare, rest)?;
     let (body, part, rest) = read_expr(alloc, room, 0, rest)?;
-    let expr = node(
-        alloc,
-        at,
-        ExprForm::Boundary(Box::into_inner(gives), exit, body),
-    )?;
+    let expr = node(alloc, at, ExprForm::Boundary(gives, exit, body))?;
     Ok((expr, spare.min(part), rest))
 }
 
@@ -218,11 +198,7 @@ fn read_exit(alloc: Global, room: u32, at: Place, tokens: &[Token]) -> Reading<'
     let (_, spare, rest) = read_symbol(Symbol::Comma, spare.min(part), rest)?;
     let (value, part, rest) = read_expr(alloc, room, 0, rest)?;
     let (_, spare, rest) = read_symbol(Symbol::Close, spare.min(part), rest)?;
-    let expr = node(
-        alloc,
-        at,
-        ExprForm::Leave(Box::into_inner(gives), exit, value),
-    )?;
+    let expr = node(alloc, at, ExprForm::Leave(gives, exit, value))?;
     Ok((expr, spare, rest))
 }
 
@@ -336,7 +312,7 @@ fn read_type_argument(
     let at = expr.at;
     let (argument, part, rest) = read_boxed_shape(alloc, room, tokens)?;
     let (_, spare, rest) = read_symbol(Symbol::CloseBracket, spare.min(part), rest)?;
-    let expr = node(alloc, at, ExprForm::TApp(expr, Box::into_inner(argument)))?;
+    let expr = node(alloc, at, ExprForm::TApp(expr, argument))?;
     Ok((expr, spare, rest))
 }
 

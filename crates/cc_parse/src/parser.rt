@@ -24,7 +24,7 @@ use crate::levels::behind_first;
 use crate::pieces::{begins_word, read_placed_name, read_symbol, read_word};
 use crate::stop::{Reading, Stop};
 use crate::tree::{Def, Module};
-use crate::types::{read_boxed_type, read_boxed_written, unboxed};
+use crate::types::{read_boxed_type, read_boxed_written};
 use cc_base::code::{Code, Diag};
 use cc_base::literal::Import;
 use cc_base::place::Place;
@@ -84,7 +84,7 @@ fn read_plain_def(alloc: Global, tokens: &[Token]) -> Reading<'_, Def>
         own: false,
         name,
         name_at,
-        ty: unboxed(written),
+        ty: written,
         right: Box::into_inner(right),
     };
     Ok((def, spare.min(part), rest))
@@ -105,7 +105,7 @@ fn read_own_def(alloc: Global, tokens: &[Token]) -> Reading<'_, Def>
         own: true,
         name,
         name_at,
-        ty: Some(Box::into_inner(written)),
+        ty: Some(written),
         right: Box::into_inner(right),
     };
     Ok((def, spare.min(part), rest))

@@ -72,15 +72,15 @@ pub struct ExprTree {
 #[derive(Drop)]
 pub enum ExprForm {
     /// `val x = e; f` or `val x: T = e; f`
-    Val(Name, Option<TypeTree>, Box<ExprTree>, Box<ExprTree>),
+    Val(Name, Option<Box<TypeTree>>, Box<ExprTree>, Box<ExprTree>),
     /// `fun (x: T) => e`
-    Fun(Name, TypeTree, Box<ExprTree>),
+    Fun(Name, Box<TypeTree>, Box<ExprTree>),
     /// `fun [X <: S] => e`
-    TFun(Name, ShapeTree, Box<ExprTree>),
+    TFun(Name, Box<ShapeTree>, Box<ExprTree>),
     /// `if [T] e then f else g`
-    If(TypeTree, Box<ExprTree>, Box<ExprTree>, Box<ExprTree>),
+    If(Box<TypeTree>, Box<ExprTree>, Box<ExprTree>, Box<ExprTree>),
     /// `boundary [S] x => e`
-    Boundary(ShapeTree, Name, Box<ExprTree>),
+    Boundary(Box<ShapeTree>, Name, Box<ExprTree>),
     /// Two numbers with an operator between them.
     Prim(Operator, Box<ExprTree>, Box<ExprTree>),
     /// `box e`
@@ -90,7 +90,7 @@ pub enum ExprForm {
     /// `e(f)`
     App(Box<ExprTree>, Box<ExprTree>),
     /// `e[S]`
-    TApp(Box<ExprTree>, ShapeTree),
+    TApp(Box<ExprTree>, Box<ShapeTree>),
     /// An operation of a device, as `e.read()`, perhaps with an argument, as `e.print(f)`.
     Operate(Op, Box<ExprTree>, Option<Box<ExprTree>>),
     /// A name.
@@ -100,7 +100,7 @@ pub enum ExprForm {
     /// `(e)`
     Paren(Box<ExprTree>),
     /// `exit [T] (e, f)`
-    Leave(TypeTree, Box<ExprTree>, Box<ExprTree>),
+    Leave(Box<TypeTree>, Box<ExprTree>, Box<ExprTree>),
     /// `repeat (e, f)`
     Repeat(Box<ExprTree>, Box<ExprTree>),
 }
@@ -111,7 +111,7 @@ pub struct Def {
     pub own: bool,
     pub name: Name,
     pub name_at: Place,
-    pub ty: Option<TypeTree>,
+    pub ty: Option<Box<TypeTree>>,
     pub right: ExprTree,
 }
 

@@ -333,13 +333,3 @@ pub fn read_boxed_written(
         _ => Ok((None, spare, tokens)),
     }
 }
-
-/// The type out of its box, if there is one.
-pub fn unboxed(written: Option<Box<TypeTree>>) -> Option<TypeTree>
-    ensures { result ≡ option_map (λ tree. tree.value) written }
-{
-    match written {
-        Some(tree) => Some(Box::into_inner(tree)),
-        None => None,
-    }
-}
