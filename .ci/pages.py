@@ -52,8 +52,9 @@ def headings(page):
 
 
 def crates_in(text):
-    """The crates that a text names, between backticks or in a path."""
+    """The crates that a text names, between backticks or in a path. `capc` is also the call that stands in `cc_program`."""
     named = set(re.findall(r"[`/](\w+)(?=[`/])", text))
+    named |= {"cc_program"} if "capc" in named else set()
     return [crate for crate in CRATES if crate in named]
 
 
@@ -184,7 +185,7 @@ def check_clauses(page):
             if is_path(name) or name in CRATES or name in ("specs", "src"):
                 continue
             found = False
-            for crate in crates_in(line) or ["capc"]:
+            for crate in crates_in(line) or ["cc_program"]:
                 if crate not in texts:
                     files = glob.glob(os.path.join(TOP, f"crates/{crate}/s*/**/*.*t*"), recursive=True)
                     texts[crate] = "\n".join(read(os.path.relpath(file, TOP)) for file in files)

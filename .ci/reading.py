@@ -1,7 +1,7 @@
 #!/usr/bin/env python3
 """Which definitions the contracts of `capc` and `certify` rest on: what has to be believed, and nothing else.
 
-From the clauses of the function (`capc` of crates/capc/src/run.rt) each name is followed to the item that it stands for, from
+From the clauses of the function (`capc` of crates/cc_program/src/run.rt) each name is followed to the item that it stands for, from
 this item each name again, and so on. What is reached are items of the files in specs/, and types and traits of the program
 that stand in clauses as what they are. What the library `std` defines is followed no further. A word of an item that is the
 name of another item of its file, or of one that the file uses, is taken for that one: so too much may be reached, and never
@@ -22,7 +22,7 @@ import sys
 
 TOP = os.path.dirname(os.path.dirname(os.path.abspath(__file__)))
 PAGE = os.path.join(TOP, "docs", "reading.md")
-CAPC = ("crates/capc/src/run.rt", "capc")
+CAPC = ("crates/cc_program/src/run.rt", "capc")
 CERTIFY = ("crates/certify/src/run.rt", "certify")
 NAME = r"[^\s(){}\[\],;.]+"
 # functions of which a law says, of each value, that they give it exactly where a relation holds of it: the function, the law
@@ -374,7 +374,7 @@ def page():
         "# What has to be believed",
         "",
         "Whoever believes the definitions of the first part, and what README says that the program rests on, has to read no code "
-        "and no proof to believe the contract of the function `capc` (`crates/capc/src/run.rt`). They are found by following each "
+        "and no proof to believe the contract of the function `capc` (`crates/cc_program/src/run.rt`). They are found by following each "
         "name of its clauses to the item that it stands for, and so on from there (`.ci/reading.py`, which writes this page; the gate "
         "compares them). A file is listed where an item of it is reached, with the number of all its lines, and of those of the items "
         "that are. [definitions.md](definitions.md) has the order in which to read them, with all other definitions.",

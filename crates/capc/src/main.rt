@@ -4,23 +4,8 @@
 //! a workload it carries that one's job out, and writes a summary of the replies.
 #![tactic(auto)]
 
-mod commands;
-mod explaining;
-pub mod job_laws;
-mod program;
-mod questions;
-mod replies;
-mod run;
-mod running;
-mod status;
-#[cfg(test)]
-mod tests;
-mod usage;
-mod words;
-mod workload;
-
-use crate::program::{Ending, program};
 use cc_io::{StdSink, StdSource};
+use cc_program::program::{Ending, program};
 use std::marker::Brand;
 use std::sync::ledger::Blank;
 use std::{env, io};

@@ -6,6 +6,7 @@ ghost use Rattle.std.specs.Prelude.{◌≡◌, ℕ, ◌+◌, IfOk, OnOk, IsTrue,
 ghost use Rattle.std.specs.Option.{unwrap_or};
 ghost use Rattle.cc_capture.specs.declared.var.Elem.TheVariants.{Hole};
 ghost use Rattle.cc_capture.specs.Sets.{union};
+ghost use Rattle.cc_core.specs.declared.terms.Form.TheVariants as forms;
 ghost use Rattle.cc_core.specs.Traversal as plain;
 ghost use Rattle.cc_core.specs.Changes.{became_shape, became_type};
 ghost use Rattle.cc_core.specs.Shapes.{TypeVariable, FunctionShape, TypeFunctionShape, BoxShape, ExitShape, capturing};
@@ -18,6 +19,7 @@ ghost use Rattle.cc_core.specs.Places.{Spots, places_around, places_of};
 use crate::copies::copy_literal;
 use crate::terms::{Form, Node, Note};
 use crate::types::{Shape, Ty};
+use cc_base::literal::{Op, Operator};
 use cc_capture::{CapSet, Elem, Var, same_var};
 use std::alloc::{AllocError, Global};
 use std::rc::Rc;
@@ -582,6 +584,112 @@ pub fn act_node(
     at_places_of(alloc, node, form)
 }
 
+// The same of an application.
+fn act_application(
+    action: &Action,
+    depth: u32,
+    function: Var,
+    argument: Var,
+) -> Result<Form, AllocError>
+    ensures term { IfOk result (λ f. form_of f ≡ plain.act_term (action_of action.now) depth (form_of (forms.App function argument))) }
+    ensures places { IfOk result (λ f. (own : Spots) → places_around own f ≡ places_around own (forms.App function argument)) }
+{
+    let function = act_variable(action, depth, function)?;
+    Ok(Form::App(function, act_variable(action, depth, argument)?))
+}
+
+// The same of an application of a type function.
+fn act_type_application(
+    alloc: Global,
+    action: &Action,
+    depth: u32,
+    function: Var,
+    argument: &Rc<Shape>,
+) -> Result<Form, AllocError>
+    ensures term { IfOk result (λ f. form_of f ≡ plain.act_term (action_of action.now) depth (form_of (forms.TApp function argument.now))) }
+    ensures places { IfOk result (λ f. (own : Spots) → places_around own f ≡ places_around own (forms.TApp function argument.now)) }
+{
+    let function = act_variable(action, depth, function)?;
+    Ok(Form::TApp(function, act_shape(alloc, action, depth, argument)?))
+}
+
+// The same of an unboxing.
+fn act_unboxing(
+    alloc: Global,
+    action: &Action,
+    depth: u32,
+    set: &Option<CapSet>,
+    content: Var,
+) -> Result<Form, AllocError>
+    ensures term { IfOk result (λ f. form_of f ≡ plain.act_term (action_of action.now) depth (form_of (forms.Unbox set.now content))) }
+    ensures places { IfOk result (λ f. (own : Spots) → places_around own f ≡ places_around own (forms.Unbox set.now content)) }
+{
+    let set = act_optional_set(alloc, action, depth, set)?;
+    Ok(Form::Unbox(set, act_variable(action, depth, content)?))
+}
+
+// The same of an operator.
+fn act_primitive(
+    action: &Action,
+    depth: u32,
+    operator: Operator,
+    left: Var,
+    right: Var,
+) -> Result<Form, AllocError>
+    ensures term { IfOk result (λ f. form_of f ≡ plain.act_term (action_of action.now) depth (form_of (forms.Prim operator left right))) }
+    ensures places { IfOk result (λ f. (own : Spots) → places_around own f ≡ places_around own (forms.Prim operator left right)) }
+{
+    let left = act_variable(action, depth, left)?;
+    Ok(Form::Prim(operator, left, act_variable(action, depth, right)?))
+}
+
+// The same of a repetition.
+fn act_repetition(
+    action: &Action,
+    depth: u32,
+    count: Var,
+    function: Var,
+) -> Result<Form, AllocError>
+    ensures term { IfOk result (λ f. form_of f ≡ plain.act_term (action_of action.now) depth (form_of (forms.Repeat count function))) }
+    ensures places { IfOk result (λ f. (own : Spots) → places_around own f ≡ places_around own (forms.Repeat count function)) }
+{
+    let count = act_variable(action, depth, count)?;
+    Ok(Form::Repeat(count, act_variable(action, depth, function)?))
+}
+
+// The same of an operation.
+fn act_operation(
+    action: &Action,
+    depth: u32,
+    operation: Op,
+    receiver: Var,
+    argument: Option<Var>,
+) -> Result<Form, AllocError>
+    ensures term { IfOk result (λ f. form_of f ≡ plain.act_term (action_of action.now) depth (form_of (forms.Operate operation receiver argument))) }
+    ensures places { IfOk result (λ f. (own : Spots) → places_around own f ≡ places_around own (forms.Operate operation receiver argument)) }
+{
+    let receiver = act_variable(action, depth, receiver)?;
+    let argument = act_optional_variable(action, depth, argument)?;
+    Ok(Form::Operate(operation, receiver, argument))
+}
+
+// The same of a leaving.
+fn act_leave(
+    alloc: Global,
+    action: &Action,
+    depth: u32,
+    gives: &Rc<Ty>,
+    exit: Var,
+    value: Var,
+) -> Result<Form, AllocError>
+    ensures term { IfOk result (λ f. form_of f ≡ plain.act_term (action_of action.now) depth (form_of (forms.Leave gives.now exit value))) }
+    ensures places { IfOk result (λ f. (own : Spots) → places_around own f ≡ places_around own (forms.Leave gives.now exit value)) }
+{
+    let gives = act_shared_type(alloc, action, depth, gives)?;
+    let exit = act_variable(action, depth, exit)?;
+    Ok(Form::Leave(gives, exit, act_variable(action, depth, value)?))
+}
+
 #[cycle(act_terms)]
 fn act_form(alloc: Global, action: &Action, depth: u32, form: &Form) -> Result<Form, AllocError>
     ensures term { IfOk result (λ f. form_of f ≡ plain.act_term (action_of action.now) depth (form_of form.now)) }
@@ -619,35 +727,16 @@ fn act_form(alloc: Global, action: &Action, depth: u32, form: &Form) -> Result<F
         Form::Var(variable) => Ok(Form::Var(act_variable(action, depth, *variable)?)),
         Form::Lit(literal) => Ok(Form::Lit(copy_literal(literal)?)),
         Form::Boxed(content) => Ok(Form::Boxed(act_variable(action, depth, *content)?)),
-        Form::App(function, argument) => {
-            let function = act_variable(action, depth, *function)?;
-            Ok(Form::App(function, act_variable(action, depth, *argument)?))
-        }
+        Form::App(function, argument) => act_application(action, depth, *function, *argument),
         Form::TApp(function, argument) => {
-            let function = act_variable(action, depth, *function)?;
-            Ok(Form::TApp(function, act_shape(alloc, action, depth, argument)?))
+            act_type_application(alloc, action, depth, *function, argument)
         }
-        Form::Unbox(set, content) => {
-            let set = act_optional_set(alloc, action, depth, set)?;
-            Ok(Form::Unbox(set, act_variable(action, depth, *content)?))
-        }
-        Form::Prim(operator, left, right) => {
-            let left = act_variable(action, depth, *left)?;
-            Ok(Form::Prim(*operator, left, act_variable(action, depth, *right)?))
-        }
-        Form::Repeat(count, function) => {
-            let count = act_variable(action, depth, *count)?;
-            Ok(Form::Repeat(count, act_variable(action, depth, *function)?))
-        }
+        Form::Unbox(set, content) => act_unboxing(alloc, action, depth, set, *content),
+        Form::Prim(operator, left, right) => act_primitive(action, depth, *operator, *left, *right),
+        Form::Repeat(count, function) => act_repetition(action, depth, *count, *function),
         Form::Operate(operation, receiver, argument) => {
-            let receiver = act_variable(action, depth, *receiver)?;
-            let argument = act_optional_variable(action, depth, *argument)?;
-            Ok(Form::Operate(*operation, receiver, argument))
+            act_operation(action, depth, *operation, *receiver, *argument)
         }
-        Form::Leave(gives, exit, value) => {
-            let gives = act_shared_type(alloc, action, depth, gives)?;
-            let exit = act_variable(action, depth, *exit)?;
-            Ok(Form::Leave(gives, exit, act_variable(action, depth, *value)?))
-        }
+        Form::Leave(gives, exit, value) => act_leave(alloc, action, depth, gives, *exit, *value),
     }
 }

@@ -1,5 +1,0 @@
-use Rattle.capc.proofs.WorkloadOutcomes.{workload_fault_is_told}
-use Rattle.capc.proofs.job_laws.a_fault_of_a_workload_is_told.Goals as goal
-
-pub returns : goal.returns
-returns c = workload_fault_is_told

@@ -1,5 +1,0 @@
-use Rattle.capc.proofs.Exact.{job_is_answered}
-use Rattle.capc.proofs.job_laws.a_job_is_answered.Goals as goal
-
-pub returns : goal.returns
-returns c = job_is_answered

@@ -1,5 +1,0 @@
-use Rattle.capc.proofs.WorkedStatuses.{jobs_have_so_many}
-use Rattle.capc.proofs.job_laws.jobs_have_so_many_bytes.Goals as goal
-
-pub returns : goal.returns
-returns c = jobs_have_so_many

@@ -1,5 +1,0 @@
-use Rattle.capc.proofs.Exact.{only_stale}
-use Rattle.capc.proofs.job_laws.only_stale_modules_are_judged.Goals as goal
-
-pub returns : goal.returns
-returns c = only_stale

@@ -1,5 +1,0 @@
-use Rattle.capc.proofs.Exact.{only_output}
-use Rattle.capc.proofs.job_laws.only_the_output_is_written.Goals as goal
-
-pub returns : goal.returns
-returns c = only_output

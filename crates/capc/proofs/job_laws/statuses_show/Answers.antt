@@ -1,5 +1,0 @@
-use Rattle.capc.proofs.WorkedStatuses.{statuses_show_so}
-use Rattle.capc.proofs.job_laws.statuses_show.Goals as goal
-
-pub returns : goal.returns
-returns c = statuses_show_so

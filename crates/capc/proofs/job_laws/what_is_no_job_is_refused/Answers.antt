@@ -1,5 +1,0 @@
-use Rattle.capc.proofs.Exact.{no_job_is_refused}
-use Rattle.capc.proofs.job_laws.what_is_no_job_is_refused.Goals as goal
-
-pub returns : goal.returns
-returns c = no_job_is_refused

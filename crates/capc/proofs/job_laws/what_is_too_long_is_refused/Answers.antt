@@ -1,5 +1,0 @@
-use Rattle.capc.proofs.Exact.{too_long_is_refused}
-use Rattle.capc.proofs.job_laws.what_is_too_long_is_refused.Goals as goal
-
-pub returns : goal.returns
-returns c = too_long_is_refused

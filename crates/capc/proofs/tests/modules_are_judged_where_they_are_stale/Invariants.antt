@@ -1,4 +1,0 @@
-use Rattle.capc.proofs.tests.modules_are_judged_where_they_are_stale.Given as goal
-
-abbrev pub ghosts-run : goal.ghosts-run
-ghosts-run g a = record { name = a.blank.name; parts = a.blank.parts }

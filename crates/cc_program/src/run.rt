@@ -1,0 +1,89 @@
+ghost use Rattle.std.specs.Prelude.{◌≡◌, ◌↔◌, ◌-◌, ◌^◌, ◌<◌, map};
+ghost use Rattle.std.specs.String.{string_bytes};
+ghost use Rattle.cc_workload.specs.Words.{AsksFor};
+ghost use Rattle.cc_program.specs.Calls.{IsCall};
+ghost use Rattle.cc_program.specs.Outcome.{Outcome, ends};
+ghost use Rattle.cc_program.specs.SoundJobs.{EveryJobIsSound};
+
+use crate::commands::carry_out;
+use crate::job_laws::every_job_is_sound;
+use crate::status::Status;
+use crate::workload::summarize;
+use cc_base::steps::Steps;
+use cc_io::{ReadAll, Sink, Source, WriteAll, read_all};
+use cc_job::job::JobError;
+use cc_job::read::read_job;
+use cc_workload::words::{Asked, asked_by};
+use std::alloc::Global;
+use std::sync::ledger::Ledger;
+
+/// The greatest number of bytes of a job.
+pub const JOB_LIMIT: usize = 4_194_304;
+
+// Reads the job of the source, carries it out, and writes the replies. Nothing is written before the job is read.
+fn carry_out_source<S: Source, K: Sink, L: Ledger>(
+    alloc: Global,
+    source: &mut S,
+    sink: &mut K,
+    steps: &mut Steps<L>,
+) -> Status
+    requires source { S.faults source.old < 2 ^ 64 - 1 }
+    requires sink { K.faults sink.old < 2 ^ 64 - 1 }
+    ensures { Outcome
+        (ends (S.left source.old) (S.faults source.old) (K.written sink.old) (K.faults sink.old) steps.old)
+        (ends (S.left source.new) (S.faults source.new) (K.written sink.new) (K.faults sink.new) steps.new)
+        result }
+{
+    let bytes = match read_all(alloc, source, JOB_LIMIT) {
+        Ok(bytes) => bytes,
+        Err(ReadAll::ReadFault) => return Status::ReadFault,
+        Err(ReadAll::TooLong) => return Status::TooLong,
+        Err(ReadAll::NoMemory) => return Status::NoMemory,
+    };
+    let job = match read_job(alloc, &bytes) {
+        Ok(job) => job,
+        Err(JobError::BadJob { line }) => return Status::BadJob(line),
+        Err(JobError::NoMemory) => return Status::NoMemory,
+    };
+    match carry_out(alloc, job, sink, steps) {
+        Ok(false) => Status::Clean,
+        Ok(true) => Status::Refusals,
+        Err(WriteAll::WriteFault) => Status::WriteFault,
+        Err(WriteAll::NoMemory) => Status::NoMemory,
+    }
+}
+
+/// Carries out what the words ask for, which are those after the program's name.
+///
+/// With no word it reads the job of the source, carries it out, and writes the replies. With the words of a workload it
+/// carries that one's job out, writes the summary of the replies, and leaves the source as it was. Other words touch
+/// nothing. The counter counts the modules that are judged.
+pub fn capc<S: Source, K: Sink, L: Ledger>(
+    alloc: Global,
+    words: &[String],
+    source: &mut S,
+    sink: &mut K,
+    steps: &mut Steps<L>,
+) -> Status
+    requires source { S.faults source.old < 2 ^ 64 - 1 }
+    requires sink { K.faults sink.old < 2 ^ 64 - 1 }
+
+    // The words are bad exactly where they ask for nothing.
+    ensures words { (result ≡ Status.BadWords) ↔ AsksFor (map string_bytes words.now) Asked.Nothing }
+
+    // The files of every job are sound, at every moment of it: what definitions deserve and what their runs do.
+    ensures sound { EveryJobIsSound }
+
+    // What was read and written, and how many modules were judged, by what the words ask for, for each status.
+    ensures call { IsCall (source.new ≡ source.old) (sink.new ≡ sink.old)
+        (ends (S.left source.old) (S.faults source.old) (K.written sink.old) (K.faults sink.old) steps.old)
+        (ends (S.left source.new) (S.faults source.new) (K.written sink.new) (K.faults sink.new) steps.new)
+        (map string_bytes words.now) result }
+{
+    every_job_is_sound();
+    match asked_by(words) {
+        Asked::Job => carry_out_source(alloc, source, sink, steps),
+        Asked::Workload(number) => summarize(alloc, number, sink, steps),
+        Asked::Nothing => Status::BadWords,
+    }
+}
