@@ -2,7 +2,6 @@
 #![tactic(auto)]
 
 pub mod acting;
-pub mod captured;
 pub mod context;
 pub mod copies;
 pub mod derivation_laws;

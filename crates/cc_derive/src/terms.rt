@@ -20,7 +20,7 @@ use crate::variables::variable;
 use crate::{Making, rows};
 use cc_base::literal::Lit;
 use cc_capture::{CapSet, Var};
-use cc_core::captured::cv;
+use cc_captured::captured::cv;
 use cc_core::{Ctx, Form, Node};
 use cc_derivation::Rule;
 use std::alloc::{AllocError, Global};

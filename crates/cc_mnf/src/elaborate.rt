@@ -28,7 +28,7 @@ use cc_base::device::DeviceDecl;
 use cc_base::literal::Import;
 use cc_base::name::Name;
 use cc_base::place::Place;
-use cc_core::captured::{is_function, is_value};
+use cc_captured::captured::{is_function, is_value};
 use cc_core::{CoreDef, Node, Note};
 use cc_parse::tree::{Def, Module};
 use std::alloc::{AllocError, Global};

@@ -1,7 +1,7 @@
 // Deep terms, deep types and long contexts. A walk takes stack for each level of a term or a type, a drop of nested
 // lets takes none, and a context has few levels however long it is.
 use crate::nodes::{node_of, place};
-use cc_core::captured::cv;
+use cc_captured::captured::cv;
 use cc_core::same::same_type;
 use cc_core::sizes::size;
 use cc_core::substitution::{instantiate, instantiate_term};

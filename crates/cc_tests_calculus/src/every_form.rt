@@ -3,7 +3,7 @@
 // that was made without it.
 use crate::nodes::{node_of, place};
 use crate::same_terms::same_node;
-use cc_core::captured::cv;
+use cc_captured::captured::cv;
 use cc_core::reading::{
     read_set, read_shape, read_term, read_type, write_set, write_shape, write_term, write_type,
 };

@@ -35,7 +35,7 @@ use cc_avoid::{AvoidError, avoid_type};
 use cc_base::code::Code;
 use cc_base::place::Place;
 use cc_capture::{CapSet, Elem, Var};
-use cc_core::captured::{is_value, without_binder};
+use cc_captured::captured::{is_value, without_binder};
 use cc_core::reading::{read_set, read_shape, read_type, write_set};
 use cc_core::substitution::close_type;
 use cc_core::{Ctx, Form, Node, Note, Shape, Ty};

@@ -16,7 +16,7 @@ use crate::measures::{Measure, measured_size};
 use crate::stop::{Stop, refused};
 use cc_base::code::Code;
 use cc_capture::CapSet;
-use cc_core::captured::cv;
+use cc_captured::captured::cv;
 use cc_core::sizes::subst_size;
 use cc_core::{Form, Node, Shape, Ty};
 use std::alloc::{AllocError, Global};

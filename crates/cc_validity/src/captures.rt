@@ -9,7 +9,7 @@ ghost use Rattle.cc_core.specs.TermViews.{term_of};
 ghost use Rattle.cc_validity.specs.Captures.{body_in, parts_in, Tells, Tells-prop};
 
 use cc_capture::{CapSet, Elem, Var};
-use cc_core::captured::{cv, is_value, without_binder};
+use cc_captured::captured::{cv, is_value, without_binder};
 use cc_core::{Form, Node};
 use std::alloc::{AllocError, Global};
 use std::rc::Rc;

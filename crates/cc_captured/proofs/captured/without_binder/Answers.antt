@@ -2,7 +2,7 @@ use Rattle.std.proofs.Common.{◌∙◌}
 use Rattle.std.proofs.lemmas.Iterator.Consumers.{YieldsList-from_first, YieldsList-end}
 use Rattle.cc_core.specs.Captured.{outside}
 use Rattle.cc_core.proofs.CallLemmas.{walk-begin, walk-more, walk-end}
-use Rattle.cc_core.proofs.captured.without_binder.Goals as goal
+use Rattle.cc_captured.proofs.captured.without_binder.Goals as goal
 
 pub loop-elem-init : goal.loop-elem-init
 loop-elem-init c = c.new-outer.ensures ∙ walk-begin outside

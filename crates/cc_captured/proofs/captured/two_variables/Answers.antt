@@ -3,7 +3,7 @@ use Rattle.cc_capture.specs.declared.var.Elem.TheVariants.{Var as Variable}
 use Rattle.cc_capture.specs.Sets.{union}
 use Rattle.cc_core.specs.Captured.{variable_set}
 use Rattle.cc_core.proofs.CallLemmas.{insert-union}
-use Rattle.cc_core.proofs.captured.two_variables.Goals as goal
+use Rattle.cc_captured.proofs.captured.two_variables.Goals as goal
 
 pub returns : goal.returns
 returns c = c.in_ok-insert.ensures.ok ∙ insert-union (Variable c.args.first) c.in_ok-set.set ∙ ap (union (variable_set c.args.first)) c.in_ok-set.ensures

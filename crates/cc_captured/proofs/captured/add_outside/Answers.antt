@@ -2,7 +2,7 @@ use Rattle.std.proofs.Common.{◌≡◌, ap, sym, ◌∙◌}
 use Rattle.cc_core.specs.Substitution.{single}
 use Rattle.cc_core.specs.Captured.{outside}
 use Rattle.cc_core.proofs.CallLemmas.{joined}
-use Rattle.cc_core.proofs.captured.add_outside.Goals as goal
+use Rattle.cc_captured.proofs.captured.add_outside.Goals as goal
 
 pub returns-in-Cap : goal.returns-in-Cap
 returns-in-Cap c =

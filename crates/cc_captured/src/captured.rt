@@ -8,8 +8,8 @@ ghost use Rattle.cc_core.specs.Captured.{captured_variables};
 ghost use Rattle.cc_core.specs.Stores.{is_function};
 ghost use Rattle.cc_core.specs.TermViews.{form_of, term_of};
 
-use crate::terms::{Form, Node};
 use cc_capture::{CapSet, Elem, Var};
+use cc_core::{Form, Node};
 use std::alloc::{AllocError, Global};
 
 /// The variables that running the term may use. A box captures nothing, and opening one captures the set that is

@@ -3,7 +3,7 @@ use Rattle.cc_capture.specs.declared.var.Elem.TheVariants.{Var as Variable}
 use Rattle.cc_core.specs.Substitution.{single}
 use Rattle.cc_core.specs.Captured.{outside}
 use Rattle.cc_core.proofs.CallLemmas.{joined, outside-bound, outside-none}
-use Rattle.cc_core.proofs.captured.add_outside_variable.Goals as goal
+use Rattle.cc_captured.proofs.captured.add_outside_variable.Goals as goal
 
 pub returns-then-index-eq0 : goal.returns-then-index-eq0
 returns-then-index-eq0 c = outside-none (Variable c.args.variable) c.in-Bound.index c.args.outer.now (ap Variable c.in-Bound.is) c.if-index-eq0.true
