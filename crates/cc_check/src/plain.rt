@@ -17,9 +17,10 @@ ghost use Rattle.cc_check.specs.Rows.{plain_log};
 use crate::found::Checking;
 use cc_base::place::Place;
 use cc_core::{CoreDef, Ctx, Node, Note, Ty};
+use cc_infer::infer_known;
 use cc_type::found::Named;
 use cc_type::operands::noted;
-use cc_type::{Found, Log, Measure, Measures, Stop, infer_known};
+use cc_type::{Found, Log, Measure, Measures, Stop};
 use std::alloc::Global;
 use std::rc::Rc;
 

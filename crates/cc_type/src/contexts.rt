@@ -23,7 +23,7 @@ pub fn with_variable(alloc: Global, ctx: &Ctx, ty: &Ty) -> Result<Ctx, AllocErro
 }
 
 /// The context with a type variable of the bound.
-pub(crate) fn with_type_variable(
+pub fn with_type_variable(
     alloc: Global,
     ctx: &Ctx,
     bound: &Rc<Shape>,
@@ -48,7 +48,7 @@ fn exit_type(alloc: Global, gives: &Rc<Shape>) -> Result<Ty, AllocError>
 }
 
 /// The context with the exit of a boundary that gives the shape.
-pub(crate) fn with_exit(alloc: Global, ctx: &Ctx, gives: &Rc<Shape>) -> Result<Ctx, AllocError>
+pub fn with_exit(alloc: Global, ctx: &Ctx, gives: &Rc<Shape>) -> Result<Ctx, AllocError>
     requires context { IsWellFormedContext (context_of ctx.now) }
     requires gives { IsWellFormedShape (context_of ctx.now) (shape_of gives.now.value) }
     ensures is { IfOk result (λ c. context_of c ≡ exit_entry (shape_of gives.now.value) ∷ context_of ctx.now) }

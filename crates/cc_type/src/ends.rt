@@ -83,7 +83,7 @@ fn function_type(
 }
 
 /// The function of a parameter's type, and of what was found for its body.
-pub(crate) fn function_end(
+pub fn function_end(
     alloc: Global,
     ctx: &Ctx,
     node: &Node,
@@ -129,7 +129,7 @@ fn type_function_type(
 }
 
 /// The type function of a bound, and of what was found for its body.
-pub(crate) fn type_function_end(
+pub fn type_function_end(
     alloc: Global,
     ctx: &Ctx,
     node: &Node,
@@ -155,7 +155,7 @@ pub(crate) fn type_function_end(
 }
 
 /// What a boundary gives.
-pub(crate) fn boundary_end(
+pub fn boundary_end(
     alloc: Global,
     node: &Node,
     gives: &Rc<Shape>,
@@ -301,7 +301,7 @@ fn let_of(
 }
 
 /// A term whose value was named in the body.
-pub(crate) fn let_end(
+pub fn let_end(
     alloc: Global,
     ctx: &Ctx,
     node: &Node,
@@ -440,7 +440,7 @@ fn choice_end(
 }
 
 /// A choice of two branches, the second of which is compared with what is written for the choice.
-pub(crate) fn choice_rest(
+pub fn choice_rest(
     alloc: Global,
     root: u32,
     ctx: &Ctx,

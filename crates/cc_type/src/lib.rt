@@ -1,16 +1,15 @@
-//! The comparison of shapes and types, and inference of a term: its type, the completed term, and a log of what is asked
-//! and may still decide.
+//! The comparison of shapes and types, and the steps of inference: how a context grows, what is asked of the operands of a
+//! form, and what is found for it when its parts are known; with a log of what is asked and may still decide.
 #![tactic(auto)]
 
 pub mod comparing;
 pub mod contexts;
 mod demand_ends;
 mod ended;
-mod ends;
+pub mod ends;
 mod forms;
 pub mod found;
 mod heads;
-pub mod infer;
 pub mod instances;
 pub mod keeping_laws;
 mod keys;
@@ -20,16 +19,15 @@ pub mod measures;
 mod names;
 pub mod operands;
 mod pairs;
-mod rows;
+pub mod rows;
 mod sizes;
-mod steps;
+pub mod steps;
 pub mod stop;
 pub mod subtyping;
 mod traces;
 mod walking;
 
 pub use found::Found;
-pub use infer::{infer_known, infer_term};
 pub use instances::Instances;
 pub use log::Log;
 pub use measures::{Measure, Measures};

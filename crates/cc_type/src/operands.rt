@@ -47,7 +47,7 @@ pub(crate) fn operand(
 }
 
 /// The operand has to be of the base shape.
-pub(crate) fn base_operand(
+pub fn base_operand(
     alloc: Global,
     ctx: &Ctx,
     variable: Var,
@@ -128,7 +128,7 @@ pub(crate) fn capless(alloc: Global, set: &CapSet, at: Place, log: &mut Log) -> 
 }
 
 /// Something has to be written for the type.
-pub(crate) fn needs_note(at: Place, note: &Note) -> Result<(), Stop>
+pub fn needs_note(at: Place, note: &Note) -> Result<(), Stop>
     ensures { Answers (λ u. u) result (has_note at (note_of note.now)) }
 {
     match note {
@@ -245,7 +245,7 @@ pub fn noted(
 
 /// The type of a branch has to be below the one that is written for the choice; where the set is omitted, its shape
 /// has to.
-pub(crate) fn branch(
+pub fn branch(
     alloc: Global,
     ctx: &Ctx,
     note: &Note,

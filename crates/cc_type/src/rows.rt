@@ -115,7 +115,7 @@ fn base_answered(operation: Op) -> Base
 }
 
 /// A variable has the shape of its entry, and captures itself.
-pub(crate) fn variable(
+pub fn variable(
     alloc: Global,
     ctx: &Ctx,
     measures: &Measures,
@@ -133,7 +133,7 @@ pub(crate) fn variable(
 }
 
 /// A literal has its base shape.
-pub(crate) fn literal(alloc: Global, node: &Node, literal: &Lit) -> Result<Found, Stop>
+pub fn literal(alloc: Global, node: &Node, literal: &Lit) -> Result<Found, Stop>
     ensures exact { Answers found_of result (literal_row (literal_of literal.now) node.now.at) }
     ensures places { IfOk result (λ f. places_of f.node.value ≡ Alone (spots_at node.now.at node.now.first node.now.second)) }
 {
@@ -151,7 +151,7 @@ fn box_type(alloc: Global, inside: Ty) -> Result<Ty, AllocError>
 }
 
 /// A box has the type of its content in its shape, and captures nothing.
-pub(crate) fn boxed(
+pub fn boxed(
     alloc: Global,
     ctx: &Ctx,
     measures: &Measures,
@@ -170,7 +170,7 @@ pub(crate) fn boxed(
 }
 
 /// A function applied to a variable.
-pub(crate) fn application(
+pub fn application(
     alloc: Global,
     ctx: &Ctx,
     node: &Node,
@@ -214,7 +214,7 @@ fn type_application_end(
 }
 
 /// A type function applied to a shape.
-pub(crate) fn type_application(
+pub fn type_application(
     alloc: Global,
     ctx: &Ctx,
     node: &Node,
@@ -280,7 +280,7 @@ fn unboxing_end(
 }
 
 /// The content of a box.
-pub(crate) fn unboxing(
+pub fn unboxing(
     alloc: Global,
     root: u32,
     ctx: &Ctx,
@@ -301,7 +301,7 @@ pub(crate) fn unboxing(
 }
 
 /// An operator on two numbers.
-pub(crate) fn primitive(
+pub fn primitive(
     alloc: Global,
     ctx: &Ctx,
     node: &Node,
@@ -341,7 +341,7 @@ fn repeated(alloc: Global, ctx: &Ctx, function: Var, at: Place, log: &mut Log) -
 }
 
 /// So many calls of a function on the numbers from 0.
-pub(crate) fn repetition(
+pub fn repetition(
     alloc: Global,
     ctx: &Ctx,
     node: &Node,
@@ -361,7 +361,7 @@ pub(crate) fn repetition(
 }
 
 /// An operation of a device.
-pub(crate) fn operation(
+pub fn operation(
     alloc: Global,
     ctx: &Ctx,
     node: &Node,
@@ -394,7 +394,7 @@ pub(crate) fn operation(
 }
 
 /// Leaving the boundary of an exit with a value.
-pub(crate) fn leave(
+pub fn leave(
     alloc: Global,
     ctx: &Ctx,
     node: &Node,

@@ -25,7 +25,7 @@ use std::alloc::{AllocError, Global};
 use std::rc::Rc;
 
 // How many entries the context has.
-pub(crate) fn entries(ctx: &Ctx) -> u32
+pub fn entries(ctx: &Ctx) -> u32
     ensures { result ≡ length (context_of ctx.now) }
 {
     ctx.len()

@@ -4,7 +4,7 @@ use Rattle.cc_core.specs.TermViews.{type_of, term_of, context_of}
 use Rattle.cc_type.specs.Measures.{AreMeasuresOf}
 use Rattle.cc_type.specs.Standing.{StandsWell}
 use Rattle.cc_type.proofs.MeasuredEntries.{more_measured}
-use Rattle.cc_type.proofs.infer.body_context.Goals as goal
+use Rattle.cc_infer.proofs.infer.body_context.Goals as goal
 
 pub returns-clause-stands : goal.returns-clause-stands
 returns-clause-stands c =

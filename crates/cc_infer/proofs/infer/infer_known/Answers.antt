@@ -6,7 +6,7 @@ use Rattle.cc_type.specs.Logs.{Meets}
 use Rattle.cc_type.specs.Parts.{found_of}
 use Rattle.cc_type.proofs.InferredLogs.{inferred_logs}
 use Rattle.cc_type.proofs.StandingTerms.{stands_well}
-use Rattle.cc_type.proofs.infer.infer_known.Goals as goal
+use Rattle.cc_infer.proofs.infer.infer_known.Goals as goal
 
 pub infer-requires-clause-term : goal.infer-requires-clause-term
 infer-requires-clause-term c = stands_well c.args.root (context_of c.args.ctx.now)

@@ -3,7 +3,7 @@ use Rattle.cc_core.specs.Shapes.{capturing}
 use Rattle.cc_core.specs.TermViews.{shape_of, context_of}
 use Rattle.cc_core.specs.WellFormed.{IsWellFormedType}
 use Rattle.cc_type.proofs.FormedParts.{pure_well_formed}
-use Rattle.cc_type.proofs.infer.bounded.Goals as goal
+use Rattle.cc_infer.proofs.infer.bounded.Goals as goal
 
 pub below-requires-clause-right : goal.below-requires-clause-right
 below-requires-clause-right c =

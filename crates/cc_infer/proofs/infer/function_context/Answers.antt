@@ -3,7 +3,7 @@ use Rattle.cc_core.specs.Contexts.{entry_of}
 use Rattle.cc_core.specs.TermViews.{type_of, context_of}
 use Rattle.cc_type.specs.Measures.{AreMeasuresOf}
 use Rattle.cc_type.proofs.MeasuredEntries.{more_measured}
-use Rattle.cc_type.proofs.infer.function_context.Goals as goal
+use Rattle.cc_infer.proofs.infer.function_context.Goals as goal
 
 pub returns-clause-measures : goal.returns-clause-measures
 returns-clause-measures c =

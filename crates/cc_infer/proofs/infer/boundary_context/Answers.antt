@@ -1,11 +1,11 @@
 use Rattle.std.proofs.Common.{sym, subst}
-use Rattle.cc_core.specs.Contexts.{TypeEntry}
 use Rattle.cc_core.specs.TermViews.{shape_of, context_of}
+use Rattle.cc_checking.specs.Inference.{exit_entry}
 use Rattle.cc_type.specs.Measures.{AreMeasuresOf}
 use Rattle.cc_type.proofs.MeasuredEntries.{more_measured}
-use Rattle.cc_type.proofs.infer.type_function_context.Goals as goal
+use Rattle.cc_infer.proofs.infer.boundary_context.Goals as goal
 
 pub returns-clause-measures : goal.returns-clause-measures
 returns-clause-measures c =
     subst (AreMeasuresOf c.args.measures.now) (sym c.in_ok-inner.ensures.is)
-    (more_measured c.args.measures.now (TypeEntry (shape_of c.args.bound.now.value)) (context_of c.args.ctx.now) c.requires.measures)
+    (more_measured c.args.measures.now (exit_entry (shape_of c.args.gives.now.value)) (context_of c.args.ctx.now) c.requires.measures)

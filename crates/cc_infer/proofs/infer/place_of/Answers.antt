@@ -2,7 +2,7 @@ use Rattle.std.proofs.Common.{sym, ap, ◌∙◌}
 use Rattle.cc_core.specs.declared.terms.Node.{Node}
 use Rattle.cc_core.specs.Places.{Spots, spots_at}
 use Rattle.cc_type.proofs.StandingTerms.{spots_around}
-use Rattle.cc_type.proofs.infer.place_of.Goals as goal
+use Rattle.cc_infer.proofs.infer.place_of.Goals as goal
 
 pub returns : goal.returns
 returns c =

@@ -1,7 +1,7 @@
 use Rattle.cc_core.specs.TermViews.{type_of, note_of, context_of}
 use Rattle.cc_type.specs.Parts.{named_of}
 use Rattle.cc_type.proofs.StandingTerms.{noted_well_formed}
-use Rattle.cc_type.proofs.infer.name.Goals as goal
+use Rattle.cc_infer.proofs.infer.name.Goals as goal
 
 pub returns-clause-formed : goal.returns-clause-formed
 returns-clause-formed c =

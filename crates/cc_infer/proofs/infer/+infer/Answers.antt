@@ -11,7 +11,7 @@ use Rattle.cc_type.specs.Parts.{found_of, named_of}
 use Rattle.cc_type.specs.Rows.{ends, let_end, inferred_log}
 use Rattle.cc_type.proofs.FormedParts.{shape_with_entry}
 use Rattle.cc_type.proofs.StandingTerms.{type_of_found, let_body, boundary_shape, let_found, ends_met}
-use Rattle.cc_type.proofs.infer.+infer.Goals as goal
+use Rattle.cc_infer.proofs.infer.+infer.Goals as goal
 
 pub infer-returns-clause-formed : goal.infer-returns-clause-formed
 infer-returns-clause-formed t c =

@@ -1,7 +1,7 @@
 use Rattle.std.proofs.Common.{sym, subst, ◌≤◌, length, arith}
 use Rattle.cc_core.specs.TermViews.{context_of}
 use Rattle.cc_type.proofs.MeasuredEntries.{nothing_measured}
-use Rattle.cc_type.proofs.infer.infer_term.Goals as goal
+use Rattle.cc_infer.proofs.infer.infer_term.Goals as goal
 
 pub infer_known-requires-clause-measures : goal.infer_known-requires-clause-measures
 infer_known-requires-clause-measures c =
