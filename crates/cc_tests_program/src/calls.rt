@@ -72,65 +72,6 @@ pub(crate) fn calls(bytes: usize, most: usize) -> usize
     bytes.div_ceil(most)
 }
 
-/// The text that a sink has got where its write of this number fails, of two replies of these lengths.
-fn kept(first: usize, second: usize, most: usize, fails: usize) -> usize
-    requires { 0 < most }
-{
-    let before = fails.saturating_sub(1);
-    let in_first = calls(first, most);
-    if before < in_first {
-        before.saturating_mul(most)
-    } else {
-        first.saturating_add((before - in_first).saturating_mul(most).min(second))
-    }
-}
-
-#[test]
-fn pieces_and_faults(rt: HostRuntime) -> Result<(), Fail> {
-    let alloc = rt.alloc();
-    let job: &[u8] = b"capc 1\nput m 1\ndef id = fun (x: Unit) => x\ncheck\n";
-    let whole: &[u8] = b"put m\ncheck\n  m ok\n";
-    let first = b"put m\n".len();
-    for read_most in [1usize, 7, 4096] {
-        for write_most in [1usize, 5, 4096] {
-            for read_fails in [0u32, 1, 2, 3] {
-                for write_fails in [0u32, 1, 2, 3] {
-                    let reads = Plan {
-                        most: read_most,
-                        fails: read_fails,
-                    };
-                    let writes = Plan {
-                        most: write_most,
-                        fails: write_fails,
-                    };
-                    let ended = run::<Brand>(alloc, &[], job, reads, writes, Blank::new(1))?;
-                    // The last read finds the end.
-                    let read_calls = calls(job.len(), read_most).saturating_add(1);
-                    assert!(rt; whole.len() >= first);
-                    let second = whole.len() - first;
-                    let write_calls = calls(first, write_most).saturating_add(calls(
-                        second, write_most,
-                    ));
-                    let (status, length) = if read_fails != 0 && read_fails as usize <= read_calls {
-                        (Status::ReadFault, 0)
-                    } else if write_fails != 0 && write_fails as usize <= write_calls {
-                        (
-                            Status::WriteFault,
-                            kept(first, second, write_most, write_fails as usize),
-                        )
-                    } else {
-                        (Status::Clean, whole.len())
-                    };
-                    assert_eq!(rt; ended.status, status);
-                    assert!(rt; length <= whole.len());
-                    assert_eq!(rt; ended.written.as_slice(), &whole[..length]);
-                }
-            }
-        }
-    }
-    Ok(())
-}
-
 /// Modules for lines on the console, for a count, and one that imports both, before the rest of a job.
 const MODULES: &[u8] = b"capc 1
 device out console
