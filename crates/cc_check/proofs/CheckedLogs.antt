@@ -9,7 +9,7 @@ use Rattle.cc_checking.specs.Outcomes.{Placed}
 use Rattle.cc_checking.specs.Inference.{Result, below, noted, inferred}
 use Rattle.cc_checking.specs.Verdicts.{Definition, checking, signature_of, plain_checked, recursion_checked}
 use Rattle.cc_checking.specs.Verdicts.{recursive_checked, checked}
-use Rattle.cc_type.specs.Logs.{Got, after, followed}
+use Rattle.cc_known.specs.Logs.{Got, after, followed}
 use Rattle.cc_type.specs.Rows.{comparing, ways}
 use Rattle.cc_check.specs.Rows.{plain_log, recursion_log, recursive_log, checked_log}
 use Rattle.cc_type.proofs.InferredLogs.{noted_logs}

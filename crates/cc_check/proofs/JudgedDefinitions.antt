@@ -27,14 +27,14 @@ use Rattle.cc_checking_laws.proofs.LeastFillings.{globals_still}
 use Rattle.cc_checking_laws.proofs.ReadingKinds.{outermost}
 use Rattle.cc_type.specs.Comparing.{most_steps}
 use Rattle.cc_solve.specs.Solutions.{AsksOfHolesBelow, AreSolvable, CanBeJudged, filling_of}
-use Rattle.cc_type.specs.FilledHoles.{HasAskedHolesBelow, holes_of, HasCheckingHolesBelow}
-use Rattle.cc_type.specs.Keeping.{kept}
-use Rattle.cc_type.specs.declared.stop.Stop.{Stop}
-use Rattle.cc_type.specs.declared.stop.Stop.TheVariants as stops
-use Rattle.cc_type.specs.Logs.{Got, Stopped, Meets}
+use Rattle.cc_known.specs.FilledHoles.{HasAskedHolesBelow, holes_of, HasCheckingHolesBelow}
+use Rattle.cc_known.specs.Keeping.{kept}
+use Rattle.cc_known.specs.declared.stop.Stop.{Stop}
+use Rattle.cc_known.specs.declared.stop.Stop.TheVariants as stops
+use Rattle.cc_known.specs.Logs.{Got, Stopped, Meets}
 use Rattle.cc_type.specs.Rows.{ways}
 use Rattle.cc_type.proofs.CheckedHoles.{checking_adds_no_hole}
-use Rattle.cc_type.proofs.FilledAlike.{lists_fill_alike}
+use Rattle.cc_known.proofs.FilledAlike.{lists_fill_alike}
 use Rattle.cc_type.proofs.KeptVerdicts.{sides_below, kept_of_checking, refused_by_kept}
 use Rattle.cc_type.proofs.KeptVerdicts.{decided_by_kept, accepted_by_list, signature_by_list}
 use Rattle.cc_check.specs.declared.error.CheckError.{CheckError}

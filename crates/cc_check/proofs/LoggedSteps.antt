@@ -3,8 +3,8 @@ use Rattle.std.proofs.Common.{◌≡◌, List, Option, Some, None, refl, sym, ap
 use Rattle.cc_base.specs.declared.code.Code.{Code}
 use Rattle.cc_base.specs.declared.place.Place.{Place}
 use Rattle.cc_checking.specs.Outcomes.{Placed, Outcome, NoAnswer, Refused, Found, finds, ◌>>=◌, found_or}
-use Rattle.cc_type.specs.Keeping.{keeping}
-use Rattle.cc_type.specs.Logs.{Logged, Stopped, Got, after, followed, plainly}
+use Rattle.cc_known.specs.Keeping.{keeping}
+use Rattle.cc_known.specs.Logs.{Logged, Stopped, Got, after, followed, plainly}
 use Rattle.cc_type.proofs.InferredLogs.{none_kept, nothing_before, joined}
 
 -- a step and the rest

@@ -12,12 +12,12 @@ use Rattle.cc_core.specs.WellFormed.{IsWellFormedType}
 use Rattle.cc_checking.specs.Avoidance.{Positive, Negative, is_free_in, has_position}
 use Rattle.cc_checking_laws.specs.CheckingLaws.{oldest}
 use Rattle.cc_typing_laws.proofs.Avoiding.{map_some, both_some, unless_some}
-use Rattle.cc_type.specs.Measures.{IsSize, Along, IsClearAlong, IsSizedAlong, IsMeasuredFrom}
-use Rattle.cc_type.specs.Signatures.{greater_of, greatest_in, greatest_in_set, greatest_position, IsGreatest}
-use Rattle.cc_type.specs.declared.measures.Measure.{Measure}
+use Rattle.cc_known.specs.Measures.{IsSize, Along, IsClearAlong, IsSizedAlong, IsMeasuredFrom}
+use Rattle.cc_known.specs.Signatures.{greater_of, greatest_in, greatest_in_set, greatest_position, IsGreatest}
+use Rattle.cc_known.specs.declared.measures.Measure.{Measure}
 use Rattle.cc_type.proofs.AvoidedGreatest.{signature_of_devices_alone}
 use Rattle.cc_type.proofs.GreatestEntries.{type_past}
-use Rattle.cc_type.proofs.GreatestPositions.{shape_greatest}
+use Rattle.cc_known.proofs.GreatestPositions.{shape_greatest}
 use Rattle.cc_avoid.specs.AvoidedTogether.{set_avoiding, names_any, shape_avoiding, type_avoiding}
 use Rattle.cc_check.specs.SignedParts.{declared_sets}
 use Rattle.cc_check.proofs.SignedTogether.{signature_together}

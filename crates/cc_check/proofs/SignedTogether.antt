@@ -19,9 +19,9 @@ use Rattle.cc_typing_laws.proofs.Avoiding.{not_true}
 use Rattle.cc_avoid.specs.AvoidedTogether.{set_avoiding, names_any, type_avoiding}
 use Rattle.cc_avoid.proofs.AvoidedTogether.{type_none, type_more}
 use Rattle.cc_avoid.proofs.AvoidingAnswers.{set_kept}
-use Rattle.cc_type.specs.Signatures.{greatest_in, greatest_in_set, IsGreatest, height_of}
+use Rattle.cc_known.specs.Signatures.{greatest_in, greatest_in_set, IsGreatest, height_of}
 use Rattle.cc_type.proofs.AvoidedGreatest.{away_set, older_alone, not_below, height_below}
-use Rattle.cc_type.proofs.GreatestPositions.{set_greatest, shape_greatest}
+use Rattle.cc_known.proofs.GreatestPositions.{set_greatest, shape_greatest}
 use Rattle.cc_check.specs.SignedParts.{declared_sets, AvoidsEntry}
 
 same_next : {A B : Type 0} (f g : A → Option B) (o : Option A) → ((a : A) → f a ≡ g a)

@@ -6,9 +6,9 @@ use Rattle.cc_checking.specs.Fillings.{Filling, IsOverGlobals}
 use Rattle.cc_checking.specs.Outcomes.{Placed, Found}
 use Rattle.cc_checking.specs.Verdicts.{Definition, Checking, Verdict, IsAccepted, IsRefused, IsChecked, HasVerdict}
 use Rattle.cc_checking.specs.Verdicts.{HasAlgorithmicType}
-use Rattle.cc_type.specs.declared.stop.Stop.{Stop}
-use Rattle.cc_type.specs.declared.stop.Stop.TheVariants as stops
-use Rattle.cc_type.specs.Keeping.{kept}
+use Rattle.cc_known.specs.declared.stop.Stop.{Stop}
+use Rattle.cc_known.specs.declared.stop.Stop.TheVariants as stops
+use Rattle.cc_known.specs.Keeping.{kept}
 use Rattle.cc_check.specs.declared.error.CheckError.{CheckError}
 use Rattle.cc_check.specs.declared.error.CheckError.TheVariants as errors
 use Rattle.cc_check.specs.Definitions.{accepted_of}

@@ -9,7 +9,7 @@ use Rattle.cc_core.specs.Places.{spots}
 use Rattle.cc_checking.specs.Outcomes.{Placed, found_or}
 use Rattle.cc_checking.specs.Inference.{below, inferred}
 use Rattle.cc_checking.specs.Verdicts.{Definition, Checking, checking, signature_of}
-use Rattle.cc_type.specs.Logs.{Logged, Stopped, Got, after, followed, plainly}
+use Rattle.cc_known.specs.Logs.{Logged, Stopped, Got, after, followed, plainly}
 use Rattle.cc_type.specs.Rows.{comparing, ways, noted_log}
 
 -- a definition whose own name is not visible

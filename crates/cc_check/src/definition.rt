@@ -16,8 +16,8 @@ ghost use Rattle.cc_checking_laws.specs.FillingLaws.{AreGlobals};
 ghost use Rattle.cc_core.specs.Holes.{HolesAreOfParameters};
 ghost use Rattle.cc_checking.specs.Verdicts.{IsRefused, settled_or, signature_under, signature_verdict};
 ghost use Rattle.cc_subty.specs.Demands.{asked_of};
-ghost use Rattle.cc_type.specs.Logs.{Meets};
-ghost use Rattle.cc_type.specs.Measures.{IsMeasuredBy, AreMeasuresOf, AreAllMeasuresOf, IsSize};
+ghost use Rattle.cc_known.specs.Logs.{Meets};
+ghost use Rattle.cc_known.specs.Measures.{IsMeasuredBy, AreMeasuresOf, AreAllMeasuresOf, IsSize};
 ghost use Rattle.cc_check.specs.Definitions.{definition_of, checking_of, accepted_of};
 ghost use Rattle.cc_check.specs.Judging.{Answers, Judges, HasNoTypeIfRefused, KeepsOf};
 ghost use Rattle.cc_check.specs.Rows.{checked_log};
@@ -33,10 +33,11 @@ use cc_capture::CapSet;
 use cc_core::sizes::shape_size;
 use cc_core::substitution::{fill_note, fill_term, fill_type};
 use cc_core::{Checked, CoreDef, Ctx, Ty};
+use cc_known::{Measure, Measures, Stop};
 use cc_solve::{Filling, first_failed, solve};
 use cc_subty::Demands;
 use cc_type::instances::exchange;
-use cc_type::{Instances, Log, Measure, Measures, Stop};
+use cc_type::{Instances, Log};
 use std::alloc::{AllocError, Global};
 
 /// Checks the definition in the context of the devices, so many, of what is imported and of the definitions before it.

@@ -4,7 +4,7 @@ ghost use Rattle.std.specs.Prelude.{◌≡◌};
 ghost use Rattle.cc_check.specs.Judging.{error_of};
 
 use cc_base::code::Diag;
-use cc_type::Stop;
+use cc_known::Stop;
 use std::alloc::AllocError;
 
 /// Why a definition is not accepted.

@@ -1,11 +1,11 @@
 //! What is found for a definition.
 
 ghost use Rattle.cc_core.specs.TermViews.{shape_of};
-ghost use Rattle.cc_type.specs.MeasuredOnce.{IsMeasuredBy-prop};
-ghost use Rattle.cc_type.specs.Measures.{IsMeasuredBy};
+ghost use Rattle.cc_known.specs.MeasuredOnce.{IsMeasuredBy-prop};
+ghost use Rattle.cc_known.specs.Measures.{IsMeasuredBy};
 
 use cc_core::{Node, Note, Ty};
-use cc_type::Measure;
+use cc_known::Measure;
 use std::rc::Rc;
 
 /// What is found for a definition, before any hole is filled.

@@ -2,7 +2,7 @@
 
 ghost use Rattle.std.specs.Prelude.{◌≡◌, max, IfOk};
 ghost use Rattle.cc_core.specs.TermViews.{form_of, term_of};
-ghost use Rattle.cc_type.specs.FilledHoles as plain;
+ghost use Rattle.cc_known.specs.FilledHoles as plain;
 
 use cc_capture::{CapSet, Elem};
 use cc_core::{Form, Node};

@@ -7,9 +7,9 @@ ghost use Rattle.cc_core.specs.TermViews.{type_of, note_of, term_of, context_of}
 ghost use Rattle.cc_core.specs.WellFormed.{IsWellFormedContext, IsWellFormedNote, IsWellFormedTerm, IsWellFormedType};
 ghost use Rattle.cc_checking.specs.Inference.{inferred};
 ghost use Rattle.cc_subty.specs.Demands.{asked_of};
-ghost use Rattle.cc_type.specs.Logs.{Meets, after};
-ghost use Rattle.cc_type.specs.Measures.{AreMeasuresOf};
-ghost use Rattle.cc_type.specs.Parts.{found_of, named_of};
+ghost use Rattle.cc_known.specs.Logs.{Meets, after};
+ghost use Rattle.cc_known.specs.Measures.{AreMeasuresOf};
+ghost use Rattle.cc_known.specs.Parts.{found_of, named_of};
 ghost use Rattle.cc_type.specs.Rows.{ways, noted_log};
 ghost use Rattle.cc_check.specs.Definitions.{definition_of, checking_of};
 ghost use Rattle.cc_check.specs.Rows.{plain_log};
@@ -18,9 +18,10 @@ use crate::found::Checking;
 use cc_base::place::Place;
 use cc_core::{CoreDef, Ctx, Node, Note, Ty};
 use cc_infer::infer_known;
-use cc_type::found::Named;
+use cc_known::found::Named;
+use cc_known::{Found, Measure, Measures, Stop};
+use cc_type::Log;
 use cc_type::operands::noted;
-use cc_type::{Found, Log, Measure, Measures, Stop};
 use std::alloc::Global;
 use std::rc::Rc;
 

@@ -10,8 +10,8 @@ ghost use Rattle.cc_checking_laws.specs.FillingLaws.{AreGlobals};
 ghost use Rattle.cc_checking.specs.Outcomes.{found_or};
 ghost use Rattle.cc_checking.specs.Verdicts.{checking, signature_of};
 ghost use Rattle.cc_subty.specs.Demands.{asked_of};
-ghost use Rattle.cc_type.specs.Logs.{Answers, Meets};
-ghost use Rattle.cc_type.specs.Measures.{AreMeasuresOf};
+ghost use Rattle.cc_known.specs.Logs.{Answers, Meets};
+ghost use Rattle.cc_known.specs.Measures.{AreMeasuresOf};
 ghost use Rattle.cc_check.specs.Definitions.{definition_of, checking_of};
 ghost use Rattle.cc_check.specs.Rows.{below_log, recursion_log, recursive_log};
 
@@ -21,10 +21,11 @@ use crate::signature::signature;
 use cc_base::code::Code;
 use cc_base::place::Place;
 use cc_core::{CoreDef, Ctx, Note, Ty};
+use cc_known::stop::refused;
+use cc_known::{Found, Measures, Stop};
+use cc_type::Log;
 use cc_type::comparing::below;
 use cc_type::contexts::with_variable;
-use cc_type::stop::refused;
-use cc_type::{Found, Log, Measures, Stop};
 use std::alloc::{AllocError, Global};
 use std::rc::Rc;
 

@@ -5,14 +5,14 @@ ghost use Rattle.cc_core.specs.Shapes.{Shape as PlainShape};
 ghost use Rattle.cc_core.specs.TermViews.{shape_of, type_of, context_of};
 ghost use Rattle.cc_core.specs.WellFormed.{IsWellFormedContext};
 ghost use Rattle.cc_checking.specs.Verdicts.{signature_of};
-ghost use Rattle.cc_type.specs.Measures.{IsMeasuredBy, IsMeasuredFrom, IsSize};
-ghost use Rattle.cc_type.specs.Signatures as plain;
+ghost use Rattle.cc_known.specs.Measures.{IsMeasuredBy, IsMeasuredFrom, IsSize};
+ghost use Rattle.cc_known.specs.Signatures as plain;
 
 use crate::signing::sign_whole;
 use cc_capture::{CapSet, Elem, Var};
 use cc_core::{Ctx, Shape, Ty};
-use cc_type::Measure;
-use cc_type::measures::measured_size;
+use cc_known::Measure;
+use cc_known::measures::measured_size;
 use std::alloc::{AllocError, Global};
 
 /// The type that others see of a definition of the type: each position from the first definition on is avoided, the

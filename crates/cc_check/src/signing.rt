@@ -10,7 +10,7 @@ ghost use Rattle.cc_core.specs.Contexts.{lookup};
 ghost use Rattle.cc_core.specs.TermViews.{shape_of, type_of, bind_of, context_of};
 ghost use Rattle.cc_core.specs.WellFormed.{IsWellFormedContext};
 ghost use Rattle.cc_checking.specs.Avoidance as plain;
-ghost use Rattle.cc_type.specs.Measures.{IsClearAlong, IsMeasuredFrom};
+ghost use Rattle.cc_known.specs.Measures.{IsClearAlong, IsMeasuredFrom};
 ghost use Rattle.cc_check.specs.SignedParts.{declared_sets, AvoidsBind, AvoidsEntry};
 
 use crate::signature::{greatest_in, greatest_in_set};
@@ -22,7 +22,7 @@ use cc_avoid::walking::{
 };
 use cc_capture::CapSet;
 use cc_core::{Bind, Ctx, Shape, Ty};
-use cc_type::Measure;
+use cc_known::Measure;
 use std::alloc::{AllocError, Global};
 
 // The definitions of a context with so many devices.

@@ -8,9 +8,9 @@ ghost use Rattle.cc_core.specs.TermViews.{shape_of, type_of, note_of, term_of, c
 ghost use Rattle.cc_core.specs.WellFormed.{IsWellFormedContext, IsWellFormedShape, IsWellFormedType};
 ghost use Rattle.cc_checking.specs.Inference.{exit_entry, inferred};
 ghost use Rattle.cc_subty.specs.Demands.{asked_of};
-ghost use Rattle.cc_type.specs.Logs.{Meets, after};
-ghost use Rattle.cc_type.specs.Measures.{AreMeasuresOf};
-ghost use Rattle.cc_type.specs.Parts.{found_of, named_of};
+ghost use Rattle.cc_known.specs.Logs.{Meets, after};
+ghost use Rattle.cc_known.specs.Measures.{AreMeasuresOf};
+ghost use Rattle.cc_known.specs.Parts.{found_of, named_of};
 ghost use Rattle.cc_type.specs.Rows.{ways, noted_log, test_log, boundary_log, inferred_log};
 ghost use Rattle.cc_type.specs.Standing.{NoteReadsWell, StandsIn, StandsWell};
 
@@ -19,16 +19,16 @@ use cc_base::place::Place;
 use cc_capture::{CapSet, Var};
 use cc_core::reading::{read_shape, read_type};
 use cc_core::{Ctx, Form, Node, Note, Shape, Ty};
+use cc_known::found::{Found, Named};
+use cc_known::measures::Measures;
+use cc_known::steps::entries;
+use cc_known::stop::Stop;
 use cc_type::comparing::below;
 use cc_type::contexts::{with_exit, with_type_variable, with_variable};
 use cc_type::ends::{boundary_end, choice_rest, function_end, let_end, type_function_end};
-use cc_type::found::{Found, Named};
 use cc_type::log::Log;
-use cc_type::measures::Measures;
 use cc_type::operands::{base_operand, branch, needs_note, noted};
 use cc_type::rows;
-use cc_type::steps::entries;
-use cc_type::stop::Stop;
 use std::alloc::{AllocError, Global};
 use std::rc::Rc;
 

@@ -16,7 +16,7 @@ ghost use Rattle.cc_module.specs.Findings.{finding_of};
 ghost use Rattle.cc_module.specs.Judgements.{module_verdict_of, refusal_of, JudgesAll, JudgesOne, IsSoundIfAccepted};
 ghost use Rattle.cc_module.specs.TextReadings.{text_reading_of};
 ghost use Rattle.cc_parse.specs.Trees.{import_syntax, module_syntax};
-ghost use Rattle.cc_type.specs.Measures.{AreAllMeasuresOf};
+ghost use Rattle.cc_known.specs.Measures.{AreAllMeasuresOf};
 
 use crate::contexts::{declared_context, with_findings, with_signature};
 use crate::finding::{Finding, code_of};
@@ -28,10 +28,11 @@ use cc_base::literal::Import;
 use cc_base::steps::Steps;
 use cc_check::{CheckError, check_known};
 use cc_core::{CoreDef, Ctx};
+use cc_known::Measures;
 use cc_mnf::ElaborateError;
 use cc_mnf::elaborate::elaborate;
 use cc_parse::tree::Module;
-use cc_type::{Instances, Measures};
+use cc_type::Instances;
 use std::alloc::{AllocError, Global};
 use std::sync::ledger::Ledger;
 

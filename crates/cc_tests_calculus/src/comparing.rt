@@ -9,9 +9,10 @@ use cc_base::place::Place;
 use cc_core::same::same_shape;
 use cc_core::wellformed::{wf, wf_shape};
 use cc_core::{Base, CapSet, Ctx, Elem, Shape, Ty, Var};
+use cc_known::Stop;
 use cc_subty::{Demand, Demands, expose};
 use cc_type::comparing::below;
-use cc_type::{Log, Stop, SubtypeError, subtype};
+use cc_type::{Log, SubtypeError, subtype};
 use std::alloc::{AllocError, Global};
 use std::rc::Rc;
 

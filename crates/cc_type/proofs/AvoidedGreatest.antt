@@ -19,9 +19,9 @@ use Rattle.cc_checking.specs.Avoidance.{avoided_set, avoided, avoided_type}
 use Rattle.cc_checking.specs.Verdicts.{declared_set, signature_of}
 use Rattle.cc_typing_laws.proofs.Avoiding.{both_some, map_some, unless_some, not_true, avoided_type_parts}
 use Rattle.cc_typing_laws.proofs.AvoidingPlaces.{nothing_to_avoid, avoided_is_gone}
-use Rattle.cc_type.specs.Signatures.{greatest_position, IsGreatest, height_of, SignatureOfDevicesAlone}
-use Rattle.cc_type.specs.Signatures.{SignatureAvoidsTheGreatest, GreatestPositionFalls}
-use Rattle.cc_type.proofs.GreatestPositions.{greatest_is_greatest}
+use Rattle.cc_known.specs.Signatures.{greatest_position, IsGreatest, height_of, SignatureOfDevicesAlone}
+use Rattle.cc_known.specs.Signatures.{SignatureAvoidsTheGreatest, GreatestPositionFalls}
+use Rattle.cc_known.proofs.GreatestPositions.{greatest_is_greatest}
 
 or_parts_no : (a b : Bool) → (a || b) ≡ false → (a ≡ false) × (b ≡ false)
 or_parts_no true b e = cc

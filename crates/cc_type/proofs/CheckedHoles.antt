@@ -19,10 +19,10 @@ use Rattle.cc_checking_laws.proofs.FoundFindings.{asked_of, Came, then_came, fin
 use Rattle.cc_checking_laws.proofs.FoundFindings.{noted_came, avoided_came}
 use Rattle.cc_checking_laws.proofs.Findings.{below_all}
 use Rattle.cc_checking_laws.proofs.Signatures.{signed}
-use Rattle.cc_type.specs.FilledHoles.{holes_below, HasContextHolesBelow, HasAskedHolesBelow, holes_of}
-use Rattle.cc_type.specs.FilledHoles.{InferenceAddsNoHole, CheckingAddsNoHole}
-use Rattle.cc_type.proofs.FilledAlike.{closed_below, holes_are_counted}
-use Rattle.cc_type.proofs.HolesBelow.{InType, types_in}
+use Rattle.cc_known.specs.FilledHoles.{holes_below, HasContextHolesBelow, HasAskedHolesBelow, holes_of}
+use Rattle.cc_known.specs.FilledHoles.{InferenceAddsNoHole, CheckingAddsNoHole}
+use Rattle.cc_known.proofs.FilledAlike.{closed_below, holes_are_counted}
+use Rattle.cc_known.proofs.HolesBelow.{InType, types_in}
 use Rattle.cc_type.proofs.FoundHoles.{AllIn, all_both, demands_then, notes_in, few}
 
 -- each of all that is asked

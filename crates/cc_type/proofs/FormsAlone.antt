@@ -28,12 +28,12 @@ use Rattle.cc_checking.specs.Comparison.{comparison, type_comparison}
 use Rattle.cc_checking.specs.Inference.{demand_at, compared_at}
 use Rattle.cc_checking.specs.Outcomes.{Placed}
 use Rattle.cc_type.specs.FormsAlone.{forces_nothing}
-use Rattle.cc_type.specs.Keeping.{has_hole, is_demand_settled, is_lost, has_lost, is_needless, with_one, keeping}
-use Rattle.cc_type.specs.KeptWalks.{goes, form_compared}
-use Rattle.cc_type.specs.Logs.{Got, after}
-use Rattle.cc_type.proofs.ComparedAgain.{all_both}
-use Rattle.cc_type.proofs.KeptWalks.{read-any}
-use Rattle.cc_type.proofs.RememberedPairs.{untrue, all_go}
+use Rattle.cc_known.specs.Keeping.{has_hole, is_demand_settled, is_lost, has_lost, is_needless, with_one, keeping}
+use Rattle.cc_known.specs.KeptWalks.{goes, form_compared}
+use Rattle.cc_known.specs.Logs.{Got, after}
+use Rattle.cc_known.proofs.ComparedAgain.{all_both}
+use Rattle.cc_known.proofs.KeptWalks.{read-any}
+use Rattle.cc_known.proofs.RememberedPairs.{untrue, all_go}
 
 -- a set without a hole has none as it is read
 moved_no_hole : (n : ℕ) (e : Elem) → IsNoHole e → IsNoHole (moved_element (read_variable n 0) e)

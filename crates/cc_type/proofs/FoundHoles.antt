@@ -23,11 +23,11 @@ use Rattle.cc_checking_laws.proofs.Findings.{finds-box, finds-application, finds
 use Rattle.cc_checking_laws.proofs.Findings.{finds-unboxing_own, finds-let, finds-primitive, finds-choice}
 use Rattle.cc_checking_laws.proofs.Findings.{finds-choice_own, finds-repetition, finds-operation, finds-operation_alone}
 use Rattle.cc_checking_laws.proofs.Findings.{finds-boundary, finds-exit}
-use Rattle.cc_type.specs.FilledHoles.{holes_below, HasContextHolesBelow, HasAskedHolesBelow}
-use Rattle.cc_type.proofs.FilledAlike.{shape_anywhere, term_anywhere}
-use Rattle.cc_type.proofs.HolesBelow.{InSet, InShape, InType, InDemands, in_single, in_empty, in_union, in_variable}
-use Rattle.cc_type.proofs.HolesBelow.{in_captured, set_moved, shape_moved, set_put, shape_put, outermost_shape}
-use Rattle.cc_type.proofs.HolesBelow.{in_entry, in_exposed, avoided_type_in, shapes_in, types_in}
+use Rattle.cc_known.specs.FilledHoles.{holes_below, HasContextHolesBelow, HasAskedHolesBelow}
+use Rattle.cc_known.proofs.FilledAlike.{shape_anywhere, term_anywhere}
+use Rattle.cc_known.proofs.HolesBelow.{InSet, InShape, InType, InDemands, in_single, in_empty, in_union, in_variable}
+use Rattle.cc_known.proofs.HolesBelow.{in_captured, set_moved, shape_moved, set_put, shape_put, outermost_shape}
+use Rattle.cc_known.proofs.HolesBelow.{in_entry, in_exposed, avoided_type_in, shapes_in, types_in}
 
 module _ (n : ℕ) where
   abbrev pub AllIn : List Asked → Type 0

@@ -5,8 +5,8 @@ use Rattle.std.specs.Prelude.{nat_lt}
 use Rattle.std.proofs.lemmas.Bool.{cases_lt, cond-true, cond-false, ltb-true, ltb-false}
 use Rattle.cc_capture.specs.declared.var.Elem.{Elem}
 use Rattle.cc_typing_laws.proofs.Avoiding.{not_true}
-use Rattle.cc_type.specs.FilledHoles.{holes_of_element, holes_listed}
-use Rattle.cc_type.specs.Signatures.{greater_of, element_position, greatest_listed}
+use Rattle.cc_known.specs.FilledHoles.{holes_of_element, holes_listed}
+use Rattle.cc_known.specs.Signatures.{greater_of, element_position, greatest_listed}
 
 less_test : (x y : ℕ) → x < y → nat_lt x y ≡ true
 less_test x y h =

@@ -16,7 +16,7 @@ use Rattle.cc_core.proofs.SubcapturingContexts.{entry_of_term}
 use Rattle.cc_checking.specs.Avoidance.{has_position, is_position, is_free_in, is_free_in_type}
 use Rattle.cc_typing_laws.proofs.Avoiding.{not_true}
 use Rattle.cc_checking_laws.proofs.CheckedDefinitions.{all_terms}
-use Rattle.cc_type.specs.Signatures.{GreatestPositionHasAnEntry}
+use Rattle.cc_known.specs.Signatures.{GreatestPositionHasAnEntry}
 use Rattle.cc_type.proofs.AvoidedGreatest.{or_no, greatest_some}
 
 module _ (kinds : List Kind) (q : ℕ) (past : length kinds ≤ q) where

@@ -24,11 +24,11 @@ use Rattle.cc_checking.specs.Inference.{Result, result, in_context, type_in, sha
 use Rattle.cc_checking.specs.Inference.{entry_type, variable_type, function_head, type_function_head, box_head, exit_head}
 use Rattle.cc_checking.specs.Inference.{device_head, operand, operation_argument, opening_set, named_by, noted, left_behind}
 use Rattle.cc_checking.specs.Inference.{tested, sized, inferred}
-use Rattle.cc_type.specs.Keeping.{keeping}
-use Rattle.cc_type.specs.Logs.{Logged, Lost, Stopped, Got, after, followed, plainly}
+use Rattle.cc_known.specs.Keeping.{keeping}
+use Rattle.cc_known.specs.Logs.{Logged, Lost, Stopped, Got, after, followed, plainly}
 use Rattle.cc_type.specs.Rows.{comparing, ways, directly, ends, operand_log, argument_log, opening_log, own_named}
 use Rattle.cc_type.specs.Rows.{noted_log, inferred_log}
-use Rattle.cc_type.proofs.KeptLists.{kept_of_both}
+use Rattle.cc_known.proofs.KeptLists.{kept_of_both}
 
 -- an outcome that asks nothing
 abbrev IsPlain : {A : Type 0} → Outcome A → Type 0

@@ -18,14 +18,14 @@ use Rattle.cc_core.specs.Holes.{HolesAreOfParameters}
 use Rattle.cc_checking_laws.proofs.FitDemands.{asked_is_fit}
 use Rattle.cc_checking_laws.proofs.LeastFillings.{least_over_globals}
 use Rattle.cc_solve.specs.Solutions.{filling_of}
-use Rattle.cc_type.specs.FilledHoles.{HasAskedHolesBelow, holes_of, FillAlike, HasCheckingHolesBelow}
-use Rattle.cc_type.specs.FormedDemands.{IsWellFormedAsked, AllWellFormed}
-use Rattle.cc_type.specs.Keeping.{kept}
+use Rattle.cc_known.specs.FilledHoles.{HasAskedHolesBelow, holes_of, FillAlike, HasCheckingHolesBelow}
+use Rattle.cc_known.specs.FormedDemands.{IsWellFormedAsked, AllWellFormed}
+use Rattle.cc_known.specs.Keeping.{kept}
 use Rattle.cc_type.proofs.CheckedHoles.{checking_adds_no_hole}
-use Rattle.cc_type.proofs.FilledAlike.{lists_fill_alike}
-use Rattle.cc_type.proofs.HolesBelow.{in_entry}
-use Rattle.cc_type.proofs.KeptLists.{kept_is_not_settled, kept_forces_the_same, kept_is_served_alike, kept_fails_alike}
-use Rattle.cc_type.proofs.KeptLists.{kept_is_fit}
+use Rattle.cc_known.proofs.FilledAlike.{lists_fill_alike}
+use Rattle.cc_known.proofs.HolesBelow.{in_entry}
+use Rattle.cc_known.proofs.KeptLists.{kept_is_not_settled, kept_forces_the_same, kept_is_served_alike, kept_fails_alike}
+use Rattle.cc_known.proofs.KeptLists.{kept_is_fit}
 
 -- each hole of the set is below the number
 abbrev pub HolesIn : ℕ → Set → Type 0

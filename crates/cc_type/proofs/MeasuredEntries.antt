@@ -16,10 +16,10 @@ use Rattle.cc_core.proofs.Lookups.{slice_get-last}
 use Rattle.cc_checking.specs.Inference.{entry_type, variable_type}
 use Rattle.cc_checking.specs.Outcomes.{finds}
 use Rattle.cc_typing_laws.proofs.FreeMaps.{lookup_cases}
-use Rattle.cc_type.specs.Measures.{IsSize, IsMeasuredBy, whole_measure, measured_at, measure_at, measure_of, AreMeasuresOf, AreAllMeasuresOf}
-use Rattle.cc_type.specs.Signatures.{greatest_in}
-use Rattle.cc_type.specs.declared.measures.Measure.{Measure}
-use Rattle.cc_type.specs.declared.measures.Measures.{Measures}
+use Rattle.cc_known.specs.Measures.{IsSize, IsMeasuredBy, whole_measure, measured_at, measure_at, measure_of, AreMeasuresOf, AreAllMeasuresOf}
+use Rattle.cc_known.specs.Signatures.{greatest_in}
+use Rattle.cc_known.specs.declared.measures.Measure.{Measure}
+use Rattle.cc_known.specs.declared.measures.Measures.{Measures}
 
 -- nothing is known of a position past the sizes
 measured_none : (first before : ℕ) (sizes : List ℕ) (p : ℕ) → (before ≤ p → length sizes ≤ p - before)

@@ -10,8 +10,8 @@ use Rattle.cc_core.proofs.Comparisons.{same_shape-decides}
 use Rattle.cc_checking.specs.Comparison.{demanded, Comparison, Matches, and_then, is_any, by_form, comparison, type_comparison}
 use Rattle.cc_checking.specs.Inference.{demand_at, compared_at}
 use Rattle.cc_checking.specs.Outcomes.{Placed}
-use Rattle.cc_type.specs.Keeping.{with_one}
-use Rattle.cc_type.specs.Logs.{Got, after}
+use Rattle.cc_known.specs.Keeping.{with_one}
+use Rattle.cc_known.specs.Logs.{Got, after}
 
 one_matches : (steps : ℕ) (g : Context) (s : Shape) → (steps ≡ 0 → ⊥) → comparison steps g s s ≡ Matches []
 unfolding comparison

@@ -24,12 +24,12 @@ use Rattle.cc_checking_laws.proofs.Findings.{Finds}
 use Rattle.cc_checking_laws.proofs.FoundFindings.{asked_of, found_finds}
 use Rattle.cc_checking_laws.proofs.FoundTypes.{regular}
 use Rattle.cc_checking_laws.proofs.ReadingKinds.{Inside, outermost, deeper, read_kinded}
-use Rattle.cc_type.specs.declared.stop.Stop.{Stop}
-use Rattle.cc_type.specs.declared.stop.Stop.TheVariants as stops
-use Rattle.cc_type.specs.Logs.{Logged, Lost, Stopped, Got, after, followed, Answers, Meets}
+use Rattle.cc_known.specs.declared.stop.Stop.{Stop}
+use Rattle.cc_known.specs.declared.stop.Stop.TheVariants as stops
+use Rattle.cc_known.specs.Logs.{Logged, Lost, Stopped, Got, after, followed, Answers, Meets}
 use Rattle.cc_type.specs.Rows.{comparing, ways, ends, let_end, written_log, own_log, own_named, noted_log, inferred_log}
 use Rattle.cc_type.specs.Standing.{StandsIn, NoteReadsWell, StandsWell}
-use Rattle.cc_type.proofs.FormedParts.{with_set_well_formed}
+use Rattle.cc_known.proofs.FormedParts.{with_set_well_formed}
 use Rattle.cc_type.proofs.InferredLogs.{inferred_logs}
 
 inside_of : (base passed : Context) → Inside base (passed ++ base) (kinds_of passed)

@@ -17,7 +17,7 @@ use Rattle.cc_type.specs.declared.subtyping.SubtypeError.TheVariants.{NoMemory, 
 use Rattle.cc_subty.specs.declared.demands.Demand.{Demand as DeclaredDemand}
 use Rattle.cc_subty.specs.Demands.{demand_of, asked_of}
 use Rattle.cc_type.specs.Comparing.{most_steps, asked_after, Compares, AsksWhat, IsNoMatch, Demanded, HandsOn}
-use Rattle.cc_type.specs.KeptWalks.{Keeps}
+use Rattle.cc_known.specs.KeptWalks.{Keeps}
 
 some_inside : {A : Type 0} (a b : A) → Some a ≡ Some b → a ≡ b
 some_inside a b e = cc

@@ -12,8 +12,8 @@ use Rattle.cc_checking.specs.Outcomes.{Outcome, NoAnswer, finds}
 use Rattle.cc_checking.specs.Inference.{set_in, shape_in, type_in, written_in, Named, named_by}
 use Rattle.cc_avoid.specs.declared.avoiding.AvoidError.{AvoidError}
 use Rattle.cc_avoid.specs.declared.avoiding.AvoidError.TheVariants as errors
-use Rattle.cc_type.specs.declared.stop.Stop.{Stop}
-use Rattle.cc_type.specs.declared.stop.Stop.TheVariants as stops
+use Rattle.cc_known.specs.declared.stop.Stop.{Stop}
+use Rattle.cc_known.specs.declared.stop.Stop.TheVariants as stops
 
 -- the type of a function that takes this, whose body has that type and captures these outside of its binder
 abbrev pub function_type : Context → CapturingType → CapturingType → Set → CapturingType

@@ -11,8 +11,8 @@ use Rattle.cc_core.specs.Substitution.{single}
 use Rattle.cc_checking.specs.Comparison.{demanded}
 use Rattle.cc_checking.specs.Outcomes.{IsBelow, IsCapless, Placed}
 use Rattle.cc_checking.specs.Fillings.{IsForced}
-use Rattle.cc_type.specs.Keeping.{is_demand_settled, is_settled, is_lost, kept}
-use Rattle.cc_type.specs.Signatures.{greatest_position}
+use Rattle.cc_known.specs.Keeping.{is_demand_settled, is_settled, is_lost, kept}
+use Rattle.cc_known.specs.Signatures.{greatest_position}
 use Rattle.cc_checking.specs.Inference.{demand_at}
 use Rattle.cc_base.specs.declared.place.Place.{Place}
 

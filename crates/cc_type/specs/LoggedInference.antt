@@ -5,7 +5,7 @@ use Rattle.cc_core.specs.Contexts.{Context}
 use Rattle.cc_core.specs.Places.{Places}
 use Rattle.cc_checking.specs.Outcomes.{Placed}
 use Rattle.cc_checking.specs.Inference.{inferred}
-use Rattle.cc_type.specs.Logs.{after}
+use Rattle.cc_known.specs.Logs.{after}
 use Rattle.cc_type.specs.Rows.{ways, inferred_log}
 
 -- as the program goes through a term, it comes to what inference comes to, and keeps what that asks

@@ -27,8 +27,8 @@ use Rattle.cc_checking.specs.Inference.{exit_head, device_head, demand_at, below
 use Rattle.cc_checking.specs.Inference.{named_by, left_behind, Ways, limited, tested, function_found, type_function_found}
 use Rattle.cc_checking.specs.Inference.{choice_found, exit_entry}
 use Rattle.cc_type.specs.Comparing.{most_steps}
-use Rattle.cc_type.specs.Keeping.{with_one}
-use Rattle.cc_type.specs.Logs.{Logged, Lost, Stopped, Got, after, followed, plainly}
+use Rattle.cc_known.specs.Keeping.{with_one}
+use Rattle.cc_known.specs.Logs.{Logged, Lost, Stopped, Got, after, followed, plainly}
 
 -- comparisons as the program makes them
 abbrev pub comparing : Comparing

@@ -5,18 +5,18 @@ ghost use Rattle.cc_core.specs.TermViews.{shape_of, type_of, context_of};
 ghost use Rattle.cc_core.specs.WellFormed.{IsWellFormedContext, IsWellFormedShape, IsWellFormedType};
 ghost use Rattle.cc_checking.specs.Inference as plain;
 ghost use Rattle.cc_subty.specs.Demands.{asked_of};
-ghost use Rattle.cc_type.specs.Logs.{Meets, after};
+ghost use Rattle.cc_known.specs.Logs.{Meets, after};
 ghost use Rattle.cc_type.specs.Rows.{comparing};
 
 use crate::forms::match_behind;
-use crate::known::Known;
 use crate::log::{Log, keep_below};
-use crate::stop::{Stop, refused};
 use crate::walking::{keep_shapes, keep_types};
 use cc_base::code::Code;
 use cc_base::place::Place;
 use cc_core::same::same_shape;
 use cc_core::{Ctx, Shape, Ty};
+use cc_known::known::Known;
+use cc_known::stop::{Stop, refused};
 use std::alloc::Global;
 
 /// The left type has to be below the right one. Where the shapes are one the sets alone are compared, and so are they

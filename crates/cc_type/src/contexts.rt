@@ -23,11 +23,7 @@ pub fn with_variable(alloc: Global, ctx: &Ctx, ty: &Ty) -> Result<Ctx, AllocErro
 }
 
 /// The context with a type variable of the bound.
-pub fn with_type_variable(
-    alloc: Global,
-    ctx: &Ctx,
-    bound: &Rc<Shape>,
-) -> Result<Ctx, AllocError>
+pub fn with_type_variable(alloc: Global, ctx: &Ctx, bound: &Rc<Shape>) -> Result<Ctx, AllocError>
     requires context { IsWellFormedContext (context_of ctx.now) }
     requires bound { IsWellFormedShape (context_of ctx.now) (shape_of bound.now.value) }
     ensures is { IfOk result (λ c. context_of c ≡ TypeEntry (shape_of bound.now.value) ∷ context_of ctx.now) }

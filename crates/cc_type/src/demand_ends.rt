@@ -4,12 +4,12 @@ ghost use Rattle.std.specs.Prelude.{◌≡◌, ◌<◌, ◌≤◌, ℕ, IfOk, On
 ghost use Rattle.cc_capture.specs.Sets.{Member, empty};
 ghost use Rattle.cc_core.specs.TermViews.{bind_of, context_of};
 ghost use Rattle.cc_core.specs.WellFormed.{IsWellFormedContext, IsWellFormedSet};
-ghost use Rattle.cc_type.specs.EndedDemands.{PutsBeyond, IsPositionBelow, IsLastBelow};
-ghost use Rattle.cc_type.specs.Keeping.{declared_of, ends_beyond};
+ghost use Rattle.cc_known.specs.EndedDemands.{PutsBeyond, IsPositionBelow, IsLastBelow};
+ghost use Rattle.cc_known.specs.Keeping.{declared_of, ends_beyond};
 
-use crate::ended::EndedDemand;
 use cc_capture::{CapSet, Elem, Var};
 use cc_core::{Bind, Ctx};
+use cc_known::ended::EndedDemand;
 use std::alloc::{AllocError, Global};
 
 // Puts the element where it belongs, unless the right set has it: a variable waits, and what no context says more of is

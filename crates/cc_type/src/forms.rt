@@ -10,8 +10,8 @@ ghost use Rattle.cc_checking.specs.Inference.{shape_in, type_in};
 ghost use Rattle.cc_type.specs.Comparing.{most_steps};
 ghost use Rattle.cc_subty.specs.Demands.{asked_of};
 ghost use Rattle.cc_type.specs.FormsAlone.{forces_nothing};
-ghost use Rattle.cc_type.specs.Keeping.{has_lost};
-ghost use Rattle.cc_type.specs.KeptWalks.{form_compared};
+ghost use Rattle.cc_known.specs.Keeping.{has_lost};
+ghost use Rattle.cc_known.specs.KeptWalks.{form_compared};
 
 use crate::log::{Log, has_hole};
 use cc_core::same::same_shape;

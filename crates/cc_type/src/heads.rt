@@ -4,19 +4,19 @@ ghost use Rattle.std.specs.Prelude.{◌≡◌, IfOk};
 ghost use Rattle.cc_core.specs.TermViews.{shape_of, type_of, context_of};
 ghost use Rattle.cc_core.specs.WellFormed.{IsWellFormedContext, IsWellFormedSet, IsWellFormedShape, IsWellFormedType};
 ghost use Rattle.cc_checking.specs.Inference as plain;
-ghost use Rattle.cc_type.specs.Logs.{Answers};
-ghost use Rattle.cc_type.specs.Measures.{IsMeasuredBy, AreMeasuresOf};
+ghost use Rattle.cc_known.specs.Logs.{Answers};
+ghost use Rattle.cc_known.specs.Measures.{IsMeasuredBy, AreMeasuresOf};
 ghost use Rattle.cc_type.specs.Rows.{function_at, type_function_at, box_at, exit_at, device_at};
 
-use crate::measures::{Measure, Measures, measure_of};
-use crate::steps::{
-    box_head, device_head, exit_head, function_head, in_context, type_function_head, variable_type,
-};
-use crate::stop::Stop;
 use cc_base::literal::Base;
 use cc_base::place::Place;
 use cc_capture::Var;
 use cc_core::{Ctx, Shape, Ty};
+use cc_known::measures::{Measure, Measures, measure_of};
+use cc_known::steps::{
+    box_head, device_head, exit_head, function_head, in_context, type_function_head, variable_type,
+};
+use cc_known::stop::Stop;
 use cc_subty::expose;
 use std::alloc::Global;
 use std::rc::Rc;

@@ -1,11 +1,11 @@
 //! The laws of what is kept of all that is asked, apart from any code. The functions do nothing; each has a law as its
 //! contract.
-ghost use Rattle.cc_type.specs.ComparedAgain.{ComparedAgain, ComparedEmbedded, SettledEmbedded};
-ghost use Rattle.cc_type.specs.FilledHoles as holes;
+ghost use Rattle.cc_known.specs.ComparedAgain.{ComparedAgain, ComparedEmbedded, SettledEmbedded};
+ghost use Rattle.cc_known.specs.FilledHoles as holes;
 ghost use Rattle.cc_type.specs.KeepingExamples as example;
-ghost use Rattle.cc_type.specs.KeepingLaws as keeping;
+ghost use Rattle.cc_known.specs.KeepingLaws as keeping;
 ghost use Rattle.cc_type.specs.LoggedInference.{InferenceOverLogs};
-ghost use Rattle.cc_type.specs.Signatures as signature;
+ghost use Rattle.cc_known.specs.Signatures as signature;
 
 /// The test of sets decides subcapturing.
 pub fn test_of_sets()

@@ -7,23 +7,23 @@ ghost use Rattle.cc_core.specs.TermViews.{shape_of, type_of, note_of, context_of
 ghost use Rattle.cc_core.specs.WellFormed.{IsWellFormedContext, IsWellFormedSet, IsWellFormedShape, IsWellFormedType};
 ghost use Rattle.cc_checking.specs.Inference as plain;
 ghost use Rattle.cc_subty.specs.Demands.{asked_of};
-ghost use Rattle.cc_type.specs.Logs.{Answers, Meets, after};
-ghost use Rattle.cc_type.specs.Parts.{named_of};
+ghost use Rattle.cc_known.specs.Logs.{Answers, Meets, after};
+ghost use Rattle.cc_known.specs.Parts.{named_of};
 ghost use Rattle.cc_type.specs.Rows.{has_note, operand_log, argument_log, opening_log, written_log, own_log, own_named, noted_log, branch_log};
 ghost use Rattle.cc_type.specs.Standing.{NoteReadsWell};
 
 use crate::comparing::{against, below};
-use crate::found::Named;
 use crate::heads::type_of_variable;
 use crate::log::{Log, keep};
-use crate::steps::entries;
-use crate::stop::{Stop, refused};
 use cc_base::code::Code;
 use cc_base::literal::Base;
 use cc_base::place::Place;
 use cc_capture::{CapSet, Var};
 use cc_core::reading::{read_set, read_shape, read_type, write_set};
 use cc_core::{Ctx, Note, Shape, Ty};
+use cc_known::found::Named;
+use cc_known::steps::entries;
+use cc_known::stop::{Stop, refused};
 use cc_subty::Demand;
 use std::alloc::{AllocError, Global};
 use std::rc::Rc;

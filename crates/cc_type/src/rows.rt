@@ -11,24 +11,20 @@ ghost use Rattle.cc_core.specs.TermViews.{shape_of, type_of, context_of};
 ghost use Rattle.cc_core.specs.WellFormed.{IsWellFormedContext, IsWellFormedShape};
 ghost use Rattle.cc_checking.specs.Inference as plain;
 ghost use Rattle.cc_subty.specs.Demands.{asked_of};
-ghost use Rattle.cc_type.specs.Logs.{Answers, Meets};
-ghost use Rattle.cc_type.specs.Measures.{AreMeasuresOf};
-ghost use Rattle.cc_type.specs.Parts.{found_of};
+ghost use Rattle.cc_known.specs.Logs.{Answers, Meets};
+ghost use Rattle.cc_known.specs.Measures.{AreMeasuresOf};
+ghost use Rattle.cc_known.specs.Parts.{found_of};
 ghost use Rattle.cc_type.specs.Rows.{variable_row, literal_row, box_row, application_row, type_application_end, type_application_row, unboxing_end, unboxing_row, primitive_row, repeated_log, repetition_row, operation_row, leave_row};
 
 use crate::comparing::{against, below};
-use crate::found::Found;
 use crate::heads::{
     box_part, device_part, exit_part, function_part, measured_type, type_function_part,
     type_of_variable,
 };
 use crate::instances::{Instances, instantiated};
 use crate::log::Log;
-use crate::measures::{Measures, measure_around};
 use crate::operands::{base_operand, capless, opening_set, operand, operation_argument};
 use crate::sizes::{fitting_leaf, leaf, measured_leaf};
-use crate::steps::{entries, in_context};
-use crate::stop::{Stop, refused};
 use cc_base::code::Code;
 use cc_base::literal::{Base, Lit, Op, Operator};
 use cc_base::place::Place;
@@ -37,6 +33,10 @@ use cc_core::copies::copy_literal;
 use cc_core::reading::{read_shape, read_type, write_set};
 use cc_core::substitution::subst_var;
 use cc_core::{Ctx, Form, Node, Shape, Ty};
+use cc_known::found::Found;
+use cc_known::measures::{Measures, measure_around};
+use cc_known::steps::{entries, in_context};
+use cc_known::stop::{Stop, refused};
 use std::alloc::{AllocError, Global};
 use std::rc::Rc;
 

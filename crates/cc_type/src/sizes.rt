@@ -6,19 +6,19 @@ ghost use Rattle.cc_core.specs.Places.{spots_at, places_around, places_of};
 ghost use Rattle.cc_core.specs.Sizes.{type_size, size_with};
 ghost use Rattle.cc_core.specs.TermViews.{shape_of, type_of, form_of, term_of};
 ghost use Rattle.cc_checking.specs.Inference.{result as plain_result, tested, greatest_size};
-ghost use Rattle.cc_type.specs.Logs.{Answers};
-ghost use Rattle.cc_type.specs.Measures.{IsMeasuredBy};
-ghost use Rattle.cc_type.specs.Parts.{found_of};
+ghost use Rattle.cc_known.specs.Logs.{Answers};
+ghost use Rattle.cc_known.specs.Measures.{IsMeasuredBy};
+ghost use Rattle.cc_known.specs.Parts.{found_of};
 ghost use Rattle.cc_type.specs.Rows.{ways};
 
-use crate::found::Found;
-use crate::measures::{Measure, measured_size};
-use crate::stop::{Stop, refused};
 use cc_base::code::Code;
 use cc_capture::CapSet;
 use cc_captured::captured::cv;
 use cc_core::sizes::subst_size;
 use cc_core::{Form, Node, Shape, Ty};
+use cc_known::found::Found;
+use cc_known::measures::{Measure, measured_size};
+use cc_known::stop::{Stop, refused};
 use std::alloc::{AllocError, Global};
 use std::rc::Rc;
 

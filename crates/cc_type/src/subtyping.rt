@@ -8,11 +8,11 @@ ghost use Rattle.cc_checking.specs.Comparison.{comparison, type_comparison};
 ghost use Rattle.cc_type.specs.Comparing.{most_steps, Compares, AsksWhat, IsNoMatch, Demanded, HandsOn};
 ghost use Rattle.cc_subty.specs.Demands.{asked_of};
 
-use crate::known::Known;
 use crate::log::Log;
 use crate::walking::{keep_shapes, keep_types};
 use cc_base::place::Place;
 use cc_core::{Ctx, Shape, Ty};
+use cc_known::known::Known;
 use cc_subty::Demands;
 use std::alloc::{AllocError, Global};
 use std::mem::replace;

@@ -1,7 +1,7 @@
 use Rattle.std.proofs.Common.{◌≡◌, Err, sym, subst}
 use Rattle.cc_core.specs.TermViews.{context_of}
 use Rattle.cc_subty.specs.Demands.{asked_of}
-use Rattle.cc_type.specs.Logs.{Got, Meets}
+use Rattle.cc_known.specs.Logs.{Got, Meets}
 use Rattle.cc_check.specs.Definitions.{definition_of, checking_of}
 use Rattle.cc_check.specs.Judging.{Judges, KeepsOf}
 use Rattle.cc_check.specs.Rows.{checked_log}

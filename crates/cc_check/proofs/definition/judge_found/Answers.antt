@@ -7,7 +7,7 @@ use Rattle.cc_core.specs.TermViews.{bind_of, type_of, term_of, context_of}
 use Rattle.cc_core.specs.WellFormed.{IsWellFormedType}
 use Rattle.cc_checking.specs.Verdicts.{IsRefused, signature_under, signature_verdict}
 use Rattle.cc_subty.specs.Demands.{asked_of}
-use Rattle.cc_type.specs.FilledHoles.{holes_of}
+use Rattle.cc_known.specs.FilledHoles.{holes_of}
 use Rattle.cc_check.specs.Definitions.{definition_of, checking_of}
 use Rattle.cc_check.specs.Judging.{Answers}
 use Rattle.cc_check.proofs.JudgedDefinitions.{solvable, judged, decided_by_failure, filled_well_formed}

@@ -1,7 +1,7 @@
 use Rattle.std.proofs.Common.{max, sym, ap, ◌∙◌}
 use Rattle.std.proofs.lemmas.List.{map-id}
 use Rattle.std.proofs.lemmas.Iterator.Consumers.{YieldsList-from_first, YieldsList-end}
-use Rattle.cc_type.specs.FilledHoles.{holes_listed}
+use Rattle.cc_known.specs.FilledHoles.{holes_listed}
 use Rattle.cc_type.proofs.Gathering.{holes_listed-push}
 use Rattle.cc_check.proofs.holes.holes_in_set.Goals as goal
 

@@ -4,8 +4,8 @@ use Rattle.cc_core.specs.Places.{places_of}
 use Rattle.cc_core.specs.TermViews.{bind_of, term_of, context_of}
 use Rattle.cc_checking.specs.Inference.{inferred}
 use Rattle.cc_subty.specs.Demands.{asked_of}
-use Rattle.cc_type.specs.Logs.{Meets, after}
-use Rattle.cc_type.specs.Parts.{found_of}
+use Rattle.cc_known.specs.Logs.{Meets, after}
+use Rattle.cc_known.specs.Parts.{found_of}
 use Rattle.cc_type.specs.Rows.{ways}
 use Rattle.cc_check.proofs.StandingDefinitions.{stands_itself}
 use Rattle.cc_check.proofs.plain.infer_right.Goals as goal

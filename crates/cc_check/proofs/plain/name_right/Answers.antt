@@ -2,8 +2,8 @@ use Rattle.std.proofs.Common.{◌∙◌, sym, subst}
 use Rattle.std.proofs.lemmas.List.{length-map}
 use Rattle.cc_core.specs.TermViews.{bind_of, type_of, note_of, context_of}
 use Rattle.cc_subty.specs.Demands.{asked_of}
-use Rattle.cc_type.specs.Logs.{Meets}
-use Rattle.cc_type.specs.Parts.{named_of}
+use Rattle.cc_known.specs.Logs.{Meets}
+use Rattle.cc_known.specs.Parts.{named_of}
 use Rattle.cc_type.specs.Rows.{noted_log}
 use Rattle.cc_check.proofs.StandingDefinitions.{note_reads_well}
 use Rattle.cc_check.proofs.plain.name_right.Goals as goal

@@ -3,8 +3,8 @@ use Rattle.cc_core.specs.Contexts.{entry_of}
 use Rattle.cc_core.specs.TermViews.{type_of, term_of, context_of}
 use Rattle.cc_core.specs.WellFormed.{IsWellFormedTerm, IsWellFormedType}
 use Rattle.cc_subty.specs.Demands.{asked_of}
-use Rattle.cc_type.specs.Logs.{Meets}
-use Rattle.cc_type.specs.Measures.{AreMeasuresOf}
+use Rattle.cc_known.specs.Logs.{Meets}
+use Rattle.cc_known.specs.Measures.{AreMeasuresOf}
 use Rattle.cc_type.proofs.MeasuredEntries.{more_measured}
 use Rattle.cc_check.specs.Definitions.{definition_of, checking_of}
 use Rattle.cc_check.specs.Rows.{below_log}

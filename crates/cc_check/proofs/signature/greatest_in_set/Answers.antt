@@ -1,7 +1,7 @@
 use Rattle.std.proofs.Common.{sym, ap, ◌∙◌}
 use Rattle.std.proofs.lemmas.List.{map-id}
 use Rattle.std.proofs.lemmas.Iterator.Consumers.{YieldsList-from_first, YieldsList-end}
-use Rattle.cc_type.specs.Signatures.{greater_of, greatest_listed}
+use Rattle.cc_known.specs.Signatures.{greater_of, greatest_listed}
 use Rattle.cc_type.proofs.Gathering.{greatest_listed-push}
 use Rattle.cc_check.proofs.signature.greatest_in_set.Goals as goal
 

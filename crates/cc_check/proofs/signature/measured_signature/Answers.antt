@@ -1,7 +1,7 @@
 use Rattle.std.proofs.Common.{sym, ap, ◌∙◌, subst}
 use Rattle.std.specs.Option.{option_map}
 use Rattle.cc_core.specs.TermViews.{shape_of, type_of, context_of}
-use Rattle.cc_type.specs.Measures.{IsMeasuredBy}
+use Rattle.cc_known.specs.Measures.{IsMeasuredBy}
 use Rattle.cc_check.proofs.SignedTogether.{signature_together}
 use Rattle.cc_check.proofs.SignedAlong.{measured_signed}
 use Rattle.cc_check.proofs.signature.measured_signature.Goals as goal

@@ -1,6 +1,6 @@
 use Rattle.std.proofs.Common.{sym, subst}
 use Rattle.cc_core.specs.TermViews.{shape_of, context_of}
-use Rattle.cc_type.specs.Measures.{IsClearAlong}
+use Rattle.cc_known.specs.Measures.{IsClearAlong}
 use Rattle.cc_check.proofs.SignedAlong.{clear_stays}
 use Rattle.cc_check.proofs.signing.+signs_along.Goals as goal
 

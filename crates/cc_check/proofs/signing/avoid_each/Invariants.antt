@@ -1,6 +1,6 @@
 use Rattle.std.proofs.Common.{◌≡◌}
 use Rattle.cc_core.specs.TermViews.{context_of}
-use Rattle.cc_type.specs.Signatures.{greatest_in_set, height_of}
+use Rattle.cc_known.specs.Signatures.{greatest_in_set, height_of}
 use Rattle.cc_avoid.specs.AvoidedTogether.{set_avoiding}
 use Rattle.cc_avoid.specs.Avoiding.{sign_of}
 use Rattle.cc_check.specs.SignedParts.{declared_sets}

@@ -1,7 +1,7 @@
 use Rattle.std.proofs.Common.{sym, subst}
 use Rattle.cc_core.specs.Contexts.{entry_of}
 use Rattle.cc_core.specs.TermViews.{type_of, term_of, context_of}
-use Rattle.cc_type.specs.Measures.{AreMeasuresOf}
+use Rattle.cc_known.specs.Measures.{AreMeasuresOf}
 use Rattle.cc_type.specs.Standing.{StandsWell}
 use Rattle.cc_type.proofs.MeasuredEntries.{more_measured}
 use Rattle.cc_infer.proofs.infer.body_context.Goals as goal

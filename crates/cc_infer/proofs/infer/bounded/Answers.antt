@@ -2,7 +2,7 @@ use Rattle.std.proofs.Common.{sym, subst}
 use Rattle.cc_core.specs.Shapes.{capturing}
 use Rattle.cc_core.specs.TermViews.{shape_of, context_of}
 use Rattle.cc_core.specs.WellFormed.{IsWellFormedType}
-use Rattle.cc_type.proofs.FormedParts.{pure_well_formed}
+use Rattle.cc_known.proofs.FormedParts.{pure_well_formed}
 use Rattle.cc_infer.proofs.infer.bounded.Goals as goal
 
 pub below-requires-clause-right : goal.below-requires-clause-right

@@ -2,8 +2,8 @@ use Rattle.std.proofs.Common.{subst}
 use Rattle.cc_core.specs.Places.{places_of}
 use Rattle.cc_core.specs.TermViews.{term_of, context_of}
 use Rattle.cc_subty.specs.Demands.{asked_of}
-use Rattle.cc_type.specs.Logs.{Meets}
-use Rattle.cc_type.specs.Parts.{found_of}
+use Rattle.cc_known.specs.Logs.{Meets}
+use Rattle.cc_known.specs.Parts.{found_of}
 use Rattle.cc_type.proofs.InferredLogs.{inferred_logs}
 use Rattle.cc_type.proofs.StandingTerms.{stands_well}
 use Rattle.cc_infer.proofs.infer.infer_known.Goals as goal

@@ -1,5 +1,5 @@
 use Rattle.cc_core.specs.TermViews.{type_of, note_of, context_of}
-use Rattle.cc_type.specs.Parts.{named_of}
+use Rattle.cc_known.specs.Parts.{named_of}
 use Rattle.cc_type.proofs.StandingTerms.{noted_well_formed}
 use Rattle.cc_infer.proofs.infer.name.Goals as goal
 

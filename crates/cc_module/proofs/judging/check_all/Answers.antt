@@ -6,7 +6,7 @@ use Rattle.cc_core.specs.TermViews.{bind_of, context_of}
 use Rattle.cc_mnf.specs.CoreModules.{definition_of}
 use Rattle.cc_module.specs.Judgements.{checked_definition_of}
 use Rattle.cc_module.proofs.JudgedTexts.{StandsAt, stands_at_start, checked_more, checked_stops, checked_end}
-use Rattle.cc_type.specs.Measures.{AreAllMeasuresOf}
+use Rattle.cc_known.specs.Measures.{AreAllMeasuresOf}
 use Rattle.cc_type.proofs.MeasuredEntries.{all_unmeasured}
 use Rattle.cc_module.proofs.judging.check_all.Goals as goal
 

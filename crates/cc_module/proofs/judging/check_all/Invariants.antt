@@ -3,7 +3,7 @@ use Rattle.cc_core.specs.TermViews.{context_of}
 use Rattle.cc_mnf.specs.CoreModules.{definition_of}
 use Rattle.cc_module.specs.Judgements.{checked_definition_of}
 use Rattle.cc_module.proofs.JudgedTexts.{StandsAt}
-use Rattle.cc_type.specs.Measures.{AreAllMeasuresOf}
+use Rattle.cc_known.specs.Measures.{AreAllMeasuresOf}
 use Rattle.cc_module.proofs.judging.check_all.Given as goal
 
 -- the definitions so far are accepted, and those that are left decide; what is kept is known of the entries so far

@@ -5,13 +5,13 @@ use Rattle.cc_checking.specs.Inference as plain
 use Rattle.cc_checking.specs.Inference.{shape_in}
 use Rattle.cc_type.specs.Comparing.{most_steps}
 use Rattle.cc_subty.specs.Demands.{asked_of}
-use Rattle.cc_type.specs.KeptWalks.{Keeps}
-use Rattle.cc_type.specs.Logs.{after}
+use Rattle.cc_known.specs.KeptWalks.{Keeps}
+use Rattle.cc_known.specs.Logs.{after}
 use Rattle.cc_type.specs.Rows.{comparing}
 use Rattle.cc_type.proofs.FormsAlone.{root_passes, shapes_behind}
-use Rattle.cc_type.proofs.KeptWalks.{matched_after, apart_after, refused_met, shapes_root}
+use Rattle.cc_known.proofs.KeptWalks.{matched_after, apart_after, refused_met, shapes_root}
 use Rattle.cc_type.proofs.OneShape.{one_shape}
-use Rattle.cc_type.proofs.WalkedParts.{shape_standing}
+use Rattle.cc_known.proofs.WalkedParts.{shape_standing}
 use Rattle.cc_type.proofs.comparing.against.Goals as goal
 
 pub keep_shapes-requires-clause-left : goal.keep_shapes-requires-clause-left

@@ -7,13 +7,13 @@ use Rattle.cc_checking.specs.Inference.{shape_in, type_in}
 use Rattle.cc_type.specs.Comparing.{most_steps}
 use Rattle.cc_subty.specs.Demands.{asked_of}
 use Rattle.cc_type.specs.FormsAlone.{forces_nothing}
-use Rattle.cc_type.specs.KeptWalks.{Keeps}
-use Rattle.cc_type.specs.Logs.{Got, after}
+use Rattle.cc_known.specs.KeptWalks.{Keeps}
+use Rattle.cc_known.specs.Logs.{Got, after}
 use Rattle.cc_type.specs.Rows.{comparing}
 use Rattle.cc_type.proofs.FormsAlone.{formed_shape, root_passes, types_behind}
-use Rattle.cc_type.proofs.KeptWalks.{matched_after, apart_after, refused_met, types_root}
+use Rattle.cc_known.proofs.KeptWalks.{matched_after, apart_after, refused_met, types_root}
 use Rattle.cc_type.proofs.OneShape.{formed_set, sets_alone}
-use Rattle.cc_type.proofs.WalkedParts.{type_standing}
+use Rattle.cc_known.proofs.WalkedParts.{type_standing}
 use Rattle.cc_type.proofs.comparing.below.Goals as goal
 
 pub keep_types-requires-clause-left : goal.keep_types-requires-clause-left

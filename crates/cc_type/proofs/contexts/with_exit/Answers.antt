@@ -5,7 +5,7 @@ use Rattle.cc_core.specs.Shapes.{ExitShape, capturing}
 use Rattle.cc_core.specs.Substitution.{single}
 use Rattle.cc_core.specs.TermViews.{shape_of, context_of}
 use Rattle.cc_core.specs.WellFormed.{IsWellFormedContext}
-use Rattle.cc_type.proofs.FormedParts.{with_term, exit_well_formed}
+use Rattle.cc_known.proofs.FormedParts.{with_term, exit_well_formed}
 use Rattle.cc_type.proofs.contexts.with_exit.Goals as goal
 
 pub returns-clause-formed : goal.returns-clause-formed

@@ -1,7 +1,7 @@
 use Rattle.std.proofs.Common.{sym, ◌∙◌}
 use Rattle.std.proofs.lemmas.List.{length-map}
 use Rattle.cc_core.specs.TermViews.{bind_of, context_of}
-use Rattle.cc_type.proofs.DemandEnds.{follows_first, follows_more, follows_last, puts_named}
+use Rattle.cc_known.proofs.DemandEnds.{follows_first, follows_more, follows_last, puts_named}
 use Rattle.cc_type.proofs.demand_ends.ends_of.Goals as goal
 
 pub loop-position-init : goal.loop-position-init

@@ -1,5 +1,5 @@
 use Rattle.cc_core.specs.TermViews.{context_of}
-use Rattle.cc_type.proofs.DemandEnds.{Follows}
+use Rattle.cc_known.proofs.DemandEnds.{Follows}
 use Rattle.cc_type.proofs.demand_ends.ends_of.Given as goal
 
 abbrev pub invariant-loop-position : goal.invariant-loop-position

@@ -1,5 +1,5 @@
 use Rattle.std.proofs.Common.{sym, ◌∙◌}
-use Rattle.cc_type.proofs.DemandEnds.{last_found, none_is_empty}
+use Rattle.cc_known.proofs.DemandEnds.{last_found, none_is_empty}
 use Rattle.cc_type.proofs.demand_ends.last_below.Goals as goal
 
 pub returns-in-Some : goal.returns-in-Some

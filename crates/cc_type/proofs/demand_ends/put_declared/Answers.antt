@@ -1,7 +1,7 @@
 use Rattle.std.proofs.Common.{Some, ap, ◌∙◌}
 use Rattle.std.specs.Option.{option_map}
 use Rattle.cc_core.specs.TermViews.{bind_of}
-use Rattle.cc_type.proofs.DemandEnds.{puts_no_entry, puts_no_set}
+use Rattle.cc_known.proofs.DemandEnds.{puts_no_entry, puts_no_set}
 use Rattle.cc_type.proofs.demand_ends.put_declared.Goals as goal
 
 pub returns-in-TVar : goal.returns-in-TVar

@@ -1,7 +1,7 @@
 use Rattle.std.proofs.Common.{sym, ap, ◌∙◌}
 use Rattle.cc_solve.proofs.Answered.{on_ok}
-use Rattle.cc_type.specs.Keeping.{is_end}
-use Rattle.cc_type.proofs.DemandEnds.{puts_waiting, puts_ended}
+use Rattle.cc_known.specs.Keeping.{is_end}
+use Rattle.cc_known.proofs.DemandEnds.{puts_waiting, puts_ended}
 use Rattle.cc_type.proofs.demand_ends.put_elem.Goals as goal
 
 pub returns-in-Var : goal.returns-in-Var

@@ -1,6 +1,6 @@
 use Rattle.std.proofs.Common.{◌∙◌}
 use Rattle.std.proofs.lemmas.Iterator.Consumers.{YieldsList-from_first, YieldsList-end}
-use Rattle.cc_type.proofs.DemandEnds.{puts_begin, puts_more, puts_set}
+use Rattle.cc_known.proofs.DemandEnds.{puts_begin, puts_more, puts_set}
 use Rattle.cc_type.proofs.demand_ends.put_elems.Goals as goal
 
 pub loop-elem-init : goal.loop-elem-init

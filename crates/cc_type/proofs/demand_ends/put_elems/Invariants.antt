@@ -1,5 +1,5 @@
-use Rattle.cc_type.specs.EndedDemands.{PutsBeyond}
-use Rattle.cc_type.proofs.DemandEnds.{IsListed}
+use Rattle.cc_known.specs.EndedDemands.{PutsBeyond}
+use Rattle.cc_known.proofs.DemandEnds.{IsListed}
 use Rattle.cc_type.proofs.demand_ends.put_elems.Given as goal
 
 abbrev pub invariant-loop-elem : goal.invariant-loop-elem

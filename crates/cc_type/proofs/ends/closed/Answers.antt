@@ -2,7 +2,7 @@ use Rattle.std.proofs.Common.{length, sym, ◌∙◌, subst}
 use Rattle.cc_core.specs.Occurrences.{MeetsInType, without}
 use Rattle.cc_core.specs.Shapes.{CapturingType}
 use Rattle.cc_core.specs.TermViews.{type_of, context_of}
-use Rattle.cc_type.specs.Measures.{IsMeasuredBy}
+use Rattle.cc_known.specs.Measures.{IsMeasuredBy}
 use Rattle.cc_type.proofs.ClosingWithout.{closed_type-without}
 use Rattle.cc_type.proofs.ends.closed.Goals as goal
 

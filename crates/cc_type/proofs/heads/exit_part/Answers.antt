@@ -2,7 +2,7 @@ use Rattle.std.proofs.Common.{sym, ap, ◌∙◌, subst}
 use Rattle.cc_core.specs.declared.types.Shape.{Shape}
 use Rattle.cc_core.specs.TermViews.{shape_of, context_of}
 use Rattle.cc_core.specs.WellFormed.{IsWellFormedShape}
-use Rattle.cc_type.proofs.FormedParts.{exposed_to, exit_takes}
+use Rattle.cc_known.proofs.FormedParts.{exposed_to, exit_takes}
 use Rattle.cc_type.proofs.heads.exit_part.Goals as goal
 
 pub returns-clause-formed : goal.returns-clause-formed

@@ -2,7 +2,7 @@ use Rattle.std.proofs.Common.{sym, ap, ◌∙◌, subst}
 use Rattle.cc_core.specs.declared.types.Ty.{Ty}
 use Rattle.cc_core.specs.TermViews.{shape_of, type_of, context_of}
 use Rattle.cc_core.specs.WellFormed.{IsWellFormedType}
-use Rattle.cc_type.proofs.FormedParts.{exposed_to, function_takes}
+use Rattle.cc_known.proofs.FormedParts.{exposed_to, function_takes}
 use Rattle.cc_type.proofs.heads.function_part.Goals as goal
 
 pub returns-clause-formed : goal.returns-clause-formed

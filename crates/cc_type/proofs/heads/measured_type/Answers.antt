@@ -1,6 +1,6 @@
 use Rattle.std.proofs.Common.{sym, subst}
 use Rattle.cc_core.specs.TermViews.{shape_of, type_of, context_of}
-use Rattle.cc_type.specs.Measures.{IsMeasuredBy}
+use Rattle.cc_known.specs.Measures.{IsMeasuredBy}
 use Rattle.cc_type.proofs.MeasuredEntries.{measured_variable}
 use Rattle.cc_type.proofs.heads.measured_type.Goals as goal
 

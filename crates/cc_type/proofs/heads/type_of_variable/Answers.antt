@@ -1,5 +1,5 @@
 use Rattle.cc_core.specs.TermViews.{type_of, context_of}
-use Rattle.cc_type.proofs.FormedParts.{variable_well_formed, shape_well_formed}
+use Rattle.cc_known.proofs.FormedParts.{variable_well_formed, shape_well_formed}
 use Rattle.cc_type.proofs.heads.type_of_variable.Goals as goal
 
 pub returns-clause-formed : goal.returns-clause-formed

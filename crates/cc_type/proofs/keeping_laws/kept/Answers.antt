@@ -1,5 +1,5 @@
-use Rattle.cc_type.proofs.KeptLists.{kept_forces_the_same, repeated_is_served, kept_is_served_alike, kept_fails_alike}
-use Rattle.cc_type.proofs.KeptLists.{kept_is_fit}
+use Rattle.cc_known.proofs.KeptLists.{kept_forces_the_same, repeated_is_served, kept_is_served_alike, kept_fails_alike}
+use Rattle.cc_known.proofs.KeptLists.{kept_is_fit}
 use Rattle.cc_type.proofs.keeping_laws.kept.Goals as goal
 
 pub returns : goal.returns

@@ -1,4 +1,4 @@
-use Rattle.cc_type.proofs.EndedLists.{those_added}
+use Rattle.cc_known.proofs.EndedLists.{those_added}
 use Rattle.cc_type.proofs.log.add_ended.Goals as goal
 
 pub invariant_of-log-2-clause-noted : goal.invariant_of-log-2-clause-noted

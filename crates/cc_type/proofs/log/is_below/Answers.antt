@@ -1,4 +1,4 @@
-use Rattle.cc_type.proofs.KeptDemands.{test_of_sets_decides}
+use Rattle.cc_known.proofs.KeptDemands.{test_of_sets_decides}
 use Rattle.cc_type.proofs.LoggedDemands.{same_tests}
 use Rattle.cc_type.proofs.log.is_below.Goals as goal
 

@@ -1,6 +1,6 @@
 use Rattle.std.proofs.Common.{sym, ◌∙◌}
 use Rattle.cc_subty.specs.Demands.{demand_of}
-use Rattle.cc_type.proofs.LostDemands.{judged_by_nothing, lost_by_judging}
+use Rattle.cc_known.proofs.LostDemands.{judged_by_nothing, lost_by_judging}
 use Rattle.cc_type.proofs.log.is_lost.Goals as goal
 
 pub is_served-requires-clause-judged : goal.is_served-requires-clause-judged

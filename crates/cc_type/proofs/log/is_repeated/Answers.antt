@@ -3,7 +3,7 @@ use Rattle.cc_core.specs.TermViews.{context_of}
 use Rattle.cc_checking.specs.Comparison.{demanded}
 use Rattle.cc_checking.specs.Outcomes.{IsBelow}
 use Rattle.cc_subty.specs.Demands.{asked_of}
-use Rattle.cc_type.proofs.RepeatedDemands.{force_not_repeated}
+use Rattle.cc_known.proofs.RepeatedDemands.{force_not_repeated}
 use Rattle.cc_type.proofs.log.is_repeated.Goals as goal
 
 pub returns-then-has_hole : goal.returns-then-has_hole

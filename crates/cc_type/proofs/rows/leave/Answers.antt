@@ -1,7 +1,7 @@
 use Rattle.std.proofs.Common.{sym, subst}
 use Rattle.cc_core.specs.TermViews.{shape_of, context_of}
 use Rattle.cc_core.specs.WellFormed.{IsWellFormedType}
-use Rattle.cc_type.proofs.FormedParts.{pure_well_formed}
+use Rattle.cc_known.proofs.FormedParts.{pure_well_formed}
 use Rattle.cc_type.proofs.rows.leave.Goals as goal
 
 pub below-requires-clause-right : goal.below-requires-clause-right

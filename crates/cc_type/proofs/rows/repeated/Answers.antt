@@ -1,7 +1,7 @@
 use Rattle.std.proofs.Common.{sym, subst}
 use Rattle.cc_core.specs.TermViews.{context_of}
 use Rattle.cc_core.specs.WellFormed.{IsWellFormedShape}
-use Rattle.cc_type.proofs.FormedParts.{numbers_well_formed}
+use Rattle.cc_known.proofs.FormedParts.{numbers_well_formed}
 use Rattle.cc_type.proofs.rows.repeated.Goals as goal
 
 pub operand-requires-clause-shape : goal.operand-requires-clause-shape

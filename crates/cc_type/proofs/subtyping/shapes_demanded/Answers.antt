@@ -4,10 +4,10 @@ use Rattle.cc_checking.specs.Comparison.{comparison}
 use Rattle.cc_checking.specs.Inference.{shape_in}
 use Rattle.cc_subty.specs.Demands.{asked_of}
 use Rattle.cc_type.specs.Comparing.{most_steps, Demanded}
-use Rattle.cc_type.specs.KeptWalks.{Keeps}
-use Rattle.cc_type.proofs.KeptWalks.{apart_keep, shapes_root}
+use Rattle.cc_known.specs.KeptWalks.{Keeps}
+use Rattle.cc_known.proofs.KeptWalks.{apart_keep, shapes_root}
 use Rattle.cc_type.proofs.SubtypeAnswers.{whole_demanded}
-use Rattle.cc_type.proofs.WalkedParts.{shape_standing}
+use Rattle.cc_known.proofs.WalkedParts.{shape_standing}
 use Rattle.cc_type.proofs.subtyping.shapes_demanded.Goals as goal
 
 pub keep_shapes-requires-clause-left : goal.keep_shapes-requires-clause-left

@@ -4,10 +4,10 @@ use Rattle.cc_checking.specs.Comparison.{type_comparison}
 use Rattle.cc_checking.specs.Inference.{type_in}
 use Rattle.cc_subty.specs.Demands.{asked_of}
 use Rattle.cc_type.specs.Comparing.{most_steps, Demanded}
-use Rattle.cc_type.specs.KeptWalks.{Keeps}
-use Rattle.cc_type.proofs.KeptWalks.{apart_keep, types_root}
+use Rattle.cc_known.specs.KeptWalks.{Keeps}
+use Rattle.cc_known.proofs.KeptWalks.{apart_keep, types_root}
 use Rattle.cc_type.proofs.SubtypeAnswers.{whole_demanded}
-use Rattle.cc_type.proofs.WalkedParts.{type_standing}
+use Rattle.cc_known.proofs.WalkedParts.{type_standing}
 use Rattle.cc_type.proofs.subtyping.types_demanded.Goals as goal
 
 pub keep_types-requires-clause-left : goal.keep_types-requires-clause-left

@@ -11,15 +11,15 @@ use Rattle.cc_checking.specs.Comparison.{comparison, type_comparison}
 use Rattle.cc_checking.specs.Inference.{shape_in, type_in}
 use Rattle.cc_subty.specs.Demands.{demand_of, asked_of}
 use Rattle.cc_subty.specs.Parts.{is_variable}
-use Rattle.cc_type.specs.Keeping.{has_lost}
-use Rattle.cc_type.specs.KeptWalks.{Keeps, StandsOn, is_matched, is_remembered_as}
+use Rattle.cc_known.specs.Keeping.{has_lost}
+use Rattle.cc_known.specs.KeptWalks.{Keeps, StandsOn, is_matched, is_remembered_as}
 use Rattle.cc_type.specs.WholeLogs.{listed}
-use Rattle.cc_type.proofs.KeptWalks.{step_keeps, any_keeps, same_keeps, functions_kept, functions_parted, boxes_kept, variable_keeps}
-use Rattle.cc_type.proofs.KeptWalks.{type_functions_kept, type_functions_parted}
-use Rattle.cc_type.proofs.KeyedPairs.{matched_keeps, settled_matched, lost_matched}
-use Rattle.cc_type.proofs.KnownSets.{stands_same, stands_deeper}
-use Rattle.cc_type.proofs.RememberedPairs.{remembered_keeps, remembers_settled, remembers_lost, more_keep}
-use Rattle.cc_type.proofs.WalkedParts.{under_takes, gives_part, under_bound, result_part, bound_part, bound_read}
+use Rattle.cc_known.proofs.KeptWalks.{step_keeps, any_keeps, same_keeps, functions_kept, functions_parted, boxes_kept, variable_keeps}
+use Rattle.cc_known.proofs.KeptWalks.{type_functions_kept, type_functions_parted}
+use Rattle.cc_known.proofs.KeyedPairs.{matched_keeps, settled_matched, lost_matched}
+use Rattle.cc_known.proofs.KnownSets.{stands_same, stands_deeper}
+use Rattle.cc_known.proofs.RememberedPairs.{remembered_keeps, remembers_settled, remembers_lost, more_keep}
+use Rattle.cc_known.proofs.WalkedParts.{under_takes, gives_part, under_bound, result_part, bound_part, bound_read}
 use Rattle.cc_type.proofs.walking.+walk.Goals as goal
 
 pub keep_bound-keep_shapes-requires : goal.keep_bound-keep_shapes-requires

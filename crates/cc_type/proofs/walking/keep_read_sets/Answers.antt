@@ -1,7 +1,7 @@
 use Rattle.std.proofs.Common.{ap}
 use Rattle.cc_core.specs.TermViews.{context_of}
-use Rattle.cc_type.proofs.EndedLists.{base_formed}
-use Rattle.cc_type.proofs.KnownSets.{stands_same}
+use Rattle.cc_known.proofs.EndedLists.{base_formed}
+use Rattle.cc_known.proofs.KnownSets.{stands_same}
 use Rattle.cc_type.proofs.walking.keep_read_sets.Goals as goal
 
 pub learn_ends-requires : goal.learn_ends-requires

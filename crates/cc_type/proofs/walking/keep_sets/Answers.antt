@@ -2,9 +2,9 @@ use Rattle.std.proofs.Common.{length, sym, ◌∙◌}
 use Rattle.cc_capture.proofs.Equality.{same_set-decides}
 use Rattle.cc_core.specs.TermViews.{context_of}
 use Rattle.cc_subty.specs.Demands.{asked_of}
-use Rattle.cc_type.proofs.EndedLists.{again_goes}
-use Rattle.cc_type.proofs.KeptWalks.{one_read, one_goes}
-use Rattle.cc_type.proofs.KnownSets.{known_settled, known_goes}
+use Rattle.cc_known.proofs.EndedLists.{again_goes}
+use Rattle.cc_known.proofs.KeptWalks.{one_read, one_goes}
+use Rattle.cc_known.proofs.KnownSets.{known_settled, known_goes}
 use Rattle.cc_type.proofs.walking.keep_sets.Goals as goal
 
 pub returns-then-eq-clause-kept : goal.returns-then-eq-clause-kept

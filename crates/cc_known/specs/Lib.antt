@@ -1,0 +1,12 @@
+pub mod ComparedAgain
+pub mod EndedDemands
+pub mod FilledHoles
+pub mod FormedDemands
+pub mod Keeping
+pub mod KeptWalks
+pub mod KeepingLaws
+pub mod Logs
+pub mod MeasuredOnce
+pub mod Measures
+pub mod Parts
+pub mod Signatures

@@ -1,0 +1,18 @@
+//! What is known when a term is gone through: what was found for a part, what is known of its shape, and which comparisons
+//! need not be made again.
+#![tactic(auto)]
+
+pub mod ended;
+pub mod found;
+pub mod keys;
+pub mod known;
+pub mod measures;
+pub mod names;
+mod pairs;
+pub mod steps;
+pub mod stop;
+mod traces;
+
+pub use found::Found;
+pub use measures::{Measure, Measures};
+pub use stop::Stop;

@@ -1,6 +1,0 @@
-use Rattle.cc_type.proofs.EndedLists.{no_ends_known}
-use Rattle.cc_type.proofs.known.no_ends.Goals as goal
-
-pub returns : goal.returns
-returns c = λ context.
-    no_ends_known context _ c.new-left.ensures c.new-ends.ensures c.new-right.ensures

@@ -1,7 +1,0 @@
-use Rattle.cc_core.specs.TermViews.{shape_of}
-use Rattle.cc_type.proofs.MeasuredShapes.{meets_shape}
-use Rattle.cc_type.proofs.measures.occurs_in_measured.Goals as goal
-
-pub returns-then-measure-position : goal.returns-then-measure-position
-returns-then-measure-position c = λ fails.
-    meets_shape c.args.position (shape_of c.args.shape.now) (c.occurs_along.ensures fails)
