@@ -1,7 +1,7 @@
 -- What a call comes to, by what its words ask for.
 use Rattle.std.proofs.Common.{◌≡◌, ◌↔◌, ℕ, List, refl, subst}
-use Rattle.cc_workload.specs.declared.words.Asked.TheVariants.{Job, Workload, Nothing}
-use Rattle.cc_workload.specs.Words.{AsksFor}
+use Rattle.cc_arguments.specs.declared.words.Asked.TheVariants.{Job, Workload, Nothing}
+use Rattle.cc_arguments.specs.Words.{AsksFor}
 use Rattle.cc_program.specs.declared.status.Status.{Status}
 use Rattle.cc_program.specs.declared.status.Status.TheVariants.{BadWords}
 use Rattle.cc_program.specs.Calls.{IsCall}

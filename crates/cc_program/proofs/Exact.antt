@@ -10,11 +10,11 @@ use Rattle.cc_replies.proofs.OutputLaws.{outputs_exist}
 use Rattle.cc_replies.specs.Requests.{no_module}
 use Rattle.cc_program.specs.declared.status.Status.{Status}
 use Rattle.cc_program.specs.declared.status.Status.TheVariants as statuses
-use Rattle.cc_program.specs.Requests.{requests_of}
+use Rattle.cc_answers.specs.Requests.{requests_of}
 use Rattle.cc_program.specs.Outcome.{job_limit, Ends, TakesMany, ReadsWhole, ReadsJob, JudgesStale, IsCarriedOut, IsCutOff, ReadsNoJob}
 use Rattle.cc_program.specs.Exactness.{IsFaultless, WritesFront, AJobIsAnswered, WhatIsNoJobIsRefused, WhatIsTooLongIsRefused, AFaultIsTold, OnlyTheOutputIsWritten, OnlyStaleModulesAreJudged}
-use Rattle.cc_program.proofs.Answering.{none_present}
-use Rattle.cc_program.proofs.OutputFronts.{AppendsFront-none, AppendsFront-whole}
+use Rattle.cc_answers.proofs.Answering.{none_present}
+use Rattle.cc_answers.proofs.OutputFronts.{AppendsFront-none, AppendsFront-whole}
 
 -- what is read to the end of a source is all that it had
 all_bytes : (left after : Option (List ℕ)) (bytes read : List ℕ) → left ≡ Some bytes → Consumes left after read → IsAtEnd after → read ≡ bytes

@@ -6,9 +6,9 @@ use Rattle.cc_io.specs.declared.whole.WriteAll.TheVariants as errors
 use Rattle.cc_job.specs.declared.job.Job.{Job}
 use Rattle.cc_replies.specs.Outputs.{IsOutput}
 use Rattle.cc_replies.specs.Requests.{no_module}
-use Rattle.cc_program.specs.Carried.{AreAnswered}
+use Rattle.cc_answers.specs.Carried.{AreAnswered}
 use Rattle.cc_program.specs.Outcome.{Ends, ReadsJob, IsCarriedOut, IsCutOff}
-use Rattle.cc_program.specs.Requests.{requests_of}
+use Rattle.cc_answers.specs.Requests.{requests_of}
 
 module _ (before after : Ends) (job : Job) (read : ReadsJob before after job) where
   pub carried_out : (refused : Bool)

@@ -21,9 +21,9 @@ use Rattle.cc_replies.specs.Requests.{Request, JobState, no_module}
 use Rattle.cc_runs.specs.Links.{program_start}
 use Rattle.cc_replies.specs.RunReplies.{declared_run, run_told, IsRunAnswer, Unstarted, first_unstarted, HaveEntries, IsTasksAnswer}
 use Rattle.cc_replies.proofs.PresentAfter.{texts_stay_present}
-use Rattle.cc_program.specs.Requests.{request_of}
+use Rattle.cc_answers.specs.Requests.{request_of}
 use Rattle.cc_program.specs.SoundJobs.{EveryJobIsSound, IsShownRun, AreShownTasks, ShownRunsAreSafe, ShownTasksAreSafe}
-use Rattle.cc_program.proofs.Answering.{none_present}
+use Rattle.cc_answers.proofs.Answering.{none_present}
 
 stay_present : (state : JobState) (requests : List Request) → ArePresent state.texts → ArePresent (after_all state requests).texts
 stay_present state [] sorted = sorted

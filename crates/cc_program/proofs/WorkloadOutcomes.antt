@@ -10,13 +10,13 @@ use Rattle.cc_summary.specs.Summaries.{summary_text}
 use Rattle.cc_workload.specs.Workloads.{workload, DevicesDiffer}
 use Rattle.cc_program.specs.declared.status.Status.{Status}
 use Rattle.cc_program.specs.declared.status.Status.TheVariants as statuses
-use Rattle.cc_program.specs.Carried.{AreAnswered}
+use Rattle.cc_answers.specs.Carried.{AreAnswered}
 use Rattle.cc_program.specs.Exactness.{status_of, AWorkloadIsSummarized, AFaultOfAWorkloadIsTold}
 use Rattle.cc_program.specs.Outcome.{Ends, JudgesStale}
-use Rattle.cc_program.specs.Requests.{requests_of}
+use Rattle.cc_answers.specs.Requests.{requests_of}
 use Rattle.cc_program.specs.WorkloadOutcome.{IsOutputOf, IsSummarized, IsSummaryCutOff, LacksMemoryToSummarize}
-use Rattle.cc_program.proofs.Answering.{answered_nothing}
-use Rattle.cc_program.proofs.OutputFronts.{WritesWhole-none}
+use Rattle.cc_answers.proofs.Answering.{answered_nothing}
+use Rattle.cc_answers.proofs.OutputFronts.{WritesWhole-none}
 
 -- The job of the workload was carried out into a sink that had nothing and has `now`, or that failed.
 abbrev pub WasAnswered : ℕ → (now : List ℕ) → (before after : ℕ) → Result Bool WriteAll → Type 0

@@ -1,8 +1,8 @@
 -- What a call of the program does, by what its words ask for.
 use Rattle.std.specs.Prelude.{◌≡◌, List, ℕ}
-use Rattle.cc_workload.specs.declared.words.Asked.{Asked}
-use Rattle.cc_workload.specs.declared.words.Asked.TheVariants.{Job, Workload, Nothing}
-use Rattle.cc_workload.specs.Words.{AsksFor}
+use Rattle.cc_arguments.specs.declared.words.Asked.{Asked}
+use Rattle.cc_arguments.specs.declared.words.Asked.TheVariants.{Job, Workload, Nothing}
+use Rattle.cc_arguments.specs.Words.{AsksFor}
 use Rattle.cc_program.specs.declared.status.Status.{Status}
 use Rattle.cc_program.specs.declared.status.Status.TheVariants.{BadWords}
 use Rattle.cc_program.specs.Outcome.{Ends, Outcome}

@@ -8,7 +8,7 @@ use Rattle.cc_replies.specs.Outputs.{IsOutput}
 use Rattle.cc_replies.specs.Requests.{no_module}
 use Rattle.cc_program.specs.declared.status.Status.{Status}
 use Rattle.cc_program.specs.declared.status.Status.TheVariants as statuses
-use Rattle.cc_program.specs.Requests.{requests_of}
+use Rattle.cc_answers.specs.Requests.{requests_of}
 use Rattle.cc_program.specs.Outcome.{job_limit, Ends, IsSilent, ReadsJob, JudgesStale, IsCarriedOut, Outcome}
 use Rattle.cc_program.specs.WorkloadOutcome.{IsSummarized, IsSummaryCutOff, WorkloadOutcome}
 

@@ -1,17 +1,13 @@
 pub mod Status
 pub mod Words
-pub mod Requests
-pub mod Running
 pub mod SoundJobs
 pub mod GuardedRuns
 pub mod ReplayedRuns
 pub mod VerifiedTexts
-pub mod Carried
 pub mod Outcome
 pub mod WorkloadOutcome
 pub mod Calls
 pub mod Exactness
 pub mod Endings
-pub mod Explaining
 pub mod ExplainedSignatures
 pub mod StatusTable

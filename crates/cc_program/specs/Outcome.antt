@@ -9,7 +9,7 @@ use Rattle.cc_replies.specs.Requests.{no_module}
 use Rattle.cc_replies.specs.StaleModules.{AreStale}
 use Rattle.cc_program.specs.declared.status.Status.{Status}
 use Rattle.cc_program.specs.declared.status.Status.TheVariants as statuses
-use Rattle.cc_program.specs.Requests.{requests_of}
+use Rattle.cc_answers.specs.Requests.{requests_of}
 
 -- the greatest number of bytes of a job
 abbrev pub job_limit : ℕ

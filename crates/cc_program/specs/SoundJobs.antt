@@ -21,7 +21,7 @@ use Rattle.cc_replies.specs.Outputs.{after_all}
 use Rattle.cc_replies.specs.Replies.{Replies}
 use Rattle.cc_replies.specs.ReplyTexts.{Ran, TasksRan}
 use Rattle.cc_replies.specs.Requests.{JobState, RunDefinition, RunTasks, Ask, no_module}
-use Rattle.cc_program.specs.Requests.{request_of}
+use Rattle.cc_answers.specs.Requests.{request_of}
 
 -- The files of the job are sound at every moment: before its first command, behind each, and at its end.
 abbrev pub IsSoundJob : Job → Type 0

@@ -10,7 +10,7 @@ use Rattle.cc_workload.specs.Workloads.{workload}
 use Rattle.cc_program.specs.declared.status.Status.{Status}
 use Rattle.cc_program.specs.declared.status.Status.TheVariants as statuses
 use Rattle.cc_program.specs.Outcome.{Ends, JudgesStale}
-use Rattle.cc_program.specs.Requests.{requests_of}
+use Rattle.cc_answers.specs.Requests.{requests_of}
 
 -- the text is the whole output of the workload's job, and it is told whether a reply in it is a refusal
 abbrev pub IsOutputOf : ℕ → List ℕ → Bool → Type 0

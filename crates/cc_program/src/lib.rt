@@ -2,14 +2,9 @@
 //! whatever streams it is given, and says how that ended.
 #![tactic(auto)]
 
-mod commands;
-mod explaining;
 pub mod job_laws;
 pub mod program;
-mod questions;
-mod replies;
 pub mod run;
-mod running;
 pub mod status;
 mod usage;
 mod words;

@@ -1,19 +1,19 @@
 ghost use Rattle.std.specs.Prelude.{◌≡◌, ◌↔◌, ◌-◌, ◌^◌, ◌<◌, map};
 ghost use Rattle.std.specs.String.{string_bytes};
-ghost use Rattle.cc_workload.specs.Words.{AsksFor};
+ghost use Rattle.cc_arguments.specs.Words.{AsksFor};
 ghost use Rattle.cc_program.specs.Calls.{IsCall};
 ghost use Rattle.cc_program.specs.Outcome.{Outcome, ends};
 ghost use Rattle.cc_program.specs.SoundJobs.{EveryJobIsSound};
 
-use crate::commands::carry_out;
 use crate::job_laws::every_job_is_sound;
 use crate::status::Status;
 use crate::workload::summarize;
+use cc_answers::commands::carry_out;
+use cc_arguments::words::{Asked, asked_by};
 use cc_base::steps::Steps;
 use cc_io::{ReadAll, Sink, Source, WriteAll, read_all};
 use cc_job::job::JobError;
 use cc_job::read::read_job;
-use cc_workload::words::{Asked, asked_by};
 use std::alloc::Global;
 use std::sync::ledger::Ledger;
 

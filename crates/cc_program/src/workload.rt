@@ -6,8 +6,8 @@ ghost use Rattle.cc_summary.specs.Summaries.{summary_text};
 ghost use Rattle.cc_program.specs.Outcome.{ends};
 ghost use Rattle.cc_program.specs.WorkloadOutcome.{WorkloadOutcome};
 
-use crate::commands::carry_out;
 use crate::status::Status;
+use cc_answers::commands::carry_out;
 use cc_base::steps::Steps;
 use cc_io::{Sink, WriteAll, write_all};
 use cc_summary::counting::CountingSink;

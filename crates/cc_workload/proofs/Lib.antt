@@ -1,4 +1,3 @@
-mod WordLaws
 mod WorkloadNames
 mod ItemLaws
 mod EntryTexts

@@ -1,4 +1,2 @@
 pub mod Workloads
-pub mod Words
-pub mod WordReading
 pub mod ExampleWorkloads

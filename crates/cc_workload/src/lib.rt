@@ -1,6 +1,5 @@
-//! The job of a workload, for measures, and the words that ask for it.
+//! The job of a workload, for measures.
 #![tactic(auto)]
 
-pub mod words;
 pub mod workload;
 pub mod workload_laws;

@@ -1,5 +1,4 @@
 ghost use Rattle.cc_workload.specs.Workloads.{DevicesDiffer, WorkloadItems};
-ghost use Rattle.cc_workload.specs.Words.{WordsAskForOneThing, WordsInForms, WordsInNoForm};
 ghost use Rattle.cc_workload.specs.ExampleWorkloads.{WorkloadOfOne, CommandsOfThree, CommandsOfMost, FirstOfThree, LastOfThree, EntryOfThree, LastOfMost};
 
 /// The devices and commands of a workload are those that a job may have.
@@ -17,15 +16,4 @@ pub fn worked_workloads()
     ensures last_of_three { LastOfThree }
     ensures entry_of_three { EntryOfThree }
     ensures last_of_most { LastOfMost }
-{}
-
-/// Any words ask for one thing.
-pub fn words_ask_for_one_thing()
-    ensures { WordsAskForOneThing }
-{}
-
-/// Words in each form, and words in none.
-pub fn worked_words()
-    ensures forms { WordsInForms }
-    ensures no_form { WordsInNoForm }
 {}

@@ -1,0 +1,14 @@
+mod OutputFronts
+mod SessionReplies
+mod CommandFacts
+mod Answering
+mod RunFacts
+mod CarriedChains
+mod DefinitionNumbers
+mod RecursiveTypes
+mod ExplainingFacts
+mod LinkedDefinitions
+mod Explained
+mod StartedTasks
+mod AllOf
+mod QuestionReplies

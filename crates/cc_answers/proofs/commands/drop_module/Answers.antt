@@ -1,0 +1,16 @@
+use Rattle.std.proofs.Common.{List, refl, sym, ap, ◌∙◌}
+use Rattle.cc_base.specs.declared.device.DeviceDecl.{DeviceDecl}
+use Rattle.cc_verdicts.specs.PresentTexts.{Texts}
+use Rattle.cc_session.specs.Sessions.{SessionState}
+use Rattle.cc_answers.proofs.CommandFacts.{drop_changes}
+use Rattle.cc_answers.proofs.SessionReplies.{remove_absent}
+use Rattle.cc_answers.proofs.commands.drop_module.Goals as goal
+
+pub returns-in-Err-clause-changes : goal.returns-in-Err-clause-changes
+returns-in-Err-clause-changes g c =
+    let old = c.args.session.now in
+    let devices : SessionState → List DeviceDecl = λ s. s.devices in
+    let present : SessionState → Texts = λ s. s.present in
+    drop_changes old c.remove.new.self (ap devices c.in-Err.ensures.err) c.args.name.now
+    (ap present c.in-Err.ensures.err ∙ sym (remove_absent old.present c.args.name.now (c.in-Err.ensures.absent.0 refl)))
+    c.write_reply-in-Err.result

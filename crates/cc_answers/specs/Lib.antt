@@ -1,0 +1,4 @@
+pub mod Requests
+pub mod Running
+pub mod Carried
+pub mod Explaining

@@ -1,0 +1,8 @@
+//! What is answered to the commands of a job: each is carried out on a session, and its reply is written.
+#![tactic(auto)]
+
+pub mod commands;
+mod explaining;
+mod questions;
+mod replies;
+mod running;

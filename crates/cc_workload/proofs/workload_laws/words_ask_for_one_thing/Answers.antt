@@ -1,5 +1,0 @@
-use Rattle.cc_workload.proofs.WordLaws.{one_thing}
-use Rattle.cc_workload.proofs.workload_laws.words_ask_for_one_thing.Goals as goal
-
-pub returns : goal.returns
-returns c = one_thing
