@@ -1,7 +1,7 @@
-mod OutputFronts
+pub mod OutputFronts
 mod SessionReplies
 mod CommandFacts
-mod Answering
+pub mod Answering
 mod RunFacts
 mod CarriedChains
 mod DefinitionNumbers
