@@ -9,7 +9,6 @@ ghost use Rattle.cc_certificate_reading.specs.FirstPlaces.{AreFirst};
 ghost use Rattle.cc_certificate_reading.specs.Agreement.{Agrees};
 ghost use Rattle.cc_certificate_reading.specs.CertificateViews.{bind_line_of};
 
-use crate::names::Names;
 use crate::sets::Locals;
 use crate::stop::{Reading, Stop};
 use crate::terms::read_term;
@@ -18,6 +17,7 @@ use crate::words::read_exact;
 use cc_base::name::Name;
 use cc_core::wellformed::{wf, wf_term};
 use cc_core::{Ctx, Node, Ty};
+use cc_names::Names;
 use cc_words::words::{cut_at, name_of};
 use std::alloc::Global;
 

@@ -25,13 +25,13 @@ ghost use Rattle.cc_certificate_text.specs.LineReading.{
 ghost use Rattle.cc_certificate_reading.specs.Agreement.{Agrees};
 ghost use Rattle.cc_certificate_reading.specs.CertificateViews.{numbered_of, kind_of};
 
-use crate::names::Names;
 use crate::sets::{Locals, read_set};
 use crate::stop::{Reading, Stop};
 use crate::types::{read_shape, read_type};
 use crate::words::{read_exact, word_at};
 use cc_core::{Shape, Ty};
 use cc_derivation::Claim;
+use cc_names::Names;
 use cc_words::words::{behind, number_of};
 use std::alloc::Global;
 use std::rc::Rc;

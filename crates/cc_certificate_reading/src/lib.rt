@@ -5,7 +5,7 @@ pub mod binds;
 pub mod certificate;
 pub mod claims;
 pub mod literals;
-pub mod names;
+mod names;
 pub mod nodes;
 pub mod numbers;
 pub mod read;

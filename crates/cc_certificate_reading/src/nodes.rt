@@ -9,12 +9,12 @@ ghost use Rattle.cc_certificate_reading.specs.CertificateViews.{node_line_of};
 
 use crate::certificate::CertNode;
 use crate::claims::read_claim;
-use crate::names::Names;
 use crate::numbers::read_same;
 use crate::rules::{kind_of, read_rule};
 use crate::stop::{Reading, Stop};
 use crate::words::read_exact;
 use cc_derivation::Rule;
+use cc_names::Names;
 use cc_words::words::{cut_at, number_of, split_at};
 use std::alloc::{AllocError, Global};
 

@@ -15,12 +15,12 @@ ghost use Rattle.cc_certificate_reading.specs.Progress.{entry_line_of, IsPlacedE
 
 use crate::binds::{read_bind, read_statement};
 use crate::certificate::{Cert, CertNode, ReadCertError};
-use crate::names::Names;
 use crate::nodes::read_node;
 use crate::stop::{Reading, Stop};
 use crate::words::read_exact;
 use cc_base::name::Name;
 use cc_core::{Bind, Ctx, Node, Ty};
+use cc_names::Names;
 use cc_words::words::behind;
 use std::alloc::{AllocError, Global};
 use std::rc::Rc;

@@ -22,9 +22,10 @@ ghost use Rattle.cc_capture.specs.declared.var.Elem.TheVariants as elems;
 ghost use Rattle.cc_certificate_reading.specs.Agreement.{Agrees};
 ghost use Rattle.cc_certificate_reading.specs.Numberings.{locals_of, follows};
 
-use crate::names::Names;
+use crate::names::position_of;
 use crate::stop::{Reading, Stop};
 use cc_capture::{CapSet, Elem, Var, compare_elem};
+use cc_names::Names;
 use cc_words::words::{behind, cut_at, first_and_rest, number_of, split_at};
 use std::alloc::{AllocError, Global};
 
@@ -75,7 +76,7 @@ pub fn variable_of(locals: Locals, names: &Names, depth: u64, word: &[u8]) -> Op
 {
     match behind(word, "_") {
         Some(digits) => local_of(locals, depth, digits),
-        None => match names.position(word) {
+        None => match position_of(names, word) {
             Some(position) => Some(Var::Free(position)),
             None => None,
         },

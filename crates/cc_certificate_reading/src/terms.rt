@@ -39,7 +39,6 @@ ghost use Rattle.cc_certificate_reading.specs.FirstPlaces.{first_spots, AreFirst
 ghost use Rattle.cc_certificate_reading.specs.Agreement.{Agrees};
 
 use crate::literals::{literal_of, text_of};
-use crate::names::Names;
 use crate::numbers::read_same;
 use crate::sets::{Locals, read_set, variable_of};
 use crate::stop::{Reading, Stop};
@@ -49,6 +48,7 @@ use cc_base::literal::{Lit, Op, Operator};
 use cc_base::place::Place;
 use cc_capture::Var;
 use cc_core::{Form, Node, Note};
+use cc_names::Names;
 use cc_words::words::{behind, cut_at};
 use std::alloc::Global;
 use std::rc::Rc;

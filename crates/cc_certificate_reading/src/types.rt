@@ -23,7 +23,6 @@ ghost use Rattle.cc_certificate_text.specs.Reading.{
 ghost use Rattle.cc_certificate_reading.specs.Agreement.{Agrees};
 ghost use Rattle.cc_certificate_reading.specs.Numberings.{locals_of};
 
-use crate::names::Names;
 use crate::numbers::read_same;
 use crate::sets::{Locals, local_of, read_some_set};
 use crate::stop::{Reading, Stop};
@@ -31,6 +30,7 @@ use crate::words::{read_exact, word_at};
 use cc_base::literal::Base;
 use cc_capture::CapSet;
 use cc_core::{Shape, Ty};
+use cc_names::Names;
 use cc_words::words::behind;
 use std::alloc::Global;
 use std::rc::Rc;

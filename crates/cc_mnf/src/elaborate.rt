@@ -18,7 +18,6 @@ ghost use Rattle.cc_parse.specs.Trees.{def_syntax, expr_syntax, import_syntax, m
 
 use crate::error::ElaborateError;
 use crate::exprs::elaborated;
-use crate::names::Names;
 use crate::operands::start;
 use crate::scope::Scope;
 use crate::stop::Stop;
@@ -30,6 +29,7 @@ use cc_base::name::Name;
 use cc_base::place::Place;
 use cc_captured::captured::{is_function, is_value};
 use cc_core::{CoreDef, Node, Note};
+use cc_names::Names;
 use cc_parse::tree::{Def, Module};
 use std::alloc::{AllocError, Global};
 use std::rc::Rc;

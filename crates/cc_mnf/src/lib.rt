@@ -5,7 +5,6 @@ pub mod elaborate;
 pub mod elaboration_laws;
 pub mod error;
 mod exprs;
-mod names;
 mod operands;
 mod scope;
 mod stop;

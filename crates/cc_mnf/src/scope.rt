@@ -8,12 +8,12 @@ ghost use Rattle.cc_mnf.specs.Scopes as plain;
 ghost use Rattle.cc_mnf.specs.StepAnswers.{MeetsWithoutHoles};
 ghost use Rattle.cc_mnf.specs.Steps.{or_refused};
 
-use crate::names::Names;
 use crate::stop::Stop;
 use cc_base::code::Code;
 use cc_base::name::Name;
 use cc_base::place::Place;
 use cc_capture::Var;
+use cc_names::Names;
 use std::alloc::AllocError;
 
 /// A binder of a term.
