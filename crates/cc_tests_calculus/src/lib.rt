@@ -10,14 +10,10 @@ mod contexts;
 #[cfg(test)]
 mod depths;
 #[cfg(test)]
-mod every_form;
-#[cfg(test)]
 mod flows;
 #[cfg(test)]
 mod large_sets;
 #[cfg(test)]
 mod nodes;
-#[cfg(test)]
-mod same_terms;
 #[cfg(test)]
 mod subcapturing;
