@@ -114,11 +114,13 @@ for program; do
     full < <(printf 'capc 1\n')
     expect 'no reply where none could be written' 0 '' ''
 
-    # The deepest types behind vals, on a small stack.
-    deep=types_of_4090_levels_behind_vals
-    python3 "$top/tests/limits/$deep.job.py" > "$work/deep"
-    low < "$work/deep"
-    expect "$deep on a stack of 512 KB" 0 "$(sed '$d' "$top/tests/limits/$deep.out")\n" ''
+    # The deepest types, on a small stack.
+    for deep in types_of_4090_levels_behind_vals a_variable_that_is_avoided_behind_4000_boxes \
+        a_variable_that_is_avoided_behind_1300_functions; do
+        python3 "$top/tests/limits/$deep.job.py" > "$work/deep"
+        low < "$work/deep"
+        expect "$deep on a stack of 512 KB" 0 "$(sed '$d' "$top/tests/limits/$deep.out")\n" ''
+    done
 done
 
 for program in ${judges[@]+"${judges[@]}"}; do
