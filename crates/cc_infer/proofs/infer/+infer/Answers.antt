@@ -8,7 +8,7 @@ use Rattle.cc_checking.specs.Inference.{exit_entry}
 use Rattle.cc_subty.specs.Demands.{asked_of}
 use Rattle.cc_known.specs.Logs.{Meets}
 use Rattle.cc_known.specs.Parts.{found_of, named_of}
-use Rattle.cc_type.specs.Rows.{ends, let_end, inferred_log}
+use Rattle.cc_type.specs.Rows.{let_end, inferred_log}
 use Rattle.cc_known.proofs.FormedParts.{shape_with_entry}
 use Rattle.cc_type.proofs.StandingTerms.{type_of_found, let_body, boundary_shape, let_found, ends_met}
 use Rattle.cc_infer.proofs.infer.+infer.Goals as goal
