@@ -1,6 +1,6 @@
 -- Inference as the program goes through it: the steps of each form, in their order, where a step that asks something
 -- goes on from the log of those before. What stands here is inference again (`InferredLogs`), and serves proofs alone.
-use Rattle.std.specs.Prelude.{ℕ, List, [], ◌∷◌, ◌++◌, Option, Some, None}
+use Rattle.std.specs.Prelude.{ℕ, List, ◌∷◌, Option, Some, None}
 use Rattle.cc_base.specs.declared.code.Code.TheVariants.{E14}
 use Rattle.cc_base.specs.declared.literal.Base.{Base}
 use Rattle.cc_base.specs.declared.literal.Base.TheVariants as bases
