@@ -1,7 +1,7 @@
 #!/usr/bin/env bash
 # Runs the built programs on the examples of the pages, and on what needs a shell: streams that are closed, that cannot be
-# read or that take nothing, and standard input that is not to be read. All other jobs, certificates and command lines
-# stand in tests/.
+# read or that take nothing, standard input that is not to be read, and the deepest types on a small stack. All other
+# jobs, certificates and command lines stand in tests/.
 # It prints a line for each failure and a closing line where there is one, and nothing where all is as it must be.
 # Usage: .ci/programs.sh [PROGRAM ..]; with no program, those that `rt ci` leaves, and those that judge certificates.
 set -u
@@ -70,6 +70,12 @@ closed() {
     : > "$work/out"
 }
 
+# low WORD ..: runs it on standard input with a stack of 512 KB
+low() {
+    (ulimit -s 512 && exec timeout 120 "$program" "$@") > "$work/out" 2> "$work/err"
+    echo $? > "$work/status"
+}
+
 jobs=$top/examples
 for program; do
     if [ ! -x "$program" ]; then
@@ -107,6 +113,14 @@ for program; do
     # Nothing is written of a job without commands, and so no write fails.
     full < <(printf 'capc 1\n')
     expect 'no reply where none could be written' 0 '' ''
+
+    # The deepest types, on a small stack.
+    for deep in types_of_4090_levels_behind_vals a_variable_that_is_avoided_behind_4000_boxes \
+        a_variable_that_is_avoided_behind_1300_functions; do
+        python3 "$top/tests/limits/$deep.job.py" > "$work/deep"
+        low < "$work/deep"
+        expect "$deep on a stack of 512 KB" 0 "$(sed '$d' "$top/tests/limits/$deep.out")\n" ''
+    done
 done
 
 for program in ${judges[@]+"${judges[@]}"}; do

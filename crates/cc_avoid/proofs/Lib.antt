@@ -1,3 +1,4 @@
 pub mod AvoidedTogether
 pub mod AvoidingAnswers
 pub mod FreePositions
+pub mod WaitingShapes

@@ -1,2 +1,3 @@
 pub mod AvoidedTogether
 pub mod Avoiding
+pub mod WaitingShapes

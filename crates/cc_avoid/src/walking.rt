@@ -2,7 +2,7 @@
 //! declared set stands for it, at negative ones it is left out, and in a bound or in the shape of an exit none may be
 //! free. Parts that stay are shared.
 
-ghost use Rattle.std.specs.Prelude.{◌≡◌, Some, IfOk};
+ghost use Rattle.std.specs.Prelude.{◌≡◌, ◌∷◌, Some, IfOk};
 ghost use Rattle.std.specs.Option.{option_map, unwrap_or};
 ghost use Rattle.cc_core.specs.Shapes.{FunctionShape, TypeFunctionShape, BoxShape, ExitShape, capturing};
 ghost use Rattle.cc_core.specs.TermViews.{shape_of, type_of};
@@ -10,6 +10,7 @@ ghost use Rattle.cc_checking.specs.Avoidance as plain;
 ghost use Rattle.cc_checking.specs.Avoidance.{unless_free};
 ghost use Rattle.cc_avoid.specs.AvoidedTogether.{names_any, shape_avoiding, type_avoiding};
 ghost use Rattle.cc_avoid.specs.Avoiding.{sign_of, given_shape, given_type, given_function, given_type_function, given_box};
+ghost use Rattle.cc_avoid.specs.WaitingShapes.{waiting_of, in_turn, avoiding_set, Descends, TakesTurn};
 
 use crate::positions::Positions;
 use crate::sign::{Sign, opposite};
@@ -81,8 +82,21 @@ pub fn set_or_same(became: Option<CapSet>, set: &CapSet) -> Result<CapSet, Alloc
     }
 }
 
-/// What the shape becomes at a place of the sign.
-#[cycle(avoids)]
+// What waits for what becomes of a shape inside it, each at a place of the sign.
+#[derive(Drop)]
+enum Waiting<'a> {
+    // Functions, for the shape of what they take. What they give is still to be gone over.
+    Takes(Sign, &'a Rc<Ty>, &'a Rc<Ty>),
+    // Functions, for the shape of what they give. What they take became this.
+    Gives(Sign, &'a Rc<Ty>, &'a Rc<Ty>, AvoidedType),
+    // Type functions, for the shape of what they give.
+    Results(Sign, &'a Rc<Shape>, &'a Rc<Ty>),
+    // Boxes, for the shape of their content.
+    Contents(Sign, &'a Rc<Ty>),
+}
+
+/// What the shape becomes at a place of the sign. What stands round a part waits in a list, so that a deep shape takes no
+/// more of the stack than a flat one.
 pub fn avoid_in_shape<P: Positions>(
     alloc: Global,
     positions: &P,
@@ -92,29 +106,83 @@ pub fn avoid_in_shape<P: Positions>(
     requires { P.can_avoid positions.now }
     ensures { IfOk result (λ a. given_shape (shape_of shape.now) a ≡ shape_avoiding (sign_of sign) (P.listed positions.now) (shape_of shape.now)) }
 {
-    match shape {
-        Shape::Base(_) => Ok(AvoidedShape::Kept),
-        Shape::Any => Ok(AvoidedShape::Kept),
-        Shape::TVar(_) => Ok(AvoidedShape::Kept),
-        Shape::Fun(takes, gives) => {
-            let taken = avoid_in_type(alloc, positions, opposite(sign), takes)?;
-            let given = avoid_in_type(alloc, positions, sign, gives)?;
+    let mut waiting = Vec::new(alloc);
+    let mut became = descend(positions, &mut waiting, sign, shape)?;
+    while let Some(next) = waiting.pop() {
+        became = take_turn(alloc, positions, &mut waiting, next, became)?;
+    }
+    Ok(became)
+}
+
+// Goes down in the shape to its first part that has none, by what functions take first. What stands round it waits.
+// Gives what that part becomes.
+fn descend<'a, P: Positions>(
+    positions: &P,
+    waiting: &mut Vec<Waiting<'a>>,
+    sign: Sign,
+    shape: &'a Shape,
+) -> Result<AvoidedShape, AllocError>
+    requires { P.can_avoid positions.now }
+    ensures { IfOk result (λ a. Descends (P.listed positions.now) (sign_of sign) (shape_of shape.now) (in_turn waiting.old.items) (in_turn waiting.new.items) a) }
+{
+    let mut sign = sign;
+    let mut inner = shape;
+    loop {
+        match inner {
+            Shape::Base(_) => return Ok(AvoidedShape::Kept),
+            Shape::Any => return Ok(AvoidedShape::Kept),
+            Shape::TVar(_) => return Ok(AvoidedShape::Kept),
+            Shape::Fun(takes, gives) => {
+                waiting.push(Waiting::Takes(sign, takes, gives))?;
+                sign = opposite(sign);
+                inner = &takes.shape;
+            }
+            Shape::TFun(bound, gives) => {
+                waiting.push(Waiting::Results(sign, bound, gives))?;
+                inner = &gives.shape;
+            }
+            Shape::Boxed(content) => {
+                waiting.push(Waiting::Contents(sign, content))?;
+                inner = &content.shape;
+            }
+            Shape::Exit(gives) => return exit_of(positions, gives),
+        }
+    }
+}
+
+// Goes on with what waits last, where the shape that it waits for became this. Gives what the next part becomes.
+fn take_turn<'a, P: Positions>(
+    alloc: Global,
+    positions: &P,
+    waiting: &mut Vec<Waiting<'a>>,
+    next: Waiting<'a>,
+    became: AvoidedShape,
+) -> Result<AvoidedShape, AllocError>
+    requires { P.can_avoid positions.now }
+    ensures { IfOk result (λ a. TakesTurn (P.listed positions.now) (waiting_of next.entry ∷ in_turn waiting.old.items) became (in_turn waiting.new.items) a) }
+{
+    match next {
+        Waiting::Takes(sign, takes, gives) => {
+            let taken = with_set(alloc, positions, opposite(sign), takes, became)?;
+            waiting.push(Waiting::Gives(sign, takes, gives, taken))?;
+            descend(positions, waiting, sign, &gives.shape)
+        }
+        Waiting::Gives(sign, takes, gives, taken) => {
+            let given = with_set(alloc, positions, sign, gives, became)?;
             function_of(alloc, takes, gives, taken, given)
         }
-        Shape::TFun(bound, gives) => {
-            let given = avoid_in_type(alloc, positions, sign, gives)?;
+        Waiting::Results(sign, bound, gives) => {
+            let given = with_set(alloc, positions, sign, gives, became)?;
             type_function_of(alloc, positions, bound, gives, given)
         }
-        Shape::Boxed(content) => {
-            let inside = avoid_in_type(alloc, positions, sign, content)?;
+        Waiting::Contents(sign, content) => {
+            let inside = with_set(alloc, positions, sign, content, became)?;
             box_of(alloc, content, inside)
         }
-        Shape::Exit(gives) => exit_of(positions, gives),
     }
 }
 
 /// What the type becomes at a place of the sign.
-#[cycle(avoids)]
 pub fn avoid_in_type<P: Positions>(
     alloc: Global,
     positions: &P,
@@ -125,6 +193,21 @@ pub fn avoid_in_type<P: Positions>(
     ensures { IfOk result (λ a. given_type (type_of ty.now) a ≡ type_avoiding (sign_of sign) (P.listed positions.now) (type_of ty.now)) }
 {
     let shape = avoid_in_shape(alloc, positions, sign, &ty.shape)?;
+    with_set(alloc, positions, sign, ty, shape)
+}
+
+// What a type becomes at a place of the sign, of what its shape became.
+fn with_set<P: Positions>(
+    alloc: Global,
+    positions: &P,
+    sign: Sign,
+    ty: &Ty,
+    shape: AvoidedShape,
+) -> Result<AvoidedType, AllocError>
+    requires { P.can_avoid positions.now }
+    ensures { IfOk result (λ a. given_type (type_of ty.now) a
+        ≡ avoiding_set (sign_of sign) (P.listed positions.now) ty.now.set (given_shape (shape_of ty.now.shape.value) shape)) }
+{
     let set = positions.avoid_in_set(alloc, sign, &ty.set)?;
     type_of_parts(alloc, ty, shape, set)
 }

@@ -122,6 +122,7 @@ fn settled(alloc: Global, found: Found, sig: Ty) -> Result<Checking, AllocError>
         node,
         captured: _,
         known: _,
+        unchanged: _,
     } = found;
     let note = Note::Written(Rc::new(alloc, sig.clone()?)?);
     let ty = sig.clone()?;

@@ -1,3 +1,4 @@
+mod ActingShapes
 pub mod Actions
 pub mod BodyOpenings
 pub mod CallLemmas

@@ -1,3 +1,4 @@
+pub mod ActingShapes
 pub mod Actions
 pub mod Binders
 pub mod Captured

@@ -2,7 +2,7 @@
 //! instances. Each call fails only for want of memory, as which an index or binders above one place beyond 2^32 - 1
 //! count.
 
-ghost use Rattle.std.specs.Prelude.{◌≡◌, ℕ, ◌+◌, IfOk, OnOk, IsTrue, option_map};
+ghost use Rattle.std.specs.Prelude.{◌≡◌, ℕ, ◌+◌, ◌∷◌, IfOk, OnOk, IsTrue, option_map};
 ghost use Rattle.std.specs.Option.{unwrap_or};
 ghost use Rattle.cc_capture.specs.declared.var.Elem.TheVariants.{Hole};
 ghost use Rattle.cc_capture.specs.Sets.{union};
@@ -13,6 +13,7 @@ ghost use Rattle.cc_core.specs.Shapes.{TypeVariable, FunctionShape, TypeFunction
 ghost use Rattle.cc_core.specs.Substitution.{single, put_variable, renamed_variable, closed_variable};
 ghost use Rattle.cc_core.specs.Reading.{read_variable, written_variable};
 ghost use Rattle.cc_core.specs.Actions.{action_of, renamed_by};
+ghost use Rattle.cc_core.specs.ActingShapes.{waiting_of, in_turn, Descends, TakesTurn};
 ghost use Rattle.cc_core.specs.TermViews.{shape_of, type_of, note_of, form_of, term_of};
 ghost use Rattle.cc_core.specs.Places.{Spots, places_around, places_of};
 
@@ -436,8 +437,25 @@ fn exit_of(alloc: Global, gives: &Rc<Shape>, given: ActedShape) -> Result<ActedS
     }
 }
 
-// What the shape becomes.
-#[cycle(act_shapes)]
+// What waits for what becomes of a shape inside it. All but exits have how many binders stand above that shape.
+#[derive(Drop)]
+enum Waiting<'a> {
+    // Functions, for the shape of what they take. What they give is still to be gone over.
+    Takes(u32, &'a Rc<Ty>, &'a Rc<Ty>),
+    // Functions, for the shape of what they give. What they take became this.
+    Gives(u32, &'a Rc<Ty>, &'a Rc<Ty>, ActedType),
+    // Type functions, for their bound. What they give is still to be gone over.
+    Bounds(u32, &'a Rc<Shape>, &'a Rc<Ty>),
+    // Type functions, for the shape of what they give. Their bound became this.
+    Results(u32, &'a Rc<Shape>, &'a Rc<Ty>, ActedShape),
+    // Boxes, for the shape of their content.
+    Contents(u32, &'a Rc<Ty>),
+    // Exits, for the shape of their values.
+    Exits(&'a Rc<Shape>),
+}
+
+// What the shape becomes. What stands round a part waits in a list, so that a deep shape takes no more of the stack
+// than a flat one.
 fn acted_shape(
     alloc: Global,
     action: &Action,
@@ -446,37 +464,108 @@ fn acted_shape(
 ) -> Result<ActedShape, AllocError>
     ensures { IfOk result (λ a. became_shape (shape_of shape.now) a ≡ plain.act (action_of action.now) depth (shape_of shape.now)) }
 {
-    match shape {
-        Shape::Base(_) => Ok(ActedShape::Kept),
-        Shape::Any => Ok(ActedShape::Kept),
-        Shape::TVar(variable) => acted_type_variable(alloc, action, depth, *variable),
-        Shape::Fun(takes, gives) => {
-            let taken = acted_type(alloc, action, depth, takes)?;
-            let given = acted_type(alloc, action, under(depth)?, gives)?;
-            function_of(alloc, takes, gives, taken, given)
-        }
-        Shape::TFun(bound, gives) => {
-            let limit = acted_shape(alloc, action, depth, bound)?;
-            let result = acted_type(alloc, action, under(depth)?, gives)?;
-            type_function_of(alloc, bound, gives, limit, result)
-        }
-        Shape::Boxed(content) => {
-            let inside = acted_type(alloc, action, depth, content)?;
-            box_of(alloc, content, inside)
-        }
-        Shape::Exit(gives) => {
-            let given = acted_shape(alloc, action, depth, gives)?;
-            exit_of(alloc, gives, given)
+    let mut waiting = Vec::new(alloc);
+    let mut became = descend(alloc, action, &mut waiting, depth, shape)?;
+    while let Some(next) = waiting.pop() {
+        became = take_turn(alloc, action, &mut waiting, next, became)?;
+    }
+    Ok(became)
+}
+
+// Goes down in the shape to its first part that has none, by what functions take and by the bounds of type functions
+// first. What stands round it waits. Gives what that part becomes.
+fn descend<'a>(
+    alloc: Global,
+    action: &Action,
+    waiting: &mut Vec<Waiting<'a>>,
+    depth: u32,
+    shape: &'a Shape,
+) -> Result<ActedShape, AllocError>
+    ensures { IfOk result (λ a. Descends (action_of action.now) depth (shape_of shape.now) (in_turn waiting.old.items) (in_turn waiting.new.items) a) }
+{
+    let mut inner = shape;
+    loop {
+        match inner {
+            Shape::Base(_) => return Ok(ActedShape::Kept),
+            Shape::Any => return Ok(ActedShape::Kept),
+            Shape::TVar(variable) => return acted_type_variable(alloc, action, depth, *variable),
+            Shape::Fun(takes, gives) => {
+                waiting.push(Waiting::Takes(depth, takes, gives))?;
+                inner = &takes.shape;
+            }
+            Shape::TFun(bound, gives) => {
+                waiting.push(Waiting::Bounds(depth, bound, gives))?;
+                inner = bound;
+            }
+            Shape::Boxed(content) => {
+                waiting.push(Waiting::Contents(depth, content))?;
+                inner = &content.shape;
+            }
+            Shape::Exit(gives) => {
+                waiting.push(Waiting::Exits(gives))?;
+                inner = gives;
+            }
         }
     }
 }
 
+// Goes on with what waits last, where the shape that it waits for became this. Gives what the next part becomes.
+fn take_turn<'a>(
+    alloc: Global,
+    action: &Action,
+    waiting: &mut Vec<Waiting<'a>>,
+    next: Waiting<'a>,
+    became: ActedShape,
+) -> Result<ActedShape, AllocError>
+    ensures { IfOk result (λ a. TakesTurn (action_of action.now) (waiting_of next.entry ∷ in_turn waiting.old.items) became (in_turn waiting.new.items) a) }
+{
+    match next {
+        Waiting::Takes(depth, takes, gives) => {
+            let taken = with_set(alloc, action, depth, takes, became)?;
+            let below = under(depth)?;
+            waiting.push(Waiting::Gives(below, takes, gives, taken))?;
+            descend(alloc, action, waiting, below, &gives.shape)
+        }
+        Waiting::Gives(depth, takes, gives, taken) => {
+            let given = with_set(alloc, action, depth, gives, became)?;
+            function_of(alloc, takes, gives, taken, given)
+        }
+        Waiting::Bounds(depth, bound, gives) => {
+            let below = under(depth)?;
+            waiting.push(Waiting::Results(below, bound, gives, became))?;
+            descend(alloc, action, waiting, below, &gives.shape)
+        }
+        Waiting::Results(depth, bound, gives, limit) => {
+            let given = with_set(alloc, action, depth, gives, became)?;
+            type_function_of(alloc, bound, gives, limit, given)
+        }
+        Waiting::Contents(depth, content) => {
+            let inside = with_set(alloc, action, depth, content, became)?;
+            box_of(alloc, content, inside)
+        }
+        Waiting::Exits(gives) => exit_of(alloc, gives, became),
+    }
+}
+
 // What the type becomes.
-#[cycle(act_shapes)]
 fn acted_type(alloc: Global, action: &Action, depth: u32, ty: &Ty) -> Result<ActedType, AllocError>
     ensures { IfOk result (λ a. became_type (type_of ty.now) a ≡ plain.act_type (action_of action.now) depth (type_of ty.now)) }
 {
     let shape = acted_shape(alloc, action, depth, &ty.shape)?;
+    with_set(alloc, action, depth, ty, shape)
+}
+
+// What a type becomes, of what its shape became.
+fn with_set(
+    alloc: Global,
+    action: &Action,
+    depth: u32,
+    ty: &Ty,
+    shape: ActedShape,
+) -> Result<ActedType, AllocError>
+    ensures { IfOk result (λ a. became_type (type_of ty.now) a
+        ≡ capturing (became_shape (shape_of ty.now.shape.value) shape) (plain.act_set (action_of action.now) depth ty.now.set)) }
+{
     let set = acted_set(alloc, action, depth, &ty.set)?;
     type_of_parts(alloc, ty, shape, set)
 }

@@ -63,36 +63,3 @@ pub fn write_set(alloc: Global, set: &CapSet, root: u32, entries: u32) -> Result
 {
     acting::act_set(alloc, &Action::Write(root, entries), 0, set)
 }
-
-/// The shape as it stands in a term whose binders put the entries from the root on, as `write_set` says of sets.
-pub fn write_shape(
-    alloc: Global,
-    shape: &Rc<Shape>,
-    root: u32,
-    entries: u32,
-) -> Result<Rc<Shape>, AllocError>
-    ensures { IfOk result (λ s. shape_of s.value ≡ plain.written_shape root entries (shape_of shape.now.value)) }
-{
-    acting::act_shape(alloc, &Action::Write(root, entries), 0, shape)
-}
-
-/// The type as it stands in a term whose binders put the entries from the root on, as `write_set` says of sets.
-pub fn write_type(alloc: Global, ty: &Ty, root: u32, entries: u32) -> Result<Ty, AllocError>
-    ensures { IfOk result (λ t. type_of t ≡ plain.written_type root entries (type_of ty.now)) }
-{
-    acting::act_type(alloc, &Action::Write(root, entries), 0, ty)
-}
-
-/// The term as it stands in a term whose binders put the entries from the root on, as `write_set` says of sets. The
-/// places stay.
-pub fn write_term(
-    alloc: Global,
-    node: &Rc<Node>,
-    root: u32,
-    entries: u32,
-) -> Result<Rc<Node>, AllocError>
-    ensures term { IfOk result (λ n. term_of n.value ≡ plain.written_term root entries (term_of node.now.value)) }
-    ensures places { IfOk result (λ n. places_of n.value ≡ places_of node.now.value) }
-{
-    acting::act_node(alloc, &Action::Write(root, entries), 0, node)
-}

@@ -55,15 +55,6 @@ pub fn instantiate_term(
     acting::act_node(alloc, &Action::Put(Var::Free(position)), 0, node)
 }
 
-/// The term that stood under the binder of a type variable, with the shape in the place of that variable, also in the
-/// types that are written in the term. The places stay.
-pub fn subst_term(alloc: Global, node: &Rc<Node>, by: &Rc<Shape>) -> Result<Rc<Node>, AllocError>
-    ensures term { IfOk result (λ n. term_of n.value ≡ replaced_term_by_shape (shape_of by.now.value) (term_of node.now.value)) }
-    ensures places { IfOk result (λ n. places_of n.value ≡ places_of node.now.value) }
-{
-    acting::act_node(alloc, &Action::PutShape(by), 0, node)
-}
-
 /// The term with each free position replaced by the one that the list has for it, also in the types that are written
 /// in the term. A position past the list stays, and so do the places.
 pub fn rename(alloc: Global, node: &Rc<Node>, to: &[u32]) -> Result<Rc<Node>, AllocError>
@@ -71,24 +62,6 @@ pub fn rename(alloc: Global, node: &Rc<Node>, to: &[u32]) -> Result<Rc<Node>, Al
     ensures places { IfOk result (λ n. places_of n.value ≡ places_of node.now.value) }
 {
     acting::act_node(alloc, &Action::Rename(to), 0, node)
-}
-
-/// The set with each hole filled by the set that the list has for its number. A hole past the list stays.
-pub fn fill_set(alloc: Global, set: &CapSet, filling: &[CapSet]) -> Result<CapSet, AllocError>
-    ensures { IfOk result (λ s. s ≡ filled_set (filled_by filling.now) set.now) }
-{
-    acting::act_set(alloc, &Action::Fill(filling), 0, set)
-}
-
-/// The shape with each hole filled by the set that the list has for its number. A hole past the list stays.
-pub fn fill_shape(
-    alloc: Global,
-    shape: &Rc<Shape>,
-    filling: &[CapSet],
-) -> Result<Rc<Shape>, AllocError>
-    ensures { IfOk result (λ s. shape_of s.value ≡ filled (filled_by filling.now) (shape_of shape.now.value)) }
-{
-    acting::act_shape(alloc, &Action::Fill(filling), 0, shape)
 }
 
 /// The type with each hole filled by the set that the list has for its number. A hole past the list stays.

@@ -1,6 +1,6 @@
 //! Inference: the type of a term, what its sets have to satisfy, and the term with its omitted sets put in.
 
-ghost use Rattle.std.specs.Prelude.{◌≡◌, ◌∷◌, IfOk};
+ghost use Rattle.std.specs.Prelude.{◌≡◌, ◌∷◌, true, IfOk};
 ghost use Rattle.cc_core.specs.Contexts.{TypeEntry, entry_of};
 ghost use Rattle.cc_core.specs.Places.{spots, places_of, spots_at};
 ghost use Rattle.cc_core.specs.Shapes.{CapturingType};
@@ -50,6 +50,7 @@ pub fn infer_term(
     ensures exact { Meets found_of result (asked_of log.new.demands) (after (asked_of log.old.demands) (inferred ways root (context_of ctx.now) (term_of node.now.value) (places_of node.now.value))) }
     ensures formed { IfOk result (λ f. IsWellFormedType (context_of ctx.now) (type_of f.ty)) }
     ensures places { IfOk result (λ f. places_of f.node.value ≡ places_of node.now.value) }
+    ensures unchanged { IfOk result (λ f. f.unchanged ≡ true → term_of f.node.value ≡ term_of node.now.value) }
 {
     let measures = Measures::new(alloc, 0, 0);
     infer_known(alloc, ctx, root, &measures, node, log)
@@ -70,6 +71,7 @@ pub fn infer_known(
     ensures exact { Meets found_of result (asked_of log.new.demands) (after (asked_of log.old.demands) (inferred ways root (context_of ctx.now) (term_of node.now.value) (places_of node.now.value))) }
     ensures formed { IfOk result (λ f. IsWellFormedType (context_of ctx.now) (type_of f.ty)) }
     ensures places { IfOk result (λ f. places_of f.node.value ≡ places_of node.now.value) }
+    ensures unchanged { IfOk result (λ f. f.unchanged ≡ true → term_of f.node.value ≡ term_of node.now.value) }
 {
     infer(alloc, ctx, root, measures, node, log)
 }
@@ -90,6 +92,7 @@ fn infer(
     ensures exact { Meets found_of result (asked_of log.new.demands) (inferred_log root (context_of ctx.now) (term_of node.now.value) (places_of node.now.value) (asked_of log.old.demands)) }
     ensures formed { IfOk result (λ f. IsWellFormedType (context_of ctx.now) (type_of f.ty)) }
     ensures places { IfOk result (λ f. places_of f.node.value ≡ places_of node.now.value) }
+    ensures unchanged { IfOk result (λ f. f.unchanged ≡ true → term_of f.node.value ≡ term_of node.now.value) }
 {
     let found = infer_form(alloc, ctx, root, measures, node, log)?;
     Ok(found)
@@ -117,6 +120,7 @@ fn name(
     requires note { NoteReadsWell (context_of ctx.now) (note_of note.now) }
     ensures is { Meets named_of result (asked_of log.new.demands) (noted_log root at (context_of ctx.now) (note_of note.now) (type_of ty.now) (asked_of log.old.demands)) }
     ensures formed { IfOk result (λ n. IsWellFormedType (context_of ctx.now) (type_of n.ty)) }
+    ensures unchanged { IfOk result (λ n. n.unchanged ≡ true → note_of n.note ≡ note_of note.now) }
 {
     let named = noted(alloc, ctx, root, note, ty, at, log)?;
     Ok(named)
@@ -249,6 +253,7 @@ fn infer_form(
     requires term { StandsWell root (context_of ctx.now) (term_of node.now.value) }
     ensures exact { Meets found_of result (asked_of log.new.demands) (inferred_log root (context_of ctx.now) (term_of node.now.value) (places_of node.now.value) (asked_of log.old.demands)) }
     ensures places { IfOk result (λ f. places_of f.node.value ≡ places_of node.now.value) }
+    ensures unchanged { IfOk result (λ f. f.unchanged ≡ true → term_of f.node.value ≡ term_of node.now.value) }
 {
     match &node.form {
         Form::Var(variable) => {

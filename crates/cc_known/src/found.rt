@@ -24,6 +24,8 @@ pub struct Found {
     pub captured: CapSet,
     /// What is known of the shape of its type.
     pub known: Option<Measure>,
+    /// Whether that term is the one that was given, so that no set was put in.
+    pub unchanged: bool,
     pub ghost measured: { IsMeasuredBy known (shape_of ty.shape.value) } by { IsMeasuredBy-prop known (shape_of ty.shape.value) },
     pub ghost captures: { captured ≡ captured_variables (term_of node.value) },
     pub ghost fits: { nat_le (type_size (type_of ty)) greatest_size ≡ true },
@@ -34,4 +36,6 @@ pub struct Found {
 pub struct Named {
     pub ty: Ty,
     pub note: Note,
+    /// Whether that note is the one that was given.
+    pub unchanged: bool,
 }

@@ -1,16 +1,16 @@
 -- Where two shapes match by their forms, with no hole on a right side, nothing of their comparison is kept behind something
 -- lost.
-use Rattle.std.proofs.Common.{◌≡◌, ℕ, zero, suc, ◌-◌, Bool, true, false, ◌&&◌, ◌||◌, not, cond, map, List, [], ◌∷◌, ◌++◌}
+use Rattle.std.proofs.Common.{◌≡◌, ℕ, zero, suc, ◌-◌, Bool, true, false, ◌&&◌, ◌||◌, not, cond, List, [], ◌∷◌, ◌++◌}
 use Rattle.std.proofs.Common.{length, refl, sym, ap, ◌∙◌, subst, arith}
 use Rattle.std.specs.List.{list_all}
 use Rattle.std.proofs.lemmas.Bool.{and_from, and_parts, or_right}
 use Rattle.cc_base.specs.declared.place.Place.{Place}
 use Rattle.cc_capture.specs.declared.var.Elem.{Elem}
 use Rattle.cc_capture.specs.declared.var.Elem.TheVariants.{Var as Variable, Cap, Hole}
-use Rattle.cc_capture.specs.Sets.{Set, Member}
+use Rattle.cc_capture.specs.Sets.{Set}
 use Rattle.cc_capture.proofs.Membership.{Member-flat_image}
 use Rattle.cc_core.specs.Equality.{same_shape}
-use Rattle.cc_core.specs.Contexts.{Bind, Context, entry_of}
+use Rattle.cc_core.specs.Contexts.{Context, entry_of}
 use Rattle.cc_core.specs.Occurrences.{IsNoHole}
 use Rattle.cc_core.specs.Reading.{reading, read_variable, read_set, read_shape, read_type}
 use Rattle.cc_core.specs.Shapes.{Shape, FunctionShape, BoxShape, CapturingType}
@@ -28,7 +28,7 @@ use Rattle.cc_checking.specs.Comparison.{comparison, type_comparison}
 use Rattle.cc_checking.specs.Inference.{demand_at, compared_at}
 use Rattle.cc_checking.specs.Outcomes.{Placed}
 use Rattle.cc_type.specs.FormsAlone.{forces_nothing}
-use Rattle.cc_known.specs.Keeping.{has_hole, is_demand_settled, is_lost, has_lost, is_needless, with_one, keeping}
+use Rattle.cc_known.specs.Keeping.{has_hole, is_demand_settled, is_lost, has_lost, is_needless, with_one}
 use Rattle.cc_known.specs.KeptWalks.{goes, form_compared}
 use Rattle.cc_known.specs.Logs.{Got, after}
 use Rattle.cc_known.proofs.ComparedAgain.{all_both}

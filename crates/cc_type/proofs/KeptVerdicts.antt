@@ -1,5 +1,5 @@
 -- The verdict of a definition from what is kept, and from a list of sets that fills its holes.
-use Rattle.std.proofs.Common.{◌≡◌, ℕ, ◌<◌, length, Some, List, [], ◌∷◌, refl, ap, inl, inr}
+use Rattle.std.proofs.Common.{◌≡◌, ℕ, ◌<◌, length, Some, List, refl, ap, inl, inr}
 use Rattle.cc_base.specs.declared.code.Code.{Code}
 use Rattle.cc_base.specs.declared.place.Place.{Place}
 use Rattle.cc_capture.specs.declared.var.Elem.TheVariants.{Hole}
@@ -8,18 +8,17 @@ use Rattle.cc_core.specs.Actions.{filled_by}
 use Rattle.cc_core.specs.Shapes.{Shape, CapturingType}
 use Rattle.cc_core.specs.Contexts.{TermEntry, Context, lookup}
 use Rattle.cc_checking.specs.Comparison.{Demand}
-use Rattle.cc_checking.specs.Outcomes.{Asked, IsBelow, IsCapless, Placed, Found}
+use Rattle.cc_checking.specs.Outcomes.{Asked, IsBelow, Placed, Found}
 use Rattle.cc_checking.specs.Fillings.{Filling, AllServed, IsAskedIn, IsLeast, FailsFirst}
 use Rattle.cc_checking.specs.Verdicts.{Definition, Checking, IsRefused, IsChecked, Deserves, settled_or}
 use Rattle.cc_checking.specs.Verdicts.{signature_under, accepted_with, signature_verdict}
-use Rattle.cc_checking_laws.specs.FillingLaws.{IsFit, AreFit}
+use Rattle.cc_checking_laws.specs.FillingLaws.{AreFit}
 use Rattle.cc_checking_laws.specs.CheckingLaws.{Fits}
 use Rattle.cc_core.specs.Holes.{HolesAreOfParameters}
 use Rattle.cc_checking_laws.proofs.FitDemands.{asked_is_fit}
 use Rattle.cc_checking_laws.proofs.LeastFillings.{least_over_globals}
 use Rattle.cc_solve.specs.Solutions.{filling_of}
 use Rattle.cc_known.specs.FilledHoles.{HasAskedHolesBelow, holes_of, FillAlike, HasCheckingHolesBelow}
-use Rattle.cc_known.specs.FormedDemands.{IsWellFormedAsked, AllWellFormed}
 use Rattle.cc_known.specs.Keeping.{kept}
 use Rattle.cc_type.proofs.CheckedHoles.{checking_adds_no_hole}
 use Rattle.cc_known.proofs.FilledAlike.{lists_fill_alike}

@@ -1,5 +1,5 @@
 -- What is known of the shapes of entries, in contexts that grow.
-use Rattle.std.proofs.Common.{◌≡◌, ℕ, zero, ◌+◌, ◌-◌, ◌≤◌, ◌<◌, true, false, cond, List, [], ◌∷◌, ◌++◌, length, Option, Some, None}
+use Rattle.std.proofs.Common.{◌≡◌, ℕ, ◌+◌, ◌-◌, ◌≤◌, ◌<◌, true, false, cond, List, [], ◌∷◌, ◌++◌, length, Option, Some, None}
 use Rattle.std.proofs.Common.{refl, sym, ap, ◌∙◌, subst, inl, inr, arith}
 use Rattle.std.specs.Prelude.{nat_lt, slice_get}
 use Rattle.std.specs.Option.{option_map}
@@ -18,7 +18,6 @@ use Rattle.cc_checking.specs.Outcomes.{finds}
 use Rattle.cc_typing_laws.proofs.FreeMaps.{lookup_cases}
 use Rattle.cc_known.specs.Measures.{IsSize, IsMeasuredBy, whole_measure, measured_at, measure_at, measure_of, AreMeasuresOf, AreAllMeasuresOf}
 use Rattle.cc_known.specs.Signatures.{greatest_in}
-use Rattle.cc_known.specs.declared.measures.Measure.{Measure}
 use Rattle.cc_known.specs.declared.measures.Measures.{Measures}
 
 -- nothing is known of a position past the sizes

@@ -1,5 +1,5 @@
 -- The comparison of two shapes that are one demands nothing, and that of two types with such shapes what their sets do.
-use Rattle.std.proofs.Common.{◌≡◌, ℕ, zero, suc, Bool, true, cond, List, [], ◌∷◌, refl, ap, subst}
+use Rattle.std.proofs.Common.{◌≡◌, ℕ, zero, suc, true, cond, List, [], ◌∷◌, refl, ap, subst}
 use Rattle.std.proofs.lemmas.Bool.{and_parts}
 use Rattle.cc_base.specs.declared.place.Place.{Place}
 use Rattle.cc_core.specs.Equality.{same_shape}
@@ -7,7 +7,7 @@ use Rattle.cc_core.specs.Contexts.{Context}
 use Rattle.cc_core.specs.Shapes.{Shape, CapturingType}
 use Rattle.cc_core.specs.WellFormed.{kinds_of, is_well_formed_shape, is_well_formed_set, IsWellFormedSet, IsWellFormedType}
 use Rattle.cc_core.proofs.Comparisons.{same_shape-decides}
-use Rattle.cc_checking.specs.Comparison.{demanded, Comparison, Matches, and_then, is_any, by_form, comparison, type_comparison}
+use Rattle.cc_checking.specs.Comparison.{demanded, Matches, and_then, is_any, by_form, comparison, type_comparison}
 use Rattle.cc_checking.specs.Inference.{demand_at, compared_at}
 use Rattle.cc_checking.specs.Outcomes.{Placed}
 use Rattle.cc_known.specs.Keeping.{with_one}

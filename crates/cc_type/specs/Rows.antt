@@ -1,6 +1,6 @@
 -- Inference as the program goes through it: the steps of each form, in their order, where a step that asks something
 -- goes on from the log of those before. What stands here is inference again (`InferredLogs`), and serves proofs alone.
-use Rattle.std.specs.Prelude.{ℕ, List, [], ◌∷◌, ◌++◌, Option, Some, None}
+use Rattle.std.specs.Prelude.{ℕ, List, ◌∷◌, Option, Some, None}
 use Rattle.cc_base.specs.declared.code.Code.TheVariants.{E14}
 use Rattle.cc_base.specs.declared.literal.Base.{Base}
 use Rattle.cc_base.specs.declared.literal.Base.TheVariants as bases
@@ -161,16 +161,17 @@ application_row context function argument own log =
     (result (replaced_type (in_context context argument) head.gives) (Application function argument)))
     log
 
--- what a type function gives for a shape that was read
-abbrev pub type_application_end : Place → Var → Shape → Shape → CapturingType → Outcome Result
-type_application_end at function argument read gives =
-    tested ways at (result (replaced_type_by_shape read gives) (TypeApplication function argument))
+-- what a type function gives for a shape that was read, in a term
+abbrev pub type_application_end : Place → Term → Shape → CapturingType → Outcome Result
+type_application_end at term read gives = tested ways at (result (replaced_type_by_shape read gives) term)
 
 abbrev pub type_application_row : Context → Var → Shape → Spots → List Placed → Logged Result
 type_application_row context function argument own log =
     plainly (type_function_at context own.first function) λ head.
     followed (after log (against comparing own.second context (shape_in context argument) head.bound)) λ done log.
-    ends (type_application_end own.at function argument (shape_in context argument) head.gives) log
+    ends
+    (type_application_end own.at (TypeApplication function argument) (shape_in context argument) head.gives)
+    log
 
 -- the content of a box that is opened under the set
 abbrev pub unboxing_end : ℕ → Context → Place → Option Set → Var → CapturingType → Set → Outcome Result

@@ -9,7 +9,7 @@ ghost use Rattle.cc_core.specs.Occurrences as occurrences;
 ghost use Rattle.cc_core.specs.Places.{Around, Between, spots_at, places_around, places_of};
 ghost use Rattle.cc_core.specs.Sizes.{type_size};
 ghost use Rattle.cc_core.specs.Substitution.{closed_type};
-ghost use Rattle.cc_core.specs.Terms.{Boundary};
+ghost use Rattle.cc_core.specs.Terms.{FunctionTerm, TypeFunctionTerm, Let, Conditional, Boundary};
 ghost use Rattle.cc_core.specs.TermViews.{shape_of, type_of, note_of, form_of, term_of, context_of};
 ghost use Rattle.cc_core.specs.WellFormed.{IsWellFormedContext, IsWellFormedType};
 ghost use Rattle.cc_checking.specs.Avoidance.{Positive, avoided_set};
@@ -86,25 +86,29 @@ fn function_type(
 pub fn function_end(
     alloc: Global,
     ctx: &Ctx,
-    node: &Node,
+    node: &Rc<Node>,
     takes: &Rc<Ty>,
     read: Ty,
     part: Found,
 ) -> Result<Found, Stop>
-    requires { type_of read ≡ plain.type_in (context_of ctx.now) (type_of takes.now.value) }
-    ensures exact { Answers found_of result (tested ways node.now.at (plain.function_found (context_of ctx.now) (shape_of takes.now.value.shape.value) takes.now.value.set (found_of part))) }
-    ensures places { IfOk result (λ f. places_of f.node.value ≡ Around (spots_at node.now.at node.now.first node.now.second) (places_of part.node.value)) }
+    requires read { type_of read ≡ plain.type_in (context_of ctx.now) (type_of takes.now.value) }
+    requires term { part.unchanged ≡ true → term_of node.now.value ≡ FunctionTerm (shape_of takes.now.value.shape.value) takes.now.value.set (term_of part.node.value) }
+    requires places { places_of node.now.value ≡ Around (spots_at node.now.value.at node.now.value.first node.now.value.second) (places_of part.node.value) }
+    ensures exact { Answers found_of result (tested ways node.now.value.at (plain.function_found (context_of ctx.now) (shape_of takes.now.value.shape.value) takes.now.value.set (found_of part))) }
+    ensures places { IfOk result (λ f. places_of f.node.value ≡ places_of node.now.value) }
+    ensures unchanged { IfOk result (λ f. f.unchanged ≡ true → term_of f.node.value ≡ term_of node.now.value) }
 {
     let Found {
         ty: gives,
         node: body,
         captured,
         known,
+        unchanged,
     } = part;
     let captured = without_binder(alloc, &captured)?;
     let (ty, known) = function_type(alloc, ctx, read, &gives, known, &captured)?;
     let form = Form::Fun(takes.clone()?, body);
-    let found = with_parts(alloc, node, form, ty, known, captured)?;
+    let found = with_parts(alloc, node, form, unchanged, ty, known, captured)?;
     Ok(found)
 }
 
@@ -132,50 +136,59 @@ fn type_function_type(
 pub fn type_function_end(
     alloc: Global,
     ctx: &Ctx,
-    node: &Node,
+    node: &Rc<Node>,
     bound: &Rc<Shape>,
     read: Rc<Shape>,
     part: Found,
 ) -> Result<Found, Stop>
-    requires { shape_of read.value ≡ plain.shape_in (context_of ctx.now) (shape_of bound.now.value) }
-    ensures exact { Answers found_of result (tested ways node.now.at (plain.type_function_found (context_of ctx.now) (shape_of bound.now.value) (found_of part))) }
-    ensures places { IfOk result (λ f. places_of f.node.value ≡ Around (spots_at node.now.at node.now.first node.now.second) (places_of part.node.value)) }
+    requires read { shape_of read.value ≡ plain.shape_in (context_of ctx.now) (shape_of bound.now.value) }
+    requires term { part.unchanged ≡ true → term_of node.now.value ≡ TypeFunctionTerm (shape_of bound.now.value) (term_of part.node.value) }
+    requires places { places_of node.now.value ≡ Around (spots_at node.now.value.at node.now.value.first node.now.value.second) (places_of part.node.value) }
+    ensures exact { Answers found_of result (tested ways node.now.value.at (plain.type_function_found (context_of ctx.now) (shape_of bound.now.value) (found_of part))) }
+    ensures places { IfOk result (λ f. places_of f.node.value ≡ places_of node.now.value) }
+    ensures unchanged { IfOk result (λ f. f.unchanged ≡ true → term_of f.node.value ≡ term_of node.now.value) }
 {
     let Found {
         ty: gives,
         node: body,
         captured,
         known,
+        unchanged,
     } = part;
     let captured = without_binder(alloc, &captured)?;
     let (ty, known) = type_function_type(alloc, ctx, read, &gives, known, &captured)?;
     let form = Form::TFun(bound.clone()?, body);
-    let found = with_parts(alloc, node, form, ty, known, captured)?;
+    let found = with_parts(alloc, node, form, unchanged, ty, known, captured)?;
     Ok(found)
 }
 
 /// What a boundary gives.
 pub fn boundary_end(
     alloc: Global,
-    node: &Node,
+    node: &Rc<Node>,
     gives: &Rc<Shape>,
     ty: Ty,
     part: Found,
 ) -> Result<Found, Stop>
-    ensures exact { Answers found_of result (tested ways node.now.at (plain_result (type_of ty) (Boundary (shape_of gives.now.value) (term_of part.node.value)))) }
-    ensures places { IfOk result (λ f. places_of f.node.value ≡ Around (spots_at node.now.at node.now.first node.now.second) (places_of part.node.value)) }
+    requires term { part.unchanged ≡ true → term_of node.now.value ≡ Boundary (shape_of gives.now.value) (term_of part.node.value) }
+    requires places { places_of node.now.value ≡ Around (spots_at node.now.value.at node.now.value.first node.now.value.second) (places_of part.node.value) }
+    ensures exact { Answers found_of result (tested ways node.now.value.at (plain_result (type_of ty) (Boundary (shape_of gives.now.value) (term_of part.node.value)))) }
+    ensures places { IfOk result (λ f. places_of f.node.value ≡ places_of node.now.value) }
+    ensures unchanged { IfOk result (λ f. f.unchanged ≡ true → term_of f.node.value ≡ term_of node.now.value) }
 {
     let Found {
         ty: _,
         node: body,
         captured,
         known: _,
+        unchanged,
     } = part;
     let captured = without_binder(alloc, &captured)?;
     let found = with_parts(
         alloc,
         node,
         Form::Boundary(gives.clone()?, body),
+        unchanged,
         ty,
         None,
         captured,
@@ -271,59 +284,80 @@ fn shape_left_behind(
 fn let_of(
     alloc: Global,
     ctx: &Ctx,
-    node: &Node,
+    node: &Rc<Node>,
     form: Form,
+    unchanged: bool,
     declared: &CapSet,
     inner: Ty,
     known: Option<Measure>,
     captured: CapSet,
 ) -> Result<Found, Stop>
+    requires term { unchanged ≡ true → term_of node.now.value ≡ form_of form }
+    requires places { places_of node.now.value ≡ places_around (spots_at node.now.value.at node.now.value.first node.now.value.second) form }
     requires captured { captured ≡ captured_variables (form_of form) }
     requires fits { nat_le (type_size (type_of inner)) plain.greatest_size ≡ true }
     requires measured { IsMeasuredBy known (shape_of inner.shape.value) }
-    ensures exact { Answers found_of result (directly (plain.left_behind node.now.first (context_of ctx.now) declared.now (type_of inner))
-        (λ type. tested ways node.now.at (plain_result type (form_of form)))) }
-    ensures places { IfOk result (λ f. places_of f.node.value ≡ places_around (spots_at node.now.at node.now.first node.now.second) form) }
+    ensures exact { Answers found_of result (directly (plain.left_behind node.now.value.first (context_of ctx.now) declared.now (type_of inner))
+        (λ type. tested ways node.now.value.at (plain_result type (form_of form)))) }
+    ensures places { IfOk result (λ f. places_of f.node.value ≡ places_of node.now.value) }
+    ensures unchanged { IfOk result (λ f. f.unchanged ≡ true → term_of f.node.value ≡ term_of node.now.value) }
 {
     if names_newest(ctx, known, &inner.shape) {
         let ty = left_behind(alloc, ctx, declared, &inner, node.first)?;
-        let found = with_parts(alloc, node, form, ty, None, captured)?;
+        let found = with_parts(alloc, node, form, unchanged, ty, None, captured)?;
         return Ok(found);
     }
     let (ty, fits) = shape_left_behind(alloc, ctx, declared, known, inner)?;
     if fits {
-        let found = fitting_parts(alloc, node, form, ty, known, captured)?;
+        let found = fitting_parts(alloc, node, form, unchanged, ty, known, captured)?;
         Ok(found)
     } else {
-        let found = with_parts(alloc, node, form, ty, known, captured)?;
+        let found = with_parts(alloc, node, form, unchanged, ty, known, captured)?;
         Ok(found)
     }
+}
+
+// Whether all three hold.
+fn all_hold(first: bool, second: bool, third: bool) -> bool
+    ensures { result ≡ true → (first ≡ true) × (second ≡ true) × (third ≡ true) }
+{
+    first && second && third
 }
 
 /// A term whose value was named in the body.
 pub fn let_end(
     alloc: Global,
     ctx: &Ctx,
-    node: &Node,
+    node: &Rc<Node>,
     named: Named,
     one: Found,
     two: Found,
 ) -> Result<Found, Stop>
-    ensures exact { Answers found_of result (let_end (context_of ctx.now) node.now.at node.now.first (named_of named) (found_of one) (found_of two)) }
-    ensures places { IfOk result (λ f. places_of f.node.value ≡ Between (spots_at node.now.at node.now.first node.now.second) (places_of one.node.value) (places_of two.node.value)) }
+    requires term { named.unchanged ≡ true → one.unchanged ≡ true → two.unchanged ≡ true → term_of node.now.value ≡ Let (note_of named.note) (term_of one.node.value) (term_of two.node.value) }
+    requires places { places_of node.now.value ≡ Between (spots_at node.now.value.at node.now.value.first node.now.value.second) (places_of one.node.value) (places_of two.node.value) }
+    ensures exact { Answers found_of result (let_end (context_of ctx.now) node.now.value.at node.now.value.first (named_of named) (found_of one) (found_of two)) }
+    ensures places { IfOk result (λ f. places_of f.node.value ≡ places_of node.now.value) }
+    ensures unchanged { IfOk result (λ f. f.unchanged ≡ true → term_of f.node.value ≡ term_of node.now.value) }
 {
-    let Named { ty: declared, note } = named;
+    let unchanged = all_hold(named.unchanged, one.unchanged, two.unchanged);
+    let Named {
+        ty: declared,
+        note,
+        unchanged: _,
+    } = named;
     let Found {
         ty: _,
         node: right,
         captured: of_right,
         known: _,
+        unchanged: _,
     } = one;
     let Found {
         ty: inner,
         node: body,
         captured: of_body,
         known,
+        unchanged: _,
     } = two;
     let captured = let_captured(alloc, &right, &of_right, &of_body)?;
     let form = Form::Let(note, right, body);
@@ -332,6 +366,7 @@ pub fn let_end(
         ctx,
         node,
         form,
+        unchanged,
         &declared.set,
         inner,
         known,
@@ -363,7 +398,8 @@ fn own_choice(
     one: &CapSet,
     two: &CapSet,
 ) -> Result<Named, AllocError>
-    ensures { IfOk result (λ n. named_of n ≡ own_choice root (context_of ctx.now) (shape_of written.now.value) one.now two.now) }
+    ensures is { IfOk result (λ n. named_of n ≡ own_choice root (context_of ctx.now) (shape_of written.now.value) one.now two.now) }
+    ensures unchanged { IfOk result (λ n. n.unchanged ≡ false) }
 {
     let set = one.union(alloc, two)?;
     let shape = written.clone()?;
@@ -373,6 +409,7 @@ fn own_choice(
     Ok(Named {
         ty: Ty { shape, set },
         note,
+        unchanged: false,
     })
 }
 
@@ -385,7 +422,8 @@ fn named_choice(
     one: &CapSet,
     two: &CapSet,
 ) -> Result<Named, Stop>
-    ensures { Answers named_of result (named_choice root (context_of ctx.now) (note_of note.now) one.now two.now) }
+    ensures is { Answers named_of result (named_choice root (context_of ctx.now) (note_of note.now) one.now two.now) }
+    ensures unchanged { IfOk result (λ n. n.unchanged ≡ true → note_of n.note ≡ note_of note.now) }
 {
     match note {
         Note::Absent => Err(Stop::NoMemory),
@@ -394,6 +432,7 @@ fn named_choice(
             Ok(Named {
                 ty,
                 note: Note::Written(written.clone()?),
+                unchanged: true,
             })
         }
         Note::Own(written) => Ok(own_choice(alloc, root, ctx, written, one, two)?),
@@ -405,33 +444,45 @@ fn choice_end(
     alloc: Global,
     root: u32,
     ctx: &Ctx,
-    node: &Node,
+    node: &Rc<Node>,
     note: &Note,
     test: Var,
     one: Found,
     two: Found,
 ) -> Result<Found, Stop>
-    ensures exact { Answers found_of result (choice_end root (context_of ctx.now) node.now.at (note_of note.now) test (found_of one) (found_of two)) }
-    ensures places { IfOk result (λ f. places_of f.node.value ≡ Between (spots_at node.now.at node.now.first node.now.second) (places_of one.node.value) (places_of two.node.value)) }
+    requires term { one.unchanged ≡ true → two.unchanged ≡ true → term_of node.now.value ≡ Conditional (note_of note.now) test (term_of one.node.value) (term_of two.node.value) }
+    requires places { places_of node.now.value ≡ Between (spots_at node.now.value.at node.now.value.first node.now.value.second) (places_of one.node.value) (places_of two.node.value) }
+    ensures exact { Answers found_of result (choice_end root (context_of ctx.now) node.now.value.at (note_of note.now) test (found_of one) (found_of two)) }
+    ensures places { IfOk result (λ f. places_of f.node.value ≡ places_of node.now.value) }
+    ensures unchanged { IfOk result (λ f. f.unchanged ≡ true → term_of f.node.value ≡ term_of node.now.value) }
 {
-    let Named { ty, note } = named_choice(alloc, root, ctx, note, &one.ty.set, &two.ty.set)?;
+    let named = named_choice(alloc, root, ctx, note, &one.ty.set, &two.ty.set)?;
+    let unchanged = all_hold(named.unchanged, one.unchanged, two.unchanged);
+    let Named {
+        ty,
+        note,
+        unchanged: _,
+    } = named;
     let captured = choice_captured(alloc, test, &one.captured, &two.captured)?;
     let Found {
         ty: _,
         node: positive,
         captured: _,
         known: _,
+        unchanged: _,
     } = one;
     let Found {
         ty: _,
         node: negative,
         captured: _,
         known: _,
+        unchanged: _,
     } = two;
     let found = with_parts(
         alloc,
         node,
         Form::If(note, test, positive, negative),
+        unchanged,
         ty,
         None,
         captured,
@@ -444,7 +495,7 @@ pub fn choice_rest(
     alloc: Global,
     root: u32,
     ctx: &Ctx,
-    node: &Node,
+    node: &Rc<Node>,
     note: &Note,
     test: Var,
     one: Found,
@@ -455,8 +506,11 @@ pub fn choice_rest(
     requires context { IsWellFormedContext (context_of ctx.now) }
     requires ty { IsWellFormedType (context_of ctx.now) (type_of two.ty) }
     requires note { NoteReadsWell (context_of ctx.now) (note_of note.now) }
-    ensures exact { Meets found_of result (asked_of log.new.demands) (choice_log root (context_of ctx.now) node.now.at (note_of note.now) test (found_of one) (found_of two) at (asked_of log.old.demands)) }
-    ensures places { IfOk result (λ f. places_of f.node.value ≡ Between (spots_at node.now.at node.now.first node.now.second) (places_of one.node.value) (places_of two.node.value)) }
+    requires term { one.unchanged ≡ true → two.unchanged ≡ true → term_of node.now.value ≡ Conditional (note_of note.now) test (term_of one.node.value) (term_of two.node.value) }
+    requires places { places_of node.now.value ≡ Between (spots_at node.now.value.at node.now.value.first node.now.value.second) (places_of one.node.value) (places_of two.node.value) }
+    ensures exact { Meets found_of result (asked_of log.new.demands) (choice_log root (context_of ctx.now) node.now.value.at (note_of note.now) test (found_of one) (found_of two) at (asked_of log.old.demands)) }
+    ensures places { IfOk result (λ f. places_of f.node.value ≡ places_of node.now.value) }
+    ensures unchanged { IfOk result (λ f. f.unchanged ≡ true → term_of f.node.value ≡ term_of node.now.value) }
 {
     branch(alloc, ctx, note, &two.ty, at, log)?;
     let found = choice_end(alloc, root, ctx, node, note, test, one, two)?;

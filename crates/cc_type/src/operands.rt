@@ -1,6 +1,6 @@
 //! Operands, boxes that are opened, and what is written for a type.
 
-ghost use Rattle.std.specs.Prelude.{◌≡◌, IfOk};
+ghost use Rattle.std.specs.Prelude.{◌≡◌, true, false, IfOk};
 ghost use Rattle.cc_core.specs.Shapes.{BaseShape};
 ghost use Rattle.cc_core.specs.Terms.{Written};
 ghost use Rattle.cc_core.specs.TermViews.{shape_of, type_of, note_of, context_of};
@@ -194,7 +194,8 @@ fn named_own(
     ty: &Ty,
 ) -> Result<Named, AllocError>
     requires { shape_of read.value ≡ plain.shape_in (context_of ctx.now) (shape_of written.now.value) }
-    ensures { IfOk result (λ n. named_of n ≡ own_named root (context_of ctx.now) (shape_of written.now.value) (type_of ty.now)) }
+    ensures is { IfOk result (λ n. named_of n ≡ own_named root (context_of ctx.now) (shape_of written.now.value) (type_of ty.now)) }
+    ensures unchanged { IfOk result (λ n. n.unchanged ≡ false) }
 {
     let set = ty.set.clone()?;
     let note = written_note(
@@ -205,6 +206,7 @@ fn named_own(
     Ok(Named {
         ty: Ty { shape: read, set },
         note,
+        unchanged: false,
     })
 }
 
@@ -223,17 +225,20 @@ pub fn noted(
     requires ty { IsWellFormedType (context_of ctx.now) (type_of ty.now) }
     requires note { NoteReadsWell (context_of ctx.now) (note_of note.now) }
     ensures is { Meets named_of result (asked_of log.new.demands) (noted_log root at (context_of ctx.now) (note_of note.now) (type_of ty.now) (asked_of log.old.demands)) }
+    ensures unchanged { IfOk result (λ n. n.unchanged ≡ true → note_of n.note ≡ note_of note.now) }
 {
     match note {
         Note::Absent => Ok(Named {
             ty: ty.clone()?,
             note: Note::Absent,
+            unchanged: true,
         }),
         Note::Written(written) => {
             let read = noted_written(alloc, ctx, written, ty, at, log)?;
             Ok(Named {
                 ty: read,
                 note: Note::Written(written.clone()?),
+                unchanged: true,
             })
         }
         Note::Own(written) => {

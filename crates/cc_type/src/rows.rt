@@ -1,13 +1,14 @@
 //! The rows of inference for the forms without parts.
 
-ghost use Rattle.std.specs.Prelude.{◌≡◌, IfOk};
+ghost use Rattle.std.specs.Prelude.{◌≡◌, true, IfOk};
 ghost use Rattle.cc_base.specs.declared.literal.Base.TheVariants as bases;
 ghost use Rattle.cc_base.specs.Literals.{literal_of};
 ghost use Rattle.cc_capture.specs.Sets.{empty};
 ghost use Rattle.cc_core.specs.Places.{Alone, spots_at, places_of};
 ghost use Rattle.cc_core.specs.Shapes.{BaseShape, FunctionShape, BoxShape};
 ghost use Rattle.cc_core.specs.Typing as typing;
-ghost use Rattle.cc_core.specs.TermViews.{shape_of, type_of, context_of};
+ghost use Rattle.cc_core.specs.Terms.{VariableTerm, LiteralTerm, BoxTerm, Application, TypeApplication, Unboxing, Primitive, Repetition, Operation, Leave};
+ghost use Rattle.cc_core.specs.TermViews.{shape_of, type_of, term_of, context_of};
 ghost use Rattle.cc_core.specs.WellFormed.{IsWellFormedContext, IsWellFormedShape};
 ghost use Rattle.cc_checking.specs.Inference as plain;
 ghost use Rattle.cc_subty.specs.Demands.{asked_of};
@@ -24,12 +25,11 @@ use crate::heads::{
 use crate::instances::{Instances, instantiated};
 use crate::log::Log;
 use crate::operands::{base_operand, capless, opening_set, operand, operation_argument};
-use crate::sizes::{fitting_leaf, leaf, measured_leaf};
+use crate::sizes::{changed_leaf, fitting_leaf, leaf, measured_leaf};
 use cc_base::code::Code;
 use cc_base::literal::{Base, Lit, Op, Operator};
 use cc_base::place::Place;
 use cc_capture::{CapSet, Var};
-use cc_core::copies::copy_literal;
 use cc_core::reading::{read_shape, read_type, write_set};
 use cc_core::substitution::subst_var;
 use cc_core::{Ctx, Form, Node, Shape, Ty};
@@ -119,26 +119,30 @@ pub fn variable(
     alloc: Global,
     ctx: &Ctx,
     measures: &Measures,
-    node: &Node,
+    node: &Rc<Node>,
     variable: Var,
 ) -> Result<Found, Stop>
     requires context { IsWellFormedContext (context_of ctx.now) }
     requires measures { AreMeasuresOf measures.now (context_of ctx.now) }
-    ensures exact { Answers found_of result (variable_row (context_of ctx.now) variable node.now.at) }
-    ensures places { IfOk result (λ f. places_of f.node.value ≡ Alone (spots_at node.now.at node.now.first node.now.second)) }
+    requires term { term_of node.now.value ≡ VariableTerm variable }
+    ensures exact { Answers found_of result (variable_row (context_of ctx.now) variable node.now.value.at) }
+    ensures places { IfOk result (λ f. places_of f.node.value ≡ places_of node.now.value) }
+    ensures unchanged { IfOk result (λ f. f.unchanged ≡ true → term_of f.node.value ≡ term_of node.now.value) }
 {
     let (ty, known) = measured_type(alloc, ctx, measures, variable)?;
-    let found = measured_leaf(alloc, node, Form::Var(variable), ty, known)?;
+    let found = measured_leaf(alloc, node, ty, known)?;
     Ok(found)
 }
 
 /// A literal has its base shape.
-pub fn literal(alloc: Global, node: &Node, literal: &Lit) -> Result<Found, Stop>
-    ensures exact { Answers found_of result (literal_row (literal_of literal.now) node.now.at) }
-    ensures places { IfOk result (λ f. places_of f.node.value ≡ Alone (spots_at node.now.at node.now.first node.now.second)) }
+pub fn literal(alloc: Global, node: &Rc<Node>, literal: &Lit) -> Result<Found, Stop>
+    requires term { term_of node.now.value ≡ LiteralTerm (literal_of literal.now) }
+    ensures exact { Answers found_of result (literal_row (literal_of literal.now) node.now.value.at) }
+    ensures places { IfOk result (λ f. places_of f.node.value ≡ places_of node.now.value) }
+    ensures unchanged { IfOk result (λ f. f.unchanged ≡ true → term_of f.node.value ≡ term_of node.now.value) }
 {
     let ty = base_type(alloc, base_of(literal))?;
-    let found = leaf(alloc, node, Form::Lit(copy_literal(literal)?), ty)?;
+    let found = leaf(alloc, node, ty)?;
     Ok(found)
 }
 
@@ -155,17 +159,19 @@ pub fn boxed(
     alloc: Global,
     ctx: &Ctx,
     measures: &Measures,
-    node: &Node,
+    node: &Rc<Node>,
     content: Var,
 ) -> Result<Found, Stop>
     requires context { IsWellFormedContext (context_of ctx.now) }
     requires measures { AreMeasuresOf measures.now (context_of ctx.now) }
-    ensures exact { Answers found_of result (box_row (context_of ctx.now) content node.now.at) }
-    ensures places { IfOk result (λ f. places_of f.node.value ≡ Alone (spots_at node.now.at node.now.first node.now.second)) }
+    requires term { term_of node.now.value ≡ BoxTerm content }
+    ensures exact { Answers found_of result (box_row (context_of ctx.now) content node.now.value.at) }
+    ensures places { IfOk result (λ f. places_of f.node.value ≡ places_of node.now.value) }
+    ensures unchanged { IfOk result (λ f. f.unchanged ≡ true → term_of f.node.value ≡ term_of node.now.value) }
 {
     let (inside, known) = measured_type(alloc, ctx, measures, content)?;
     let ty = box_type(alloc, inside)?;
-    let found = measured_leaf(alloc, node, Form::Boxed(content), ty, measure_around(known))?;
+    let found = measured_leaf(alloc, node, ty, measure_around(known))?;
     Ok(found)
 }
 
@@ -173,40 +179,40 @@ pub fn boxed(
 pub fn application(
     alloc: Global,
     ctx: &Ctx,
-    node: &Node,
+    node: &Rc<Node>,
     function: Var,
     argument: Var,
     log: &mut Log,
 ) -> Result<Found, Stop>
-    requires { IsWellFormedContext (context_of ctx.now) }
-    ensures exact { Meets found_of result (asked_of log.new.demands) (application_row (context_of ctx.now) function argument (spots_at node.now.at node.now.first node.now.second) (asked_of log.old.demands)) }
-    ensures places { IfOk result (λ f. places_of f.node.value ≡ Alone (spots_at node.now.at node.now.first node.now.second)) }
+    requires context { IsWellFormedContext (context_of ctx.now) }
+    requires term { term_of node.now.value ≡ Application function argument }
+    ensures exact { Meets found_of result (asked_of log.new.demands) (application_row (context_of ctx.now) function argument (spots_at node.now.value.at node.now.value.first node.now.value.second) (asked_of log.old.demands)) }
+    ensures places { IfOk result (λ f. places_of f.node.value ≡ places_of node.now.value) }
+    ensures unchanged { IfOk result (λ f. f.unchanged ≡ true → term_of f.node.value ≡ term_of node.now.value) }
 {
     let (takes, gives) = function_part(alloc, ctx, node.first, function)?;
     let given = type_of_variable(alloc, ctx, argument)?;
     below(alloc, ctx, &given, &takes, node.second, log)?;
     let ty = subst_var(alloc, &gives, in_context(ctx, argument))?;
-    let found = leaf(alloc, node, Form::App(function, argument), ty)?;
+    let found = leaf(alloc, node, ty)?;
     Ok(found)
 }
 
 // What a type function gives for the shape. A type that is too large is refused before it is made.
 fn type_application_end(
     alloc: Global,
-    node: &Node,
-    function: Var,
-    argument: &Rc<Shape>,
+    node: &Rc<Node>,
     read: &Rc<Shape>,
     gives: &Rc<Ty>,
     instances: &mut Instances,
 ) -> Result<Found, Stop>
-    ensures exact { Answers found_of result (type_application_end node.now.at function (shape_of argument.now.value) (shape_of read.now.value) (type_of gives.now.value)) }
-    ensures places { IfOk result (λ f. places_of f.node.value ≡ Alone (spots_at node.now.at node.now.first node.now.second)) }
+    ensures exact { Answers found_of result (type_application_end node.now.value.at (term_of node.now.value) (shape_of read.now.value) (type_of gives.now.value)) }
+    ensures places { IfOk result (λ f. places_of f.node.value ≡ places_of node.now.value) }
+    ensures unchanged { IfOk result (λ f. f.unchanged ≡ true → term_of f.node.value ≡ term_of node.now.value) }
 {
     match instantiated(alloc, gives, read, instances)? {
         Some(ty) => {
-            let form = Form::TApp(function, argument.clone()?);
-            let found = fitting_leaf(alloc, node, form, ty, None)?;
+            let found = fitting_leaf(alloc, node, ty, None)?;
             Ok(found)
         }
         None => Err(refused(Code::E18, node.at)),
@@ -217,45 +223,23 @@ fn type_application_end(
 pub fn type_application(
     alloc: Global,
     ctx: &Ctx,
-    node: &Node,
+    node: &Rc<Node>,
     function: Var,
     argument: &Rc<Shape>,
     log: &mut Log,
 ) -> Result<Found, Stop>
     requires context { IsWellFormedContext (context_of ctx.now) }
     requires argument { IsWellFormedShape (context_of ctx.now) (plain.shape_in (context_of ctx.now) (shape_of argument.now.value)) }
-    ensures exact { Meets found_of result (asked_of log.new.demands) (type_application_row (context_of ctx.now) function (shape_of argument.now.value) (spots_at node.now.at node.now.first node.now.second) (asked_of log.old.demands)) }
-    ensures places { IfOk result (λ f. places_of f.node.value ≡ Alone (spots_at node.now.at node.now.first node.now.second)) }
+    requires term { term_of node.now.value ≡ TypeApplication function (shape_of argument.now.value) }
+    ensures exact { Meets found_of result (asked_of log.new.demands) (type_application_row (context_of ctx.now) function (shape_of argument.now.value) (spots_at node.now.value.at node.now.value.first node.now.value.second) (asked_of log.old.demands)) }
+    ensures places { IfOk result (λ f. places_of f.node.value ≡ places_of node.now.value) }
+    ensures unchanged { IfOk result (λ f. f.unchanged ≡ true → term_of f.node.value ≡ term_of node.now.value) }
 {
     let (bound, gives) = type_function_part(alloc, ctx, node.first, function)?;
     let read = read_shape(alloc, argument, entries(ctx))?;
     against(alloc, ctx, &read, &bound, node.second, log)?;
-    let found = type_application_end(
-        alloc,
-        node,
-        function,
-        argument,
-        &read,
-        &gives,
-        &mut log.instances,
-    )?;
+    let found = type_application_end(alloc, node, &read, &gives, &mut log.instances)?;
     Ok(found)
-}
-
-// The set of an unboxing in the completed term.
-fn completed_set(
-    alloc: Global,
-    root: u32,
-    ctx: &Ctx,
-    under: &CapSet,
-    set: &Option<CapSet>,
-) -> Result<Option<CapSet>, AllocError>
-    ensures { IfOk result (λ s. s ≡ plain.completed_set root (context_of ctx.now) under.now set.now) }
-{
-    match set {
-        Some(set) => Ok(Some(set.clone()?)),
-        None => Ok(Some(write_set(alloc, under, root, entries(ctx))?)),
-    }
 }
 
 // The content of a box that is opened under the set.
@@ -263,20 +247,31 @@ fn unboxing_end(
     alloc: Global,
     root: u32,
     ctx: &Ctx,
-    node: &Node,
+    node: &Rc<Node>,
     set: &Option<CapSet>,
     content: Var,
     inside: &Ty,
     under: CapSet,
 ) -> Result<Found, Stop>
-    ensures exact { Answers found_of result (unboxing_end root (context_of ctx.now) node.now.at set.now content (type_of inside.now) under) }
-    ensures places { IfOk result (λ f. places_of f.node.value ≡ Alone (spots_at node.now.at node.now.first node.now.second)) }
+    requires term { term_of node.now.value ≡ Unboxing set.now content }
+    requires places { places_of node.now.value ≡ Alone (spots_at node.now.value.at node.now.value.first node.now.value.second) }
+    ensures exact { Answers found_of result (unboxing_end root (context_of ctx.now) node.now.value.at set.now content (type_of inside.now) under) }
+    ensures places { IfOk result (λ f. places_of f.node.value ≡ places_of node.now.value) }
+    ensures unchanged { IfOk result (λ f. f.unchanged ≡ true → term_of f.node.value ≡ term_of node.now.value) }
 {
-    let completed = completed_set(alloc, root, ctx, &under, set)?;
     let shape = inside.shape.clone()?;
-    let ty = Ty { shape, set: under };
-    let found = leaf(alloc, node, Form::Unbox(completed, content), ty)?;
-    Ok(found)
+    match set {
+        Some(_) => {
+            let found = leaf(alloc, node, Ty { shape, set: under })?;
+            Ok(found)
+        }
+        None => {
+            let set = Some(write_set(alloc, &under, root, entries(ctx))?);
+            let form = Form::Unbox(set, content);
+            let found = changed_leaf(alloc, node, form, Ty { shape, set: under })?;
+            Ok(found)
+        }
+    }
 }
 
 /// The content of a box.
@@ -284,14 +279,17 @@ pub fn unboxing(
     alloc: Global,
     root: u32,
     ctx: &Ctx,
-    node: &Node,
+    node: &Rc<Node>,
     set: &Option<CapSet>,
     content: Var,
     log: &mut Log,
 ) -> Result<Found, Stop>
-    requires { IsWellFormedContext (context_of ctx.now) }
-    ensures exact { Meets found_of result (asked_of log.new.demands) (unboxing_row root (context_of ctx.now) set.now content (spots_at node.now.at node.now.first node.now.second) (asked_of log.old.demands)) }
-    ensures places { IfOk result (λ f. places_of f.node.value ≡ Alone (spots_at node.now.at node.now.first node.now.second)) }
+    requires context { IsWellFormedContext (context_of ctx.now) }
+    requires term { term_of node.now.value ≡ Unboxing set.now content }
+    requires places { places_of node.now.value ≡ Alone (spots_at node.now.value.at node.now.value.first node.now.value.second) }
+    ensures exact { Meets found_of result (asked_of log.new.demands) (unboxing_row root (context_of ctx.now) set.now content (spots_at node.now.value.at node.now.value.first node.now.value.second) (asked_of log.old.demands)) }
+    ensures places { IfOk result (λ f. places_of f.node.value ≡ places_of node.now.value) }
+    ensures unchanged { IfOk result (λ f. f.unchanged ≡ true → term_of f.node.value ≡ term_of node.now.value) }
 {
     let inside = box_part(alloc, ctx, node.first, content)?;
     let under = opening_set(alloc, ctx, &inside.set, set, node.first, log)?;
@@ -304,20 +302,22 @@ pub fn unboxing(
 pub fn primitive(
     alloc: Global,
     ctx: &Ctx,
-    node: &Node,
+    node: &Rc<Node>,
     operator: Operator,
     left: Var,
     right: Var,
     log: &mut Log,
 ) -> Result<Found, Stop>
-    requires { IsWellFormedContext (context_of ctx.now) }
-    ensures exact { Meets found_of result (asked_of log.new.demands) (primitive_row (context_of ctx.now) operator left right (spots_at node.now.at node.now.first node.now.second) (asked_of log.old.demands)) }
-    ensures places { IfOk result (λ f. places_of f.node.value ≡ Alone (spots_at node.now.at node.now.first node.now.second)) }
+    requires context { IsWellFormedContext (context_of ctx.now) }
+    requires term { term_of node.now.value ≡ Primitive operator left right }
+    ensures exact { Meets found_of result (asked_of log.new.demands) (primitive_row (context_of ctx.now) operator left right (spots_at node.now.value.at node.now.value.first node.now.value.second) (asked_of log.old.demands)) }
+    ensures places { IfOk result (λ f. places_of f.node.value ≡ places_of node.now.value) }
+    ensures unchanged { IfOk result (λ f. f.unchanged ≡ true → term_of f.node.value ≡ term_of node.now.value) }
 {
     base_operand(alloc, ctx, left, Base::Int, node.first, log)?;
     base_operand(alloc, ctx, right, Base::Int, node.second, log)?;
     let ty = base_type(alloc, base_given(operator))?;
-    let found = leaf(alloc, node, Form::Prim(operator, left, right), ty)?;
+    let found = leaf(alloc, node, ty)?;
     Ok(found)
 }
 
@@ -344,19 +344,21 @@ fn repeated(alloc: Global, ctx: &Ctx, function: Var, at: Place, log: &mut Log) -
 pub fn repetition(
     alloc: Global,
     ctx: &Ctx,
-    node: &Node,
+    node: &Rc<Node>,
     count: Var,
     function: Var,
     log: &mut Log,
 ) -> Result<Found, Stop>
-    requires { IsWellFormedContext (context_of ctx.now) }
-    ensures exact { Meets found_of result (asked_of log.new.demands) (repetition_row (context_of ctx.now) count function (spots_at node.now.at node.now.first node.now.second) (asked_of log.old.demands)) }
-    ensures places { IfOk result (λ f. places_of f.node.value ≡ Alone (spots_at node.now.at node.now.first node.now.second)) }
+    requires context { IsWellFormedContext (context_of ctx.now) }
+    requires term { term_of node.now.value ≡ Repetition count function }
+    ensures exact { Meets found_of result (asked_of log.new.demands) (repetition_row (context_of ctx.now) count function (spots_at node.now.value.at node.now.value.first node.now.value.second) (asked_of log.old.demands)) }
+    ensures places { IfOk result (λ f. places_of f.node.value ≡ places_of node.now.value) }
+    ensures unchanged { IfOk result (λ f. f.unchanged ≡ true → term_of f.node.value ≡ term_of node.now.value) }
 {
     base_operand(alloc, ctx, count, Base::Int, node.first, log)?;
     repeated(alloc, ctx, function, node.second, log)?;
     let ty = base_type(alloc, Base::Unit)?;
-    let found = leaf(alloc, node, Form::Repeat(count, function), ty)?;
+    let found = leaf(alloc, node, ty)?;
     Ok(found)
 }
 
@@ -364,15 +366,17 @@ pub fn repetition(
 pub fn operation(
     alloc: Global,
     ctx: &Ctx,
-    node: &Node,
+    node: &Rc<Node>,
     operation: Op,
     receiver: Var,
     argument: Option<Var>,
     log: &mut Log,
 ) -> Result<Found, Stop>
-    requires { IsWellFormedContext (context_of ctx.now) }
-    ensures exact { Meets found_of result (asked_of log.new.demands) (operation_row (context_of ctx.now) operation receiver argument (spots_at node.now.at node.now.first node.now.second) (asked_of log.old.demands)) }
-    ensures places { IfOk result (λ f. places_of f.node.value ≡ Alone (spots_at node.now.at node.now.first node.now.second)) }
+    requires context { IsWellFormedContext (context_of ctx.now) }
+    requires term { term_of node.now.value ≡ Operation operation receiver argument }
+    ensures exact { Meets found_of result (asked_of log.new.demands) (operation_row (context_of ctx.now) operation receiver argument (spots_at node.now.value.at node.now.value.first node.now.value.second) (asked_of log.old.demands)) }
+    ensures places { IfOk result (λ f. places_of f.node.value ≡ places_of node.now.value) }
+    ensures unchanged { IfOk result (λ f. f.unchanged ≡ true → term_of f.node.value ≡ term_of node.now.value) }
 {
     device_part(alloc, ctx, node.first, base_operated(operation), receiver)?;
     operation_argument(
@@ -384,12 +388,7 @@ pub fn operation(
         log,
     )?;
     let ty = base_type(alloc, base_answered(operation))?;
-    let found = leaf(
-        alloc,
-        node,
-        Form::Operate(operation, receiver, argument),
-        ty,
-    )?;
+    let found = leaf(alloc, node, ty)?;
     Ok(found)
 }
 
@@ -397,15 +396,17 @@ pub fn operation(
 pub fn leave(
     alloc: Global,
     ctx: &Ctx,
-    node: &Node,
+    node: &Rc<Node>,
     gives: &Rc<Ty>,
     exit: Var,
     value: Var,
     log: &mut Log,
 ) -> Result<Found, Stop>
-    requires { IsWellFormedContext (context_of ctx.now) }
-    ensures exact { Meets found_of result (asked_of log.new.demands) (leave_row (context_of ctx.now) (shape_of gives.now.value.shape.value) gives.now.value.set exit value (spots_at node.now.at node.now.first node.now.second) (asked_of log.old.demands)) }
-    ensures places { IfOk result (λ f. places_of f.node.value ≡ Alone (spots_at node.now.at node.now.first node.now.second)) }
+    requires context { IsWellFormedContext (context_of ctx.now) }
+    requires term { term_of node.now.value ≡ Leave (shape_of gives.now.value.shape.value) gives.now.value.set exit value }
+    ensures exact { Meets found_of result (asked_of log.new.demands) (leave_row (context_of ctx.now) (shape_of gives.now.value.shape.value) gives.now.value.set exit value (spots_at node.now.value.at node.now.value.first node.now.value.second) (asked_of log.old.demands)) }
+    ensures places { IfOk result (λ f. places_of f.node.value ≡ places_of node.now.value) }
+    ensures unchanged { IfOk result (λ f. f.unchanged ≡ true → term_of f.node.value ≡ term_of node.now.value) }
 {
     let takes = exit_part(alloc, ctx, node.first, exit)?;
     let given = type_of_variable(alloc, ctx, value)?;
@@ -418,6 +419,6 @@ pub fn leave(
         log,
     )?;
     let ty = read_type(alloc, gives, entries(ctx))?;
-    let found = leaf(alloc, node, Form::Leave(gives.clone()?, exit, value), ty)?;
+    let found = leaf(alloc, node, ty)?;
     Ok(found)
 }

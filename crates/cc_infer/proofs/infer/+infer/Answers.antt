@@ -8,7 +8,7 @@ use Rattle.cc_checking.specs.Inference.{exit_entry}
 use Rattle.cc_subty.specs.Demands.{asked_of}
 use Rattle.cc_known.specs.Logs.{Meets}
 use Rattle.cc_known.specs.Parts.{found_of, named_of}
-use Rattle.cc_type.specs.Rows.{ends, let_end, inferred_log}
+use Rattle.cc_type.specs.Rows.{let_end, inferred_log}
 use Rattle.cc_known.proofs.FormedParts.{shape_with_entry}
 use Rattle.cc_type.proofs.StandingTerms.{type_of_found, let_body, boundary_shape, let_found, ends_met}
 use Rattle.cc_infer.proofs.infer.+infer.Goals as goal
@@ -55,8 +55,7 @@ infer_form-returns-in_ok-two-in-Let-clause-exact t c =
     (named_of c.in_ok-named-in-Let.named) c.place_of-at.result
     c.in_ok-one-in-Let.ensures.exact c.place_of-at.ensures c.in_ok-named-in-Let.ensures.is
     c.in_ok-inner-in-Let.ensures.is c.in_ok-two-in-Let.ensures.exact in
-    let end = λ (m : Node). let_end g m.at m.first (named_of c.in_ok-named-in-Let.named)
+    let end = let_end g node.at node.first (named_of c.in_ok-named-in-Let.named)
     (found_of c.in_ok-one-in-Let.one) (found_of c.in_ok-two-in-Let.two) in
-    let met = subst (λ (m : Node). Meets found_of c.let_end.result last (ends (end m) last)) c.deref-in-Let.ensures
-    (ends_met found_of c.let_end.result (end c.deref-in-Let.result.now) last c.let_end.ensures.exact) in
+    let met = ends_met found_of c.let_end.result end last c.let_end.ensures.exact in
     subst (Meets found_of c.let_end.result last) (sym (start ∙ steps)) met

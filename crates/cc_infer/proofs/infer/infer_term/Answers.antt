@@ -1,4 +1,4 @@
-use Rattle.std.proofs.Common.{sym, subst, ◌≤◌, length, arith}
+use Rattle.std.proofs.Common.{arith}
 use Rattle.cc_core.specs.TermViews.{context_of}
 use Rattle.cc_type.proofs.MeasuredEntries.{nothing_measured}
 use Rattle.cc_infer.proofs.infer.infer_term.Goals as goal

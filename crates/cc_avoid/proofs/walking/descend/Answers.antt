@@ -1,0 +1,35 @@
+use Rattle.std.proofs.Common.{refl, ap, ◌∙◌}
+use Rattle.std.proofs.lemmas.Result.{IfOk-weaker}
+use Rattle.cc_core.specs.TermViews.{shape_of}
+use Rattle.cc_core.specs.declared.types.Ty.{Ty}
+use Rattle.cc_avoid.proofs.WaitingShapes.{down_takes, down_results, down_contents, down_ends}
+use Rattle.cc_avoid.proofs.walking.descend.Goals as goal
+
+pub returns-in-Base : goal.returns-in-Base
+returns-in-Base g c = down_ends c.loop-inner.invariant (ap shape_of c.in-Base.is) refl refl
+
+pub returns-in-Any : goal.returns-in-Any
+returns-in-Any g c = down_ends c.loop-inner.invariant (ap shape_of c.in-Any.is) refl refl
+
+pub returns-in-TVar : goal.returns-in-TVar
+returns-in-TVar g c = down_ends c.loop-inner.invariant (ap shape_of c.in-TVar.is) refl refl
+
+pub returns-in-Exit : goal.returns-in-Exit
+returns-in-Exit g c =
+    IfOk-weaker c.exit_of.result _ _
+    (λ a is. down_ends c.loop-inner.invariant (ap shape_of c.in-Exit.is) refl is) c.exit_of.ensures
+
+pub loop-inner-preserved-in-Fun : goal.loop-inner-preserved-in-Fun
+loop-inner-preserved-in-Fun g c =
+    down_takes c.loop-inner.waiting.items _ c.loop-inner.invariant (ap shape_of c.in-Fun.is) c.in_ok-push-in-Fun.ensures.items refl c.opposite-sign.ensures
+    (ap shape_of (c.deref-inner.ensures ∙ ap (λ (t : Ty). t.shape.value) c.deref.ensures))
+
+pub loop-inner-preserved-in-TFun : goal.loop-inner-preserved-in-TFun
+loop-inner-preserved-in-TFun g c =
+    down_results c.loop-inner.waiting.items _ c.loop-inner.invariant (ap shape_of c.in-TFun.is) c.in_ok-push-in-TFun.ensures.items refl
+    (ap shape_of (c.deref-inner-in-TFun.ensures ∙ ap (λ (t : Ty). t.shape.value) c.deref-in-TFun.ensures))
+
+pub loop-inner-preserved : goal.loop-inner-preserved
+loop-inner-preserved g c =
+    down_contents c.loop-inner.waiting.items _ c.loop-inner.invariant (ap shape_of c.in-Boxed.is) c.in_ok-push-in-Boxed.ensures.items refl
+    (ap shape_of (c.deref-inner-in-Boxed.ensures ∙ ap (λ (t : Ty). t.shape.value) c.deref-in-Boxed.ensures))
