@@ -40,10 +40,18 @@ fn all_may_continue(text: &str) -> bool
         .all(|character| unicode_ident::is_xid_continue(character))
 }
 
+// Whether the two are one. Most that are not differ in the first byte.
+#[inline]
+fn is_same(word: &str, text: &str) -> bool
+    ensures { result ≡ bytes_eq word.now text.now }
+{
+    word.as_bytes().first() == text.as_bytes().first() && word == text
+}
+
 fn is_among(words: &[&str], text: &str) -> bool
     ensures { result ≡ list_any (λ word. bytes_eq word.now text.now) words.now }
 {
-    words.iter().any(|word| *word == text)
+    words.iter().any(|word| is_same(*word, text))
 }
 
 /// Whether the text is one of the reserved words.

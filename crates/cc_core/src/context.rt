@@ -1,6 +1,6 @@
-ghost use Rattle.std.specs.Prelude.{◌≡◌, [], ◌∷◌, ◌++◌, length, slice_get, IfOk, option_map};
+ghost use Rattle.std.specs.Prelude.{◌≡◌, ◌+◌, [], ◌∷◌, drop, length, slice_get, IfOk, option_map};
 ghost use Rattle.cc_core.specs.Contexts.{lookup};
-ghost use Rattle.cc_core.specs.Entries.{tree_entries, entries, IsCounted, AreCounted};
+ghost use Rattle.cc_core.specs.Entries.{entries, AreLinked};
 ghost use Rattle.cc_core.specs.TermViews.{bind_of, context_of};
 
 use crate::types::{Shape, Ty};
@@ -25,36 +25,29 @@ pub enum Bind {
     },
 }
 
-// A tree of entries: the newest, and two halves with equally many of the others, the newer ones in the first. So it
-// holds 1, 3, 7, 15 entries, and so on.
-#[derive(Drop)]
-enum Tree {
-    Leaf(Bind),
-    Fork(Bind, Rc<Tree>, Rc<Tree>),
-}
-
-// A tree, with the number of its entries, and the trees of the older entries.
+// An entry with those before it, and with a link that passes over so many entries, this one among them.
 #[cycle(links)]
 #[derive(Drop)]
-struct Part {
-    size: u32,
-    tree: Rc<Tree>,
+struct Entry {
+    bind: Bind,
+    passed: u32,
     rest: Link,
+    far: Link,
 }
 
 #[cycle(links)]
 #[derive(Drop)]
 enum Link {
     End,
-    More(Rc<Part>),
+    More(Rc<Entry>),
 }
 
 /// A context. Contracts see the list of its entries, the newest first. A position is the number of entries before it,
 /// so it stays the same when entries are added.
 ///
-/// The entries stand in trees whose sizes grow, where the first two alone may be of one size. So there are few trees
-/// and they are low: adding an entry takes a fixed time, and finding one a time that grows with the number of digits
-/// of the length.
+/// The far link of an entry passes over one entry, or over those that the far links of the two entries behind it pass
+/// over where these are equally many. So adding an entry takes a fixed time, and finding one a time that grows with the
+/// number of digits of the length.
 #[derive(Drop)]
 pub struct Ctx {
     head: Link,
@@ -66,7 +59,7 @@ impl Model for Ctx {
     ghost use Rattle.std.specs.Coded.{codes};
     ghost use Rattle.cc_core.specs.declared.context.Bind.{Bind};
     ghost use Rattle.cc_core.specs.contracts.context.Bind as bind;
-    ghost use Rattle.cc_core.specs.Entries.{entries, AreCounted};
+    ghost use Rattle.cc_core.specs.Entries.{entries, AreLinked};
 
     ghost Value = { List Bind };
 
@@ -74,110 +67,82 @@ impl Model for Ctx {
 
     ghost view = { λ c. entries c.head };
 
-    ghost invariant = { λ c. (c.len ≡ length (entries c.head)) × AreCounted c.head };
+    ghost invariant = { λ c. (c.len ≡ length (entries c.head)) × AreLinked c.head };
 }
 
 // The same entries, shared.
 fn share(link: &Link) -> Result<Link, AllocError>
     ensures same { IfOk result (λ shared. entries shared ≡ entries link.now) }
-    ensures counted { IfOk result (λ shared. AreCounted link.now → AreCounted shared) }
+    ensures linked { IfOk result (λ shared. AreLinked link.now → AreLinked shared) }
 {
     match link {
         Link::End => Ok(Link::End),
-        Link::More(part) => Ok(Link::More(part.clone()?)),
+        Link::More(entry) => Ok(Link::More(entry.clone()?)),
     }
 }
 
-// The entries with one more, which is a tree of its own.
-fn with_leaf(alloc: Global, bind: Bind, link: &Link) -> Result<Link, AllocError>
-    ensures more { IfOk result (λ l. entries l ≡ bind ∷ entries link.now) }
-    ensures counted { IfOk result (λ l. AreCounted link.now → AreCounted l) }
+// The entries with one more, and with its far link.
+fn linked(
+    alloc: Global,
+    bind: Bind,
+    passed: u32,
+    rest: &Link,
+    far: &Link,
+) -> Result<Link, AllocError>
+    requires far { entries far.now ≡ drop passed (bind ∷ entries rest.now) }
+    ensures more { IfOk result (λ l. entries l ≡ bind ∷ entries rest.now) }
+    ensures linked { IfOk result (λ l. AreLinked rest.now → AreLinked far.now → AreLinked l) }
 {
-    let tree = Rc::new(alloc, Tree::Leaf(bind))?;
-    let rest = share(link)?;
-    let part = Part {
-        size: 1,
-        tree,
+    let rest = share(rest)?;
+    let far = share(far)?;
+    let entry = Entry {
+        bind,
+        passed,
         rest,
+        far,
     };
-    Ok(Link::More(Rc::new(alloc, part)?))
+    Ok(Link::More(Rc::new(alloc, entry)?))
 }
 
-// The entries of two trees of one size and of the others, with one more, which makes the two one tree.
-fn with_fork(alloc: Global, bind: Bind, newer: &Part, older: &Part) -> Result<Link, AllocError>
-    requires { newer.now.size ≡ older.now.size }
-    ensures more { IfOk result (λ l. entries l ≡ bind ∷ tree_entries newer.now.tree.value ++ (tree_entries older.now.tree.value ++ entries older.now.rest)) }
-    ensures counted { IfOk result (λ l. IsCounted newer.now.size newer.now.tree.value → IsCounted older.now.size older.now.tree.value → AreCounted older.now.rest → AreCounted l) }
+// The number with another and one more.
+fn sum_and_one(number: u32, other: u32) -> Result<u32, AllocError>
+    ensures { IfOk result (λ sum. sum ≡ (1 + number) + other) }
 {
-    let size = newer
-        .size
-        .checked_add(older.size)
-        .ok_or(AllocError)?
-        .checked_add(1)
-        .ok_or(AllocError)?;
-    let tree = Rc::new(
-        alloc,
-        Tree::Fork(bind, newer.tree.clone()?, older.tree.clone()?),
-    )?;
-    let rest = share(&older.rest)?;
-    let part = Part { size, tree, rest };
-    Ok(Link::More(Rc::new(alloc, part)?))
+    let sum = number.checked_add(other).ok_or(AllocError)?;
+    sum.checked_add(1).ok_or(AllocError)
 }
 
 // The entries with one more.
 fn with_entry(alloc: Global, bind: Bind, link: &Link) -> Result<Link, AllocError>
-    requires { AreCounted link.now }
+    requires { AreLinked link.now }
     ensures more { IfOk result (λ l. entries l ≡ bind ∷ entries link.now) }
-    ensures counted { IfOk result (λ l. AreCounted l) }
+    ensures linked { IfOk result (λ l. AreLinked l) }
 {
-    match link {
-        Link::End => with_leaf(alloc, bind, link),
-        Link::More(newer) => match &newer.rest {
-            Link::End => with_leaf(alloc, bind, link),
-            Link::More(older) => {
-                if newer.size == older.size {
-                    with_fork(alloc, bind, newer, older)
-                } else {
-                    with_leaf(alloc, bind, link)
-                }
-            }
-        },
-    }
-}
-
-// The entry at an index of a tree of so many, the newest first.
-fn entry_of_tree(tree: &Tree, size: u32, index: u32) -> Option<&Bind>
-    requires { IsCounted size tree.now }
-    ensures { option_map (λ b. b.now) result ≡ slice_get (tree_entries tree.now) index }
-{
-    match tree {
-        Tree::Leaf(bind) => { if index == 0 { Some(bind) } else { None } }
-        Tree::Fork(bind, newer, older) => {
-            if index == 0 {
-                return Some(bind);
-            }
-            let half = size / 2;
-            if index <= half {
-                entry_of_tree(newer, half, index - 1)
-            } else {
-                entry_of_tree(older, half, index - 1 - half)
+    if let Link::More(newer) = link {
+        if let Link::More(older) = &newer.far {
+            if newer.passed == older.passed {
+                let passed = sum_and_one(newer.passed, older.passed)?;
+                return linked(alloc, bind, passed, link, &older.far);
             }
         }
     }
+    linked(alloc, bind, 1, link, link)
 }
 
 // The entry at an index, the newest first.
 fn entry_at(link: &Link, index: u32) -> Option<&Bind>
-    requires { AreCounted link.now }
+    requires { AreLinked link.now }
     ensures { option_map (λ b. b.now) result ≡ slice_get (entries link.now) index }
 {
     match link {
         Link::End => None,
-        Link::More(part) => {
-            if index < part.size {
-                entry_of_tree(&part.tree, part.size, index)
+        Link::More(entry) => {
+            if index >= entry.passed {
+                entry_at(&entry.far, index - entry.passed)
+            } else if index == 0 {
+                Some(&entry.bind)
             } else {
-                entry_at(&part.rest, index - part.size)
+                entry_at(&entry.rest, index - 1)
             }
         }
     }

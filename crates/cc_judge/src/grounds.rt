@@ -48,11 +48,11 @@ impl SharedText {
         self.text.as_bytes()
     }
 
-    /// Whether the two are one text.
+    /// Whether the two are one text. One that is shared is not gone over.
     pub fn is(&self, other: &SharedText) -> bool
         ensures { result ≡ bytes_eq self.now other.now }
     {
-        self.as_bytes() == other.as_bytes()
+        Rc::ptr_eq(&self.text, &other.text) || self.as_bytes() == other.as_bytes()
     }
 }
 

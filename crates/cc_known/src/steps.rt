@@ -47,35 +47,27 @@ pub fn variable_set(alloc: Global, variable: Var) -> Result<CapSet, AllocError>
     Ok(set)
 }
 
-// The type of a variable that is declared with the type.
-fn declared_type(alloc: Global, variable: Var, declared: &Ty) -> Result<Ty, Stop>
-    ensures { Answers type_of result (plain.entry_type variable (some_entry declared.now)) }
-{
-    let shape = declared.shape.clone()?;
-    let set = variable_set(alloc, variable)?;
-    Ok(Ty { shape, set })
-}
-
-// The type of a variable that is declared with the shape, which is read as it stands under so many entries.
-fn unread_type(alloc: Global, variable: Var, shape: &Rc<Shape>, entries: u32) -> Result<Ty, Stop>
-    ensures { Answers type_of result (finds (capturing (read_shape entries (shape_of shape.now.value)) (captured.variable_set variable))) }
-{
-    let shape = read_shape(alloc, shape, entries)?;
-    let set = variable_set(alloc, variable)?;
-    Ok(Ty { shape, set })
-}
-
-// The type of a variable that the entry declares. It is none where no memory is wanting.
-fn entry_type(alloc: Global, variable: Var, found: Option<&Bind>) -> Result<Ty, Stop>
-    ensures { Answers type_of result (plain.entry_type variable (option_map (λ b. bind_of b.now) found.entry)) }
+// The shape of a variable that the entry declares. It is none where no memory is wanting.
+fn entry_shape(alloc: Global, variable: Var, found: Option<&Bind>) -> Result<Rc<Shape>, Stop>
+    ensures { Answers (λ s. capturing (shape_of s.value) (captured.variable_set variable)) result (plain.entry_type variable (option_map (λ b. bind_of b.now) found.entry)) }
 {
     match found {
         Some(bind) => match bind {
-            Bind::Var(declared) => declared_type(alloc, variable, declared),
+            Bind::Var(declared) => Ok(declared.shape.clone()?),
             Bind::TVar(_) => Err(Stop::NoMemory),
-            Bind::Unread { shape, entries, .. } => unread_type(alloc, variable, shape, *entries),
+            Bind::Unread { shape, entries, .. } => Ok(read_shape(alloc, shape, *entries)?),
         },
         None => Err(Stop::NoMemory),
+    }
+}
+
+// The shape of a variable of the context, whose type has the set of that variable.
+pub fn variable_shape(alloc: Global, ctx: &Ctx, variable: Var) -> Result<Rc<Shape>, Stop>
+    ensures { Answers (λ s. capturing (shape_of s.value) (captured.variable_set variable)) result (plain.variable_type (context_of ctx.now) variable) }
+{
+    match variable {
+        Var::Free(position) => entry_shape(alloc, variable, ctx.get(position)),
+        Var::Bound(_) => Err(Stop::NoMemory),
     }
 }
 
@@ -83,10 +75,9 @@ fn entry_type(alloc: Global, variable: Var, found: Option<&Bind>) -> Result<Ty, 
 pub fn variable_type(alloc: Global, ctx: &Ctx, variable: Var) -> Result<Ty, Stop>
     ensures { Answers type_of result (plain.variable_type (context_of ctx.now) variable) }
 {
-    match variable {
-        Var::Free(position) => entry_type(alloc, variable, ctx.get(position)),
-        Var::Bound(_) => Err(Stop::NoMemory),
-    }
+    let shape = variable_shape(alloc, ctx, variable)?;
+    let set = variable_set(alloc, variable)?;
+    Ok(Ty { shape, set })
 }
 
 // What a function takes and gives, where the shape is one.

@@ -13,7 +13,7 @@ ghost use Rattle.cc_type.specs.Rows.{has_note, operand_log, argument_log, openin
 ghost use Rattle.cc_type.specs.Standing.{NoteReadsWell};
 
 use crate::comparing::{against, below};
-use crate::heads::type_of_variable;
+use crate::heads::shape_of_variable;
 use crate::log::{Log, keep};
 use cc_base::code::Code;
 use cc_base::literal::Base;
@@ -41,8 +41,8 @@ pub(crate) fn operand(
     requires shape { IsWellFormedShape (context_of ctx.now) (shape_of shape.now) }
     ensures { Meets (λ u. u) result (asked_of log.new.demands) (operand_log at (context_of ctx.now) variable (shape_of shape.now) (asked_of log.old.demands)) }
 {
-    let ty = type_of_variable(alloc, ctx, variable)?;
-    against(alloc, ctx, &ty.shape, shape, at, log)?;
+    let found = shape_of_variable(alloc, ctx, variable)?;
+    against(alloc, ctx, &found, shape, at, log)?;
     Ok(())
 }
 

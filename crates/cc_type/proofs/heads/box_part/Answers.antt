@@ -8,7 +8,7 @@ use Rattle.cc_type.proofs.heads.box_part.Goals as goal
 pub returns-clause-formed : goal.returns-clause-formed
 returns-clause-formed c =
     let g = context_of c.args.ctx.now in
-    let reached = exposed_to g _ (shape_of c.deref.result.now) c.requires c.in_ok-ty.ensures.shape
+    let reached = exposed_to g _ (shape_of c.deref.result.now) c.requires c.in_ok-shape.ensures.formed
     (ap shape_of c.deref.ensures ∙ c.expose.ensures) in
     subst (λ (x : Ty). IsWellFormedSet g x.set) (sym c.in_ok-content-2.ensures.cases)
     (box_content g c.args.at _ _ reached c.in_ok-content.ensures)

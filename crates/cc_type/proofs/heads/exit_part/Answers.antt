@@ -8,7 +8,7 @@ use Rattle.cc_type.proofs.heads.exit_part.Goals as goal
 pub returns-clause-formed : goal.returns-clause-formed
 returns-clause-formed c =
     let g = context_of c.args.ctx.now in
-    let reached = exposed_to g _ (shape_of c.deref.result.now) c.requires c.in_ok-ty.ensures.shape
+    let reached = exposed_to g _ (shape_of c.deref.result.now) c.requires c.in_ok-shape.ensures.formed
     (ap shape_of c.deref.ensures ∙ c.expose.ensures) in
     subst (λ (x : Shape). IsWellFormedShape g (shape_of x)) (sym c.in_ok-takes-2.ensures.cases)
     (exit_takes g c.args.at _ _ reached c.in_ok-takes.ensures)
