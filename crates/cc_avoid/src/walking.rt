@@ -197,6 +197,7 @@ pub fn avoid_in_type<P: Positions>(
 }
 
 // What a type becomes at a place of the sign, of what its shape became.
+#[inline(always)]
 fn with_set<P: Positions>(
     alloc: Global,
     positions: &P,

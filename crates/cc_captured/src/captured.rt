@@ -93,6 +93,7 @@ fn variable_set(alloc: Global, variable: Var) -> Result<CapSet, AllocError>
     Ok(set)
 }
 
+#[inline(always)]
 fn two_variables(alloc: Global, first: Var, second: Var) -> Result<CapSet, AllocError>
     ensures { IfOk result (λ s. s ≡ union (plain.variable_set first) (plain.variable_set second)) }
 {

@@ -82,6 +82,7 @@ fn share(link: &Link) -> Result<Link, AllocError>
 }
 
 // The entries with one more, and with its far link.
+#[inline(always)]
 fn linked(
     alloc: Global,
     bind: Bind,

@@ -12,6 +12,7 @@ use std::alloc::AllocError;
 impl Clone for Ty {
     ghost is_clone = { λ ty copy. type_of copy ≡ type_of ty };
 
+    #[inline(always)]
     fn clone(&self) -> Result<Ty, AllocError> {
         let shape = self.shape.clone()?;
         let set = self.set.clone()?;

@@ -62,6 +62,7 @@ fn entry_shape(alloc: Global, variable: Var, found: Option<&Bind>) -> Result<Rc<
 }
 
 // The shape of a variable of the context, whose type has the set of that variable.
+#[inline(always)]
 pub fn variable_shape(alloc: Global, ctx: &Ctx, variable: Var) -> Result<Rc<Shape>, Stop>
     ensures { Answers (λ s. capturing (shape_of s.value) (captured.variable_set variable)) result (plain.variable_type (context_of ctx.now) variable) }
 {

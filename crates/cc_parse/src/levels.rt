@@ -131,6 +131,7 @@ fn goes_on(least: u32, expr: &ExprTree, link: Link) -> bool
 
 /// The link at the front of the tokens that goes on the expression.
 #[tactic(auto, unfolding(cc_grammar::specs::Reading::next_link))]
+#[inline(always)]
 pub fn next_link(least: u32, expr: &ExprTree, tokens: &[Token]) -> Option<Link>
     ensures { option_map link_syntax result ≡ next_link least (expr_syntax expr.now) (placed_all tokens.now) }
 {

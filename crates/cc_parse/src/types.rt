@@ -307,6 +307,7 @@ pub fn read_boxed_shape(alloc: Global, room: u32, tokens: &[Token]) -> Reading<'
 }
 
 /// A type, in a box.
+#[inline(always)]
 pub fn read_boxed_type(alloc: Global, room: u32, tokens: &[Token]) -> Reading<'_, Box<TypeTree>>
     ensures { Agrees boxed_type_syntax result (part_at room TypePart (placed_all tokens.now)) }
 {

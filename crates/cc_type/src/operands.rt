@@ -29,6 +29,7 @@ use std::alloc::{AllocError, Global};
 use std::rc::Rc;
 
 /// The operand has to be of the shape.
+#[inline(always)]
 pub(crate) fn operand(
     alloc: Global,
     ctx: &Ctx,
@@ -47,6 +48,7 @@ pub(crate) fn operand(
 }
 
 /// The operand has to be of the base shape.
+#[inline(always)]
 pub fn base_operand(
     alloc: Global,
     ctx: &Ctx,

@@ -26,6 +26,7 @@ use std::rc::Rc;
 const GREATEST_SIZE: u64 = 4096;
 
 // Whether the type is not too large.
+#[inline(always)]
 fn fits(ty: &Ty, known: Option<Measure>) -> bool
     requires { IsMeasuredBy known (shape_of ty.now.shape.value) }
     ensures { result ≡ nat_le (type_size (type_of ty.now)) greatest_size }
@@ -56,6 +57,7 @@ fn at_places_of(alloc: Global, node: &Node, form: Form) -> Result<Rc<Node>, Allo
 
 /// What is found for a form without parts that has no omitted set, where the type is not too large and this is known of
 /// its shape. The node is shared.
+#[inline(always)]
 pub(crate) fn fitting_leaf(
     alloc: Global,
     node: &Rc<Node>,
