@@ -35,11 +35,7 @@ pub(crate) fn type_of_variable(alloc: Global, ctx: &Ctx, variable: Var) -> Resul
 }
 
 /// The shape of such a variable, whose type has the set of that variable.
-pub(crate) fn shape_of_variable(
-    alloc: Global,
-    ctx: &Ctx,
-    variable: Var,
-) -> Result<Rc<Shape>, Stop>
+pub(crate) fn shape_of_variable(alloc: Global, ctx: &Ctx, variable: Var) -> Result<Rc<Shape>, Stop>
     requires { IsWellFormedContext (context_of ctx.now) }
     ensures is { Answers (λ s. capturing (shape_of s.value) (captured.variable_set (plain.in_context (context_of ctx.now) variable))) result (plain.variable_type (context_of ctx.now) (plain.in_context (context_of ctx.now) variable)) }
     ensures formed { IfOk result (λ s. IsWellFormedShape (context_of ctx.now) (shape_of s.value)) }
