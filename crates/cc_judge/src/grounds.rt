@@ -48,11 +48,11 @@ impl SharedText {
         self.text.as_bytes()
     }
 
-    /// Whether the two are one text. One that is shared is not gone over.
+    /// Whether the two are one text.
     pub fn is(&self, other: &SharedText) -> bool
         ensures { result ≡ bytes_eq self.now other.now }
     {
-        Rc::ptr_eq(&self.text, &other.text) || self.as_bytes() == other.as_bytes()
+        self.as_bytes() == other.as_bytes()
     }
 }
 
