@@ -117,7 +117,7 @@ for program; do
     # The deepest types, on a small stack.
     for deep in types_of_4090_levels_behind_vals a_variable_that_is_avoided_behind_4000_boxes \
         a_variable_that_is_avoided_behind_1300_functions; do
-        python3 "$top/tests/limits/$deep.job.py" > "$work/deep"
+        PYTHONPATH=$top/tests PYTHONDONTWRITEBYTECODE=1 python3 "$top/tests/limits/$deep.job.py" > "$work/deep"
         low < "$work/deep"
         expect "$deep on a stack of 512 KB" 0 "$(sed '$d' "$top/tests/limits/$deep.out")\n" ''
     done

@@ -1,17 +1,5 @@
-"""Functions whose results are functions to the results of the one before, in two modules: where the last one is applied to
-a variable that goes out of scope, this is avoided behind 1,300 functions."""
+"""Functions whose results are functions to the results of the one before, in two modules: a variable is avoided behind
+1,300 functions."""
+from large import print_avoided
 
-EACH = 900  # the definitions of a module
-definitions = ["def f0 = fun (y: ((u: Unit) -> Unit)^{cap}) => y"]
-for at in range(1, 1301):
-    definitions.append("def f%d=fun(y:((u:Unit)->Unit)^{cap})=>val t=f%d(y);fun(u:Unit)=>t" % (at, at - 1))
-definitions.append("def behind = fun (y: ((u: Unit) -> Unit)^{cap}) => val x = fun (u: Unit) => y(u); val r = f1300(x); r")
-
-print("capc 1")
-for number, start in enumerate(range(0, len(definitions), EACH)):
-    lines = definitions[start : start + EACH]
-    if number > 0:
-        lines.insert(0, "import m%d.f%d" % (number - 1, start - 1))
-    print("put m%d %d" % (number, len(lines)))
-    print("\n".join(lines))
-print("check")
+print_avoided(1300, "fun(u:Unit)=>t")
