@@ -45,9 +45,9 @@ enum Link {
 /// A context. Contracts see the list of its entries, the newest first. A position is the number of entries before it,
 /// so it stays the same when entries are added.
 ///
-/// The far link of an entry passes over one entry, or over those that the far links of the two entries behind it pass
-/// over where these are equally many. So adding an entry takes a fixed time, and finding one a time that grows with the
-/// number of digits of the length.
+/// The far link of an entry passes over that entry alone. But where the far link of the entry behind it passes over as
+/// many as the one of the entry that it leads to, it passes over all of these and itself. So adding an entry takes a fixed
+/// time, and finding one a time that grows with the number of digits of the length.
 #[derive(Drop)]
 pub struct Ctx {
     head: Link,

@@ -219,7 +219,7 @@ pub record Moves (small real : Context) (to back : ℕ → ℕ) : Type 0 where
 
 -- What stands on the two.
 module _ (small real : Context) (to back : ℕ → ℕ) (moves : Moves small real to back) where
-  abbrev moved : Elem → Elem
+  abbrev pub moved : Elem → Elem
   moved = moved_element (renamed_variable to)
 
   returned : (x : Elem) → moved_element (renamed_variable back) (moved x) ≡ x
@@ -234,21 +234,21 @@ module _ (small real : Context) (to back : ℕ → ℕ) (moves : Moves small rea
   one_position : (p q : ℕ) → to p ≡ to q → p ≡ q
   one_position p q e = sym (moves.undone p) ∙ ap back e ∙ moves.undone q
 
-  member_moved : (x : Elem) (c : Set) → Member x c → Member (moved x) (renamed_set to c)
+  pub member_moved : (x : Elem) (c : Set) → Member x c → Member (moved x) (renamed_set to c)
   member_moved x c m =
       (Member-flat_image (λ y. single (moved y)) (moved x) c).1 (x, m, Member-single_itself (moved x))
 
-  member_from : (y : Elem) (c : Set) → Member y (renamed_set to c) → (x : Elem) × Member x c × (y ≡ moved x)
+  pub member_from : (y : Elem) (c : Set) → Member y (renamed_set to c) → (x : Elem) × Member x c × (y ≡ moved x)
   member_from y c m =
       let h = (Member-flat_image (λ x. single (moved x)) y c).0 m in (h.0, h.1, Member-single y (moved h.0) h.2)
 
-  contains-moved : (x : Elem) (c : Set) → contains (moved x) (renamed_set to c) ≡ contains x c
+  pub contains-moved : (x : Elem) (c : Set) → contains (moved x) (renamed_set to c) ≡ contains x c
   contains-moved x c =
       same_tests (contains (moved x) (renamed_set to c)) (contains x c)
       (λ m. let h = member_from (moved x) c m in subst (λ y. Member y c) (sym (one_moved x h.0 h.2)) h.1)
       (member_moved x c)
 
-  list_all-renamed : (test : Elem → Bool) (c : Set)
+  pub list_all-renamed : (test : Elem → Bool) (c : Set)
       → list_all test (renamed_set to c).list ≡ list_all (λ x. test (moved x)) c.list
   unfolding contains
   list_all-renamed test c =
@@ -340,7 +340,7 @@ module _ (small real : Context) (to back : ℕ → ℕ) (moves : Moves small rea
   again [] = real
   again (b ∷ more) = renamed_entry to b ∷ again more
 
-  length-again : (more : Context) → length (again more) ≡ to (length (more ++ small))
+  pub length-again : (more : Context) → length (again more) ≡ to (length (more ++ small))
   length-again more =
       counted more ∙ sym (moves.passes (length more)) ∙ ap to (sym (length-append more small))
     where
@@ -369,7 +369,7 @@ module _ (small real : Context) (to back : ℕ → ℕ) (moves : Moves small rea
       λ i. cond (has_hole-renamed r i) (is_subset-renamed l r i) (below i)
 
   -- what is looked up
-  entry-again : (more : Context) (p : ℕ)
+  pub entry-again : (more : Context) (p : ℕ)
       → option_map seen (lookup (again more) (to p)) ≡ option_map (λ b. renamed_entry to (seen b)) (lookup (more ++ small) p)
   entry-again [] p = moves.entries p
   entry-again (b ∷ more) p =

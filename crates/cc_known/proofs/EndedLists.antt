@@ -114,19 +114,27 @@ ends_on passed base right left formed =
     let low = set_lower base left formed q (beyond_both right left (Variable (Free q)) m).0 in omega (arith, low, from))
     ∙ given_alike passed base right (beyond right left) (length base) (omega arith))
 
--- a demand that is known to repeat something is not kept
-pub again_goes : (at : Place) (n : ℕ) (base g : Context) (l r : Set) (log : List Placed) → StandsOn base g
-    → IsKnownAgain base log l r → log ≡ with_one log (demand_at at (demanded g (read_set n l) (read_set n r)))
-again_goes at n base g l r log s k =
+-- a set of the base is read as it stands
+pub set_still : (n : ℕ) (base : Context) (c : Set) → IsWellFormedSet base c → read_set n c ≡ c
+set_still n base c h = still n base c h
+
+-- what is known to repeat something repeats it where it is read
+pub again_repeated : (n : ℕ) (base g : Context) (l r : Set) (log : List Placed) → StandsOn base g → IsKnownAgain base log l r
+    → is_repeated log (IsBelow (demanded g (read_set n l) (read_set n r))) ≡ true
+again_repeated n base g l r log s k =
     let p = still n base l k.lower in
     let q = still n base r k.upper in
     let here : is_repeated log (IsBelow (demanded g l r)) ≡ true =
     subst (λ x. is_repeated log (IsBelow (demanded x l r)) ≡ true) (sym s.is)
     (ap (λ e. has_ended_so log e r) (ends_on s.passed base r l k.lower) ∙ k.again) in
-    let there : is_repeated log (IsBelow (demanded g (read_set n l) (read_set n r))) ≡ true =
-    (λ i. is_repeated log (IsBelow (demanded g (p i) (q i)))) ∙ here in
+    (λ i. is_repeated log (IsBelow (demanded g (p i) (q i)))) ∙ here
+
+-- a demand that is known to repeat something is not kept
+pub again_goes : (at : Place) (n : ℕ) (base g : Context) (l r : Set) (log : List Placed) → StandsOn base g
+    → IsKnownAgain base log l r → log ≡ with_one log (demand_at at (demanded g (read_set n l) (read_set n r)))
+again_goes at n base g l r log s k =
     sym
-    (repeated_goes log (demand_at at (demanded g (read_set n l) (read_set n r))) there)
+    (repeated_goes log (demand_at at (demanded g (read_set n l) (read_set n r))) (again_repeated n base g l r log s k))
   where
     repeated_goes : (list : List Placed) (placed : Placed) → is_repeated list placed.asked ≡ true
         → with_one list placed ≡ list

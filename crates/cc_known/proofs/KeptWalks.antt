@@ -27,14 +27,16 @@ use Rattle.cc_checking.specs.Outcomes.{Placed}
 use Rattle.cc_checking.specs.Inference.{demand_at, compared_at}
 use Rattle.cc_subty.specs.Parts.{is_variable}
 use Rattle.cc_known.specs.Keeping.{is_element_below, is_below, has_hole, is_demand_settled, is_settled, may_force, has_lost}
-use Rattle.cc_known.specs.Keeping.{is_repeated, with_one, keeping}
+use Rattle.cc_known.specs.Keeping.{is_repeated, with_one}
 use Rattle.cc_known.specs.KeptWalks.{put, Keeps, form_compared, variable_compared}
 use Rattle.cc_known.specs.declared.stop.Stop.{Stop}
 use Rattle.cc_known.specs.declared.stop.Stop.TheVariants as stops
 use Rattle.cc_known.specs.Logs.{Logged, Stopped, Got, after, Meets}
+use Rattle.cc_known.specs.EndsAgain.{comes_again}
 use Rattle.cc_known.proofs.ComparedAgain.{all_both}
 use Rattle.cc_known.proofs.KeptDemands.{all_pass, member_below}
 use Rattle.cc_known.proofs.KeptLists.{kept_of_both}
+use Rattle.cc_known.proofs.NeedlessLater.{comes_put, all_put}
 
 -- that a set is below itself is settled
 pub one_settled : (d : Demand) → d.left ≡ d.right → is_demand_settled d ≡ true
@@ -67,7 +69,7 @@ put_nothing false before = refl
 
 -- What is kept of one demand, and then of the others.
 pub types_keep : (whole : Bool) (at : Place) (d : Demand) (c : Comparison) (matched was mid is : Bool) (before between after : List Placed)
-    → between ≡ put whole before (demand_at at d ∷ []) → (mid ≡ true → was ≡ true) → (mid ≡ true → is_demand_settled d ≡ true)
+    → between ≡ put whole before (demand_at at d ∷ []) → (mid ≡ true → was ≡ true) → (mid ≡ true → comes_again between d ≡ true)
     → Keeps whole at c matched mid is between after → Keeps whole at (and_then (Matches (d ∷ [])) c) matched was is before after
 types_keep whole at d Unfinished matched was mid is before between after e w s k = absurd k
 types_keep whole at d Mismatch matched was mid is before between after e w s k = k
@@ -77,7 +79,8 @@ types_keep whole at d (Matches ds) matched was mid is before between after e w s
       ∙ put_both whole before (demand_at at d ∷ []) (map (demand_at at) ds),
   λ h. let rest = k.2 h in (
     w rest.0,
-    and_from (is_demand_settled d) (list_all is_demand_settled ds) (s rest.0) rest.1,
+    and_from (comes_again after d) (list_all (comes_again after) ds)
+        (subst (λ l. comes_again l d ≡ true) (sym k.1) (comes_put whole between (map (demand_at at) ds) d (s rest.0))) rest.1,
   ),
 )
 
@@ -96,8 +99,9 @@ then_keep whole at (Matches ds) (Matches es) matched was mid is before between a
       ∙ ap (put whole before) (sym (map-append (demand_at at) ds es)),
   λ h. let rest = l.2 h in let first = k.2 rest.0 in (
     first.0,
-    all_both is_demand_settled ds es
-        ∙ and_from (list_all is_demand_settled ds) (list_all is_demand_settled es) first.1 rest.1,
+    all_both (comes_again after) ds es
+        ∙ and_from (list_all (comes_again after) ds) (list_all (comes_again after) es)
+        (subst (λ x. list_all (comes_again x) ds ≡ true) (sym l.1) (all_put whole between (map (demand_at at) es) ds first.1)) rest.1,
   ),
 )
 

@@ -2,6 +2,7 @@
 //! need not be made again.
 #![tactic(auto)]
 
+pub mod again_laws;
 pub mod ended;
 pub mod found;
 pub mod keys;

@@ -14,12 +14,13 @@ ghost use Rattle.cc_checking.specs.Comparison as plain;
 ghost use Rattle.cc_checking.specs.Comparison.{comparison, demanded};
 ghost use Rattle.cc_checking.specs.Inference.{demand_at, shape_in, type_in};
 ghost use Rattle.cc_subty.specs.Demands.{asked_of};
+ghost use Rattle.cc_known.specs.EndsAgain.{comes_again};
 ghost use Rattle.cc_known.specs.Keeping.{with_one, is_demand_settled, has_lost};
-ghost use Rattle.cc_known.specs.KeptWalks.{put, Keeps, StandsOn, IsKnownAgain, form_compared, variable_compared, is_matched};
+ghost use Rattle.cc_known.specs.KeptWalks.{put, Keeps, StandsOn, IsKnownAgain, form_compared, variable_compared, is_matched, is_remembered_as};
 ghost use Rattle.cc_type.specs.WholeLogs.{listed};
 
 use crate::demand_ends::ended;
-use crate::log::{Log, has_hole, keep_below};
+use crate::log::{Kept, Log, has_hole, keep_below, names_no_variable};
 use cc_base::place::Place;
 use cc_capture::{CapSet, Var};
 use cc_core::acting::read_variable;
@@ -118,20 +119,21 @@ fn keep_read_sets(
     requires base { StandsOn (context_of log.old.known.base) (context_of ctx.now) }
     ensures kept { OnOk result (asked_of log.new.demands ≡ with_one (asked_of log.old.demands) (demand_at at (demanded (context_of ctx.now) (reading.read_set (length (context_of ctx.now)) left.now) (reading.read_set (length (context_of ctx.now)) right.now)))) }
     ensures before { OnOk result (log.new.settled ≡ true → log.old.settled ≡ true) }
-    ensures settled { OnOk result (log.new.settled ≡ true → is_demand_settled (demanded (context_of ctx.now) (reading.read_set (length (context_of ctx.now)) left.now) (reading.read_set (length (context_of ctx.now)) right.now)) ≡ true) }
+    ensures settled { OnOk result (log.new.settled ≡ true → comes_again (asked_of log.new.demands) (demanded (context_of ctx.now) (reading.read_set (length (context_of ctx.now)) left.now) (reading.read_set (length (context_of ctx.now)) right.now)) ≡ true) }
     ensures base { log.new.known.base ≡ log.old.known.base }
 {
     let left_read = read_if_other(alloc, left, entries(ctx))?;
     let right_read = read_if_other(alloc, right, entries(ctx))?;
     let one = chosen(&left_read, left);
     let other = chosen(&right_read, right);
-    if keep_below(alloc, ctx, one, other, at, log)? {
-        learn_read(ctx, left, right, &left_read, &right_read, log)?;
-    } else {
-        log.settled = false;
-        learn_ends(alloc, left, right, log)?;
+    match keep_below(alloc, ctx, one, other, at, log)? {
+        Kept::Settled => learn_read(ctx, left, right, &left_read, &right_read, log),
+        Kept::Again => learn_ends(alloc, left, right, log),
+        Kept::Once => {
+            log.settled = false;
+            learn_ends(alloc, left, right, log)
+        }
     }
-    Ok(())
 }
 
 // The same, where two sets that are known are not gone over again.
@@ -149,7 +151,7 @@ fn keep_sets(
     requires base { StandsOn (context_of log.old.known.base) (context_of ctx.now) }
     ensures kept { OnOk result (asked_of log.new.demands ≡ with_one (asked_of log.old.demands) (demand_at at (demanded (context_of ctx.now) (reading.read_set (length (context_of ctx.now)) left.now) (reading.read_set (length (context_of ctx.now)) right.now)))) }
     ensures before { OnOk result (log.new.settled ≡ true → log.old.settled ≡ true) }
-    ensures settled { OnOk result (log.new.settled ≡ true → is_demand_settled (demanded (context_of ctx.now) (reading.read_set (length (context_of ctx.now)) left.now) (reading.read_set (length (context_of ctx.now)) right.now)) ≡ true) }
+    ensures settled { OnOk result (log.new.settled ≡ true → comes_again (asked_of log.new.demands) (demanded (context_of ctx.now) (reading.read_set (length (context_of ctx.now)) left.now) (reading.read_set (length (context_of ctx.now)) right.now)) ≡ true) }
     ensures base { log.new.known.base ≡ log.old.known.base }
 {
     if *left == *right {
@@ -159,7 +161,9 @@ fn keep_sets(
         return Ok(());
     }
     if is_known_again(left, right, log) {
-        log.settled = false;
+        if !names_no_variable(right) {
+            log.settled = false;
+        }
         return Ok(());
     }
     keep_read_sets(alloc, ctx, left, right, at, log)
@@ -176,7 +180,7 @@ fn demand_sets(
 ) -> Result<(), AllocError>
     ensures kept { OnOk result (asked_of log.new.whole ≡ asked_of log.old.whole ++ (demand_at at (demanded (context_of ctx.now) (reading.read_set (length (context_of ctx.now)) left.now) (reading.read_set (length (context_of ctx.now)) right.now)) ∷ [])) }
     ensures before { OnOk result (log.new.settled ≡ true → log.old.settled ≡ true) }
-    ensures settled { OnOk result (log.new.settled ≡ true → is_demand_settled (demanded (context_of ctx.now) (reading.read_set (length (context_of ctx.now)) left.now) (reading.read_set (length (context_of ctx.now)) right.now)) ≡ true) }
+    ensures settled { OnOk result (log.new.settled ≡ true → comes_again (asked_of log.new.whole) (demanded (context_of ctx.now) (reading.read_set (length (context_of ctx.now)) left.now) (reading.read_set (length (context_of ctx.now)) right.now)) ≡ true) }
     ensures base { log.new.known.base ≡ log.old.known.base }
 {
     let left = read_set(alloc, left, entries(ctx))?;
@@ -207,7 +211,7 @@ fn ask_sets(
     requires base { StandsOn (context_of log.old.known.base) (context_of ctx.now) }
     ensures kept { OnOk result (listed whole log.new ≡ put whole (listed whole log.old) (demand_at at (demanded (context_of ctx.now) (reading.read_set (length (context_of ctx.now)) left.now) (reading.read_set (length (context_of ctx.now)) right.now)) ∷ [])) }
     ensures before { OnOk result (log.new.settled ≡ true → log.old.settled ≡ true) }
-    ensures settled { OnOk result (log.new.settled ≡ true → is_demand_settled (demanded (context_of ctx.now) (reading.read_set (length (context_of ctx.now)) left.now) (reading.read_set (length (context_of ctx.now)) right.now)) ≡ true) }
+    ensures settled { OnOk result (log.new.settled ≡ true → comes_again (listed whole log.new) (demanded (context_of ctx.now) (reading.read_set (length (context_of ctx.now)) left.now) (reading.read_set (length (context_of ctx.now)) right.now)) ≡ true) }
     ensures base { log.new.known.base ≡ log.old.known.base }
 {
     if whole {
@@ -232,6 +236,44 @@ fn are_one(
     } else {
         Ok(false)
     }
+}
+
+// Remembers that the variable and the shape match in so many steps.
+fn remember(
+    variable: Var,
+    right: &Shape,
+    log: &mut Log,
+    steps: u32,
+    lost: bool,
+) -> Result<(), AllocError>
+    requires { is_remembered_as (asked_of log.old.demands) (context_of log.old.known.base) lost steps variable (shape_of right.now) ≡ true }
+    ensures demands { log.new.demands ≡ log.old.demands }
+    ensures base { log.new.known.base ≡ log.old.known.base }
+    ensures still { log.new.settled ≡ log.old.settled }
+{
+    log.known.remember(variable, right, steps, lost)
+}
+
+// The same by their key, where they name more than the base has.
+fn remember_keyed(
+    alloc: Global,
+    ctx: &Ctx,
+    key: &Key,
+    variable: Var,
+    right: &Rc<Shape>,
+    log: &mut Log,
+    steps: u32,
+    lost: bool,
+) -> Result<(), AllocError>
+    requires context { IsWellFormedContext (context_of ctx.now) }
+    requires base { StandsOn (context_of log.old.known.base) (context_of ctx.now) }
+    requires matched { is_matched (asked_of log.old.demands) (context_of ctx.now) lost steps variable (shape_of right.now.value) ≡ true }
+    ensures demands { log.new.demands ≡ log.old.demands }
+    ensures base { log.new.known.base ≡ log.old.known.base }
+    ensures still { log.new.settled ≡ log.old.settled }
+{
+    log.known
+        .remember_keyed(alloc, ctx, key, variable, right, steps, lost)
 }
 
 // Goes over the bound of the variable and the shape, and remembers that they match where nothing has to be kept.
@@ -264,9 +306,9 @@ fn keep_new(
     }
     let all = log.settled;
     if all {
-        log.known.remember(variable, right, steps, false)?;
+        remember(variable, right, log, steps, false)?;
     } else if log.demands.len() == count {
-        log.known.remember(variable, right, steps, true)?;
+        remember(variable, right, log, steps, true)?;
     }
     log.settled = settled && all;
     Ok(true)
@@ -285,7 +327,7 @@ fn known_again(
 ) -> Result<Option<bool>, AllocError>
     requires context { IsWellFormedContext (context_of ctx.now) }
     requires base { StandsOn (context_of log.now.known.base) (context_of ctx.now) }
-    ensures matched { IfOk result (λ o. IfSome o (λ lost. is_matched (context_of ctx.now) lost steps variable (shape_of read.now.value) ≡ true)) }
+    ensures matched { IfOk result (λ o. IfSome o (λ lost. is_matched (asked_of log.now.demands) (context_of ctx.now) lost steps variable (shape_of read.now.value) ≡ true)) }
     ensures lost { IfOk result (λ o. IfSome o (λ lost. lost ≡ true → has_lost (asked_of log.now.demands) ≡ true)) }
 {
     if log
@@ -337,11 +379,9 @@ fn keep_keyed(
     }
     let all = log.settled;
     if all {
-        log.known
-            .remember_keyed(alloc, ctx, key, variable, read, steps, false)?;
+        remember_keyed(alloc, ctx, key, variable, read, log, steps, false)?;
     } else if log.demands.len() == count {
-        log.known
-            .remember_keyed(alloc, ctx, key, variable, read, steps, true)?;
+        remember_keyed(alloc, ctx, key, variable, read, log, steps, true)?;
     }
     log.settled = settled && all;
     Ok(true)

@@ -5,16 +5,16 @@ use Rattle.std.proofs.lemmas.List.{length-map}
 use Rattle.std.proofs.lemmas.Result.{IfOk-weaker}
 use Rattle.cc_core.specs.Equality.{same_shape}
 use Rattle.cc_core.specs.Contexts.{TypeEntry, entry_of}
-use Rattle.cc_core.specs.Reading.{read_shape}
+use Rattle.cc_core.specs.Reading.{read_set, read_shape}
 use Rattle.cc_core.specs.TermViews.{shape_of, type_of, context_of}
-use Rattle.cc_checking.specs.Comparison.{comparison, type_comparison}
+use Rattle.cc_checking.specs.Comparison.{demanded, comparison, type_comparison}
 use Rattle.cc_checking.specs.Inference.{shape_in, type_in}
 use Rattle.cc_subty.specs.Demands.{demand_of, asked_of}
 use Rattle.cc_subty.specs.Parts.{is_variable}
 use Rattle.cc_known.specs.Keeping.{has_lost}
 use Rattle.cc_known.specs.KeptWalks.{Keeps, StandsOn, is_matched, is_remembered_as}
 use Rattle.cc_type.specs.WholeLogs.{listed}
-use Rattle.cc_known.proofs.KeptWalks.{step_keeps, any_keeps, same_keeps, functions_kept, functions_parted, boxes_kept, variable_keeps}
+use Rattle.cc_known.proofs.KeptWalks.{types_keep, step_keeps, any_keeps, same_keeps, functions_kept, functions_parted, boxes_kept, variable_keeps}
 use Rattle.cc_known.proofs.KeptWalks.{type_functions_kept, type_functions_parted}
 use Rattle.cc_known.proofs.KeyedPairs.{matched_keeps, settled_matched, lost_matched}
 use Rattle.cc_known.proofs.KnownSets.{stands_same, stands_deeper}
@@ -40,7 +40,8 @@ keep_bound-returns-then-matches-clause-kept t c =
     let log = c.args.log.now in
     remembered_keeps false c.args.at (context_of log.known.base) (context_of c.args.ctx.now) c.args.variable
     (shape_of c.args.bound.now) (shape_of c.args.right.now) c.args.steps log.settled log.settled (asked_of log.demands)
-    c.requires.context c.requires.base c.requires.there (λ e. cc) (λ e. (e, refl)) (c.matches.ensures c.if-matches.true)
+    c.requires.context c.requires.base c.requires.there (λ e. cc) (λ e. (e, refl))
+    (c.matches.ensures c.if-matches.true (asked_of log.demands) log.remembered)
 
 pub keep_bound-returns-then-matches-2-clause-kept : goal.keep_bound-returns-then-matches-2-clause-kept
 keep_bound-returns-then-matches-2-clause-kept t c =
@@ -48,7 +49,7 @@ keep_bound-returns-then-matches-2-clause-kept t c =
     remembered_keeps true c.args.at (context_of log.known.base) (context_of c.args.ctx.now) c.args.variable
     (shape_of c.args.bound.now) (shape_of c.args.right.now) c.args.steps log.settled false (asked_of log.demands)
     c.requires.context c.requires.base c.requires.there (λ e. sym c.is_lost.ensures ∙ c.if-is_lost.true) (λ e. cc)
-    (c.matches-then-is_lost.ensures c.if-matches-2.true)
+    (c.matches-then-is_lost.ensures c.if-matches-2.true (asked_of log.demands) log.remembered)
 
 pub keep_bound-returns-clause-kept : goal.keep_bound-returns-clause-kept
 keep_bound-returns-clause-kept t c =
@@ -190,7 +191,7 @@ keep_own-returns-then-lost-clause-kept t c =
     (c.in_ok-read.ensures ∙ ap (λ n. read_shape n (shape_of c.args.right.now)) c.entries.ensures)
     (subst (λ o. IfSome o (λ lost. lost ≡ true → has_lost (asked_of log.demands) ≡ true)) c.in-Some.is
     c.in_ok-lost.ensures.lost) (λ e. cc)
-    (subst (λ o. IfSome o (λ lost. is_matched g lost c.args.steps c.args.variable read ≡ true)) c.in-Some.is
+    (subst (λ o. IfSome o (λ lost. is_matched (asked_of log.demands) g lost c.args.steps c.args.variable read ≡ true)) c.in-Some.is
     c.in_ok-lost.ensures.matched)
 
 pub keep_own-returns-in-Some-clause-kept : goal.keep_own-returns-in-Some-clause-kept
@@ -203,7 +204,7 @@ keep_own-returns-in-Some-clause-kept t c =
     (c.in_ok-read.ensures ∙ ap (λ n. read_shape n (shape_of c.args.right.now)) c.entries.ensures)
     (subst (λ o. IfSome o (λ lost. lost ≡ true → has_lost (asked_of log.demands) ≡ true)) c.in-Some.is
     c.in_ok-lost.ensures.lost) (λ e. (e, c.if-lost.false))
-    (subst (λ o. IfSome o (λ lost. is_matched g lost c.args.steps c.args.variable read ≡ true)) c.in-Some.is
+    (subst (λ o. IfSome o (λ lost. is_matched (asked_of log.demands) g lost c.args.steps c.args.variable read ≡ true)) c.in-Some.is
     c.in_ok-lost.ensures.matched)
 
 pub keep_own-returns-clause-kept : goal.keep_own-returns-clause-kept
@@ -241,7 +242,7 @@ keep_new-remember-requires t c =
     let kept =
     subst (λ m. Keeps false c.args.at (comparison c.args.steps g (shape_in g bound) (shape_in g right)) m true after.settled
     (asked_of log.demands) (asked_of after.demands)) c.if-not-matched.false c.in_ok-matched.ensures.kept in
-    subst (λ b. is_remembered_as (context_of b) false c.args.steps c.args.variable right ≡ true)
+    subst (λ b. is_remembered_as (asked_of after.demands) (context_of b) false c.args.steps c.args.variable right ≡ true)
     (sym c.keep_shapes.ensures.base)
     (remembers_settled c.args.at (context_of log.known.base) g c.args.variable bound right c.args.steps true after.settled
     (asked_of log.demands) (asked_of after.demands) c.requires.context c.requires.base c.requires.there c.requires.named
@@ -260,7 +261,7 @@ keep_new-remember-requires-then-len-count t c =
     let same : length (asked_of after.demands) ≡ length (asked_of log.demands) =
     length-map after.demands demand_of ∙ sym c.len.ensures ∙ c.if-len-count.true ∙ c.len-count.ensures
     ∙ sym (length-map log.demands demand_of) in
-    subst (λ b. is_remembered_as (context_of b) true c.args.steps c.args.variable right ≡ true)
+    subst (λ b. is_remembered_as (asked_of after.demands) (context_of b) true c.args.steps c.args.variable right ≡ true)
     (sym c.keep_shapes.ensures.base)
     (remembers_lost c.args.at (context_of log.known.base) g c.args.variable bound right c.args.steps true after.settled
     (asked_of log.demands) (asked_of after.demands) c.requires.context c.requires.base c.requires.there c.requires.named
@@ -369,3 +370,24 @@ walk_bound-keep_shapes-requires t c =
         ),
       ),
     )
+
+pub keep_types-returns-clause-kept : goal.keep_types-returns-clause-kept
+keep_types-returns-clause-kept t c =
+    let g = context_of c.args.ctx.now in
+    let log = c.args.log.now in
+    let mid = c.ask_sets.new.log in
+    let after = c.keep_shapes.new.log in
+    let left = type_of c.args.left.now in
+    let right = type_of c.args.right.now in
+    IfOk-weaker c.keep_shapes.result
+    (λ m. Keeps c.args.whole c.args.at
+    (comparison c.args.steps g (shape_in g (shape_of c.deref.result.now)) (shape_in g (shape_of c.deref-2.result.now))) m
+    mid.settled after.settled (listed c.args.whole mid) (listed c.args.whole after)) _
+    (λ m k.
+    types_keep c.args.whole c.args.at (demanded g (read_set (length g) left.set) (read_set (length g) right.set))
+    (comparison c.args.steps g (shape_in g left.shape) (shape_in g right.shape)) m log.settled mid.settled after.settled
+    (listed c.args.whole log) (listed c.args.whole mid) (listed c.args.whole after)
+    c.in_ok-ask_sets.ensures.kept c.in_ok-ask_sets.ensures.before c.in_ok-ask_sets.ensures.settled
+    (subst (λ x. Keeps c.args.whole c.args.at x m mid.settled after.settled (listed c.args.whole mid) (listed c.args.whole after))
+    (λ i. comparison c.args.steps g (shape_in g (shape_of (c.deref.ensures i))) (shape_in g (shape_of (c.deref-2.ensures i)))) k))
+    c.keep_shapes.ensures.kept

@@ -11,3 +11,11 @@ learn_ends-requires c =
     (stands_same (context_of c.args.log.now.known.base) base (context_of c.args.ctx.now)
     (ap context_of c.keep_below.ensures.base) c.requires.base)
     c.requires.context
+
+pub learn_ends-requires-in-Once : goal.learn_ends-requires-in-Once
+learn_ends-requires-in-Once c =
+    let base = context_of c.keep_below.new.log.known.base in
+    base_formed base (context_of c.args.ctx.now)
+    (stands_same (context_of c.args.log.now.known.base) base (context_of c.args.ctx.now)
+    (ap context_of c.keep_below.ensures.base) c.requires.base)
+    c.requires.context
