@@ -55,10 +55,6 @@ read_term entries = act_term (reading entries) zero
 abbrev pub written_set : ℕ → ℕ → Set → Set
 written_set root entries = act_set (writing root entries) zero
 
--- the same of shapes
-abbrev pub written_shape : ℕ → ℕ → Shape → Shape
-written_shape root entries = act (writing root entries) zero
-
 -- the same of types
 abbrev pub written_type : ℕ → ℕ → CapturingType → CapturingType
 written_type root entries = act_type (writing root entries) zero

@@ -1,12 +1,11 @@
-//! One way through shapes and terms: opening, closing, substitution, renaming, filling, reading and writing are its
-//! instances. Each call fails only for want of memory, as which an index or binders above one place beyond 2^32 - 1
-//! count.
+//! One way through shapes: opening, closing, substitution, renaming, filling, reading and writing are its instances.
+//! Terms go the same way (`acting_terms`). Each call fails only for want of memory, as which an index or binders above
+//! one place beyond 2^32 - 1 count.
 
-ghost use Rattle.std.specs.Prelude.{◌≡◌, ℕ, ◌+◌, ◌∷◌, IfOk, OnOk, IsTrue, option_map};
+ghost use Rattle.std.specs.Prelude.{◌≡◌, ℕ, ◌+◌, ◌∷◌, IfOk, OnOk, IsTrue};
 ghost use Rattle.std.specs.Option.{unwrap_or};
 ghost use Rattle.cc_capture.specs.declared.var.Elem.TheVariants.{Hole};
 ghost use Rattle.cc_capture.specs.Sets.{union};
-ghost use Rattle.cc_core.specs.declared.terms.Form.TheVariants as forms;
 ghost use Rattle.cc_core.specs.Traversal as plain;
 ghost use Rattle.cc_core.specs.Changes.{became_shape, became_type};
 ghost use Rattle.cc_core.specs.Shapes.{TypeVariable, FunctionShape, TypeFunctionShape, BoxShape, ExitShape, capturing};
@@ -14,13 +13,9 @@ ghost use Rattle.cc_core.specs.Substitution.{single, put_variable, renamed_varia
 ghost use Rattle.cc_core.specs.Reading.{read_variable, written_variable};
 ghost use Rattle.cc_core.specs.Actions.{action_of, renamed_by};
 ghost use Rattle.cc_core.specs.ActingShapes.{waiting_of, in_turn, Descends, TakesTurn};
-ghost use Rattle.cc_core.specs.TermViews.{shape_of, type_of, note_of, form_of, term_of};
-ghost use Rattle.cc_core.specs.Places.{Spots, places_around, places_of};
+ghost use Rattle.cc_core.specs.TermViews.{shape_of, type_of};
 
-use crate::copies::copy_literal;
-use crate::terms::{Form, Node, Note};
 use crate::types::{Shape, Ty};
-use cc_base::literal::{Op, Operator};
 use cc_capture::{CapSet, Elem, Var, same_var};
 use std::alloc::{AllocError, Global};
 use std::rc::Rc;
@@ -117,7 +112,7 @@ pub fn write_variable(root: u32, entries: u32, depth: u32, variable: Var) -> Res
     }
 }
 
-fn act_variable(action: &Action, depth: u32, variable: Var) -> Result<Var, AllocError>
+pub(crate) fn act_variable(action: &Action, depth: u32, variable: Var) -> Result<Var, AllocError>
     ensures { IfOk result (λ v. v ≡ (action_of action.now).variable depth variable) }
 {
     match action {
@@ -286,7 +281,7 @@ fn type_or_same(became: ActedType, ty: &Rc<Ty>) -> Result<Rc<Ty>, AllocError>
 }
 
 // The depth under one binder more.
-fn under(depth: u32) -> Result<u32, AllocError>
+pub(crate) fn under(depth: u32) -> Result<u32, AllocError>
     ensures { IfOk result (λ d. d ≡ depth + 1) }
 {
     depth.checked_add(1).ok_or(AllocError)
@@ -584,7 +579,7 @@ pub fn act_shape(
     shape_or_same(acted, shape)
 }
 
-fn act_shared_type(
+pub(crate) fn act_shared_type(
     alloc: Global,
     action: &Action,
     depth: u32,
@@ -604,228 +599,4 @@ pub fn act_type(alloc: Global, action: &Action, depth: u32, ty: &Ty) -> Result<T
     let shape = act_shape(alloc, action, depth, &ty.shape)?;
     let set = act_set(alloc, action, depth, &ty.set)?;
     Ok(Ty { shape, set })
-}
-
-/// What is written for a type, in which the action was taken everywhere, where it stands under so many binders.
-pub fn act_note(alloc: Global, action: &Action, depth: u32, note: &Note) -> Result<Note, AllocError>
-    ensures { IfOk result (λ n. note_of n ≡ plain.act_note (action_of action.now) depth (note_of note.now)) }
-{
-    match note {
-        Note::Absent => Ok(Note::Absent),
-        Note::Written(ty) => Ok(Note::Written(act_shared_type(alloc, action, depth, ty)?)),
-        Note::Own(shape) => Ok(Note::Own(act_shape(alloc, action, depth, shape)?)),
-    }
-}
-
-fn act_optional_set(
-    alloc: Global,
-    action: &Action,
-    depth: u32,
-    set: &Option<CapSet>,
-) -> Result<Option<CapSet>, AllocError>
-    ensures { IfOk result (λ s. s ≡ option_map (plain.act_set (action_of action.now) depth) set.now) }
-{
-    match set {
-        Some(set) => Ok(Some(act_set(alloc, action, depth, set)?)),
-        None => Ok(None),
-    }
-}
-
-fn act_optional_variable(
-    action: &Action,
-    depth: u32,
-    variable: Option<Var>,
-) -> Result<Option<Var>, AllocError>
-    ensures { IfOk result (λ v. v ≡ option_map ((action_of action.now).variable depth) variable) }
-{
-    match variable {
-        Some(variable) => Ok(Some(act_variable(action, depth, variable)?)),
-        None => Ok(None),
-    }
-}
-
-// The form at the places of the node.
-fn at_places_of(alloc: Global, node: &Node, form: Form) -> Result<Rc<Node>, AllocError>
-    ensures { IfOk result (λ n. (n.value.form ≡ form) × (n.value.at ≡ node.now.at) × (n.value.first ≡ node.now.first) × (n.value.second ≡ node.now.second)) }
-{
-    let node = Node {
-        form,
-        at: node.at,
-        first: node.first,
-        second: node.second,
-    };
-    Ok(Rc::new(alloc, node)?)
-}
-
-/// The term in which the action was taken everywhere, also in the types that are written in it, where it stands under
-/// so many binders. The places stay.
-#[cycle(act_terms)]
-pub fn act_node(
-    alloc: Global,
-    action: &Action,
-    depth: u32,
-    node: &Rc<Node>,
-) -> Result<Rc<Node>, AllocError>
-    ensures term { IfOk result (λ n. term_of n.value ≡ plain.act_term (action_of action.now) depth (term_of node.now.value)) }
-    ensures places { IfOk result (λ n. places_of n.value ≡ places_of node.now.value) }
-{
-    let form = act_form(alloc, action, depth, &node.form)?;
-    at_places_of(alloc, node, form)
-}
-
-// The same of an application.
-fn act_application(
-    action: &Action,
-    depth: u32,
-    function: Var,
-    argument: Var,
-) -> Result<Form, AllocError>
-    ensures term { IfOk result (λ f. form_of f ≡ plain.act_term (action_of action.now) depth (form_of (forms.App function argument))) }
-    ensures places { IfOk result (λ f. (own : Spots) → places_around own f ≡ places_around own (forms.App function argument)) }
-{
-    let function = act_variable(action, depth, function)?;
-    Ok(Form::App(function, act_variable(action, depth, argument)?))
-}
-
-// The same of an application of a type function.
-fn act_type_application(
-    alloc: Global,
-    action: &Action,
-    depth: u32,
-    function: Var,
-    argument: &Rc<Shape>,
-) -> Result<Form, AllocError>
-    ensures term { IfOk result (λ f. form_of f ≡ plain.act_term (action_of action.now) depth (form_of (forms.TApp function argument.now))) }
-    ensures places { IfOk result (λ f. (own : Spots) → places_around own f ≡ places_around own (forms.TApp function argument.now)) }
-{
-    let function = act_variable(action, depth, function)?;
-    Ok(Form::TApp(function, act_shape(alloc, action, depth, argument)?))
-}
-
-// The same of an unboxing.
-fn act_unboxing(
-    alloc: Global,
-    action: &Action,
-    depth: u32,
-    set: &Option<CapSet>,
-    content: Var,
-) -> Result<Form, AllocError>
-    ensures term { IfOk result (λ f. form_of f ≡ plain.act_term (action_of action.now) depth (form_of (forms.Unbox set.now content))) }
-    ensures places { IfOk result (λ f. (own : Spots) → places_around own f ≡ places_around own (forms.Unbox set.now content)) }
-{
-    let set = act_optional_set(alloc, action, depth, set)?;
-    Ok(Form::Unbox(set, act_variable(action, depth, content)?))
-}
-
-// The same of an operator.
-fn act_primitive(
-    action: &Action,
-    depth: u32,
-    operator: Operator,
-    left: Var,
-    right: Var,
-) -> Result<Form, AllocError>
-    ensures term { IfOk result (λ f. form_of f ≡ plain.act_term (action_of action.now) depth (form_of (forms.Prim operator left right))) }
-    ensures places { IfOk result (λ f. (own : Spots) → places_around own f ≡ places_around own (forms.Prim operator left right)) }
-{
-    let left = act_variable(action, depth, left)?;
-    Ok(Form::Prim(operator, left, act_variable(action, depth, right)?))
-}
-
-// The same of a repetition.
-fn act_repetition(
-    action: &Action,
-    depth: u32,
-    count: Var,
-    function: Var,
-) -> Result<Form, AllocError>
-    ensures term { IfOk result (λ f. form_of f ≡ plain.act_term (action_of action.now) depth (form_of (forms.Repeat count function))) }
-    ensures places { IfOk result (λ f. (own : Spots) → places_around own f ≡ places_around own (forms.Repeat count function)) }
-{
-    let count = act_variable(action, depth, count)?;
-    Ok(Form::Repeat(count, act_variable(action, depth, function)?))
-}
-
-// The same of an operation.
-fn act_operation(
-    action: &Action,
-    depth: u32,
-    operation: Op,
-    receiver: Var,
-    argument: Option<Var>,
-) -> Result<Form, AllocError>
-    ensures term { IfOk result (λ f. form_of f ≡ plain.act_term (action_of action.now) depth (form_of (forms.Operate operation receiver argument))) }
-    ensures places { IfOk result (λ f. (own : Spots) → places_around own f ≡ places_around own (forms.Operate operation receiver argument)) }
-{
-    let receiver = act_variable(action, depth, receiver)?;
-    let argument = act_optional_variable(action, depth, argument)?;
-    Ok(Form::Operate(operation, receiver, argument))
-}
-
-// The same of a leaving.
-fn act_leave(
-    alloc: Global,
-    action: &Action,
-    depth: u32,
-    gives: &Rc<Ty>,
-    exit: Var,
-    value: Var,
-) -> Result<Form, AllocError>
-    ensures term { IfOk result (λ f. form_of f ≡ plain.act_term (action_of action.now) depth (form_of (forms.Leave gives.now exit value))) }
-    ensures places { IfOk result (λ f. (own : Spots) → places_around own f ≡ places_around own (forms.Leave gives.now exit value)) }
-{
-    let gives = act_shared_type(alloc, action, depth, gives)?;
-    let exit = act_variable(action, depth, exit)?;
-    Ok(Form::Leave(gives, exit, act_variable(action, depth, value)?))
-}
-
-#[cycle(act_terms)]
-fn act_form(alloc: Global, action: &Action, depth: u32, form: &Form) -> Result<Form, AllocError>
-    ensures term { IfOk result (λ f. form_of f ≡ plain.act_term (action_of action.now) depth (form_of form.now)) }
-    ensures places { IfOk result (λ f. (own : Spots) → places_around own f ≡ places_around own form.now) }
-{
-    match form {
-        Form::Fun(takes, body) => {
-            let takes = act_shared_type(alloc, action, depth, takes)?;
-            let body = act_node(alloc, action, under(depth)?, body)?;
-            Ok(Form::Fun(takes, body))
-        }
-        Form::TFun(bound, body) => {
-            let bound = act_shape(alloc, action, depth, bound)?;
-            let body = act_node(alloc, action, under(depth)?, body)?;
-            Ok(Form::TFun(bound, body))
-        }
-        Form::Let(note, right, body) => {
-            let note = act_note(alloc, action, depth, note)?;
-            let right = act_node(alloc, action, depth, right)?;
-            let body = act_node(alloc, action, under(depth)?, body)?;
-            Ok(Form::Let(note, right, body))
-        }
-        Form::If(note, test, positive, negative) => {
-            let note = act_note(alloc, action, depth, note)?;
-            let positive = act_node(alloc, action, depth, positive)?;
-            let negative = act_node(alloc, action, depth, negative)?;
-            let test = act_variable(action, depth, *test)?;
-            Ok(Form::If(note, test, positive, negative))
-        }
-        Form::Boundary(gives, body) => {
-            let gives = act_shape(alloc, action, depth, gives)?;
-            let body = act_node(alloc, action, under(depth)?, body)?;
-            Ok(Form::Boundary(gives, body))
-        }
-        Form::Var(variable) => Ok(Form::Var(act_variable(action, depth, *variable)?)),
-        Form::Lit(literal) => Ok(Form::Lit(copy_literal(literal)?)),
-        Form::Boxed(content) => Ok(Form::Boxed(act_variable(action, depth, *content)?)),
-        Form::App(function, argument) => act_application(action, depth, *function, *argument),
-        Form::TApp(function, argument) => {
-            act_type_application(alloc, action, depth, *function, argument)
-        }
-        Form::Unbox(set, content) => act_unboxing(alloc, action, depth, set, *content),
-        Form::Prim(operator, left, right) => act_primitive(action, depth, *operator, *left, *right),
-        Form::Repeat(count, function) => act_repetition(action, depth, *count, *function),
-        Form::Operate(operation, receiver, argument) => {
-            act_operation(action, depth, *operation, *receiver, *argument)
-        }
-        Form::Leave(gives, exit, value) => act_leave(alloc, action, depth, gives, *exit, *value),
-    }
 }

@@ -2,6 +2,7 @@
 #![tactic(auto)]
 
 pub mod acting;
+pub mod acting_terms;
 pub mod context;
 pub mod copies;
 pub mod derivation_laws;

@@ -9,6 +9,7 @@ ghost use Rattle.cc_core.specs.TermViews.{shape_of, type_of, term_of};
 ghost use Rattle.cc_core.specs.Places.{places_of};
 
 use crate::acting::{self, Action};
+use crate::acting_terms;
 use crate::terms::Node;
 use crate::types::{Shape, Ty};
 use cc_capture::CapSet;
@@ -53,7 +54,7 @@ pub fn read_term(alloc: Global, node: &Rc<Node>, entries: u32) -> Result<Rc<Node
     ensures term { IfOk result (λ n. term_of n.value ≡ plain.read_term entries (term_of node.now.value)) }
     ensures places { IfOk result (λ n. places_of n.value ≡ places_of node.now.value) }
 {
-    acting::act_node(alloc, &Action::Read(entries), 0, node)
+    acting_terms::act_node(alloc, &Action::Read(entries), 0, node)
 }
 
 /// The set as it stands in a term whose binders put the entries from the root on, of so many: a position from the

@@ -9,6 +9,7 @@ ghost use Rattle.cc_core.specs.TermViews.{shape_of, type_of, note_of, term_of};
 ghost use Rattle.cc_core.specs.Places.{places_of};
 
 use crate::acting::{self, Action};
+use crate::acting_terms;
 use crate::terms::{Node, Note};
 use crate::types::{Shape, Ty};
 use cc_capture::{CapSet, Var};
@@ -52,7 +53,7 @@ pub fn instantiate_term(
     ensures term { IfOk result (λ n. term_of n.value ≡ opened_term position (term_of node.now.value)) }
     ensures places { IfOk result (λ n. places_of n.value ≡ places_of node.now.value) }
 {
-    acting::act_node(alloc, &Action::Put(Var::Free(position)), 0, node)
+    acting_terms::act_node(alloc, &Action::Put(Var::Free(position)), 0, node)
 }
 
 /// The term with each free position replaced by the one that the list has for it, also in the types that are written
@@ -61,7 +62,7 @@ pub fn rename(alloc: Global, node: &Rc<Node>, to: &[u32]) -> Result<Rc<Node>, Al
     ensures term { IfOk result (λ n. term_of n.value ≡ renamed_term (renamed_by to.now) (term_of node.now.value)) }
     ensures places { IfOk result (λ n. places_of n.value ≡ places_of node.now.value) }
 {
-    acting::act_node(alloc, &Action::Rename(to), 0, node)
+    acting_terms::act_node(alloc, &Action::Rename(to), 0, node)
 }
 
 /// The type with each hole filled by the set that the list has for its number. A hole past the list stays.
@@ -79,7 +80,7 @@ pub fn fill_note(alloc: Global, note: &Note, filling: &[CapSet]) -> Result<Note,
     if filling.is_empty() {
         return note.clone();
     }
-    acting::act_note(alloc, &Action::Fill(filling), 0, note)
+    acting_terms::act_note(alloc, &Action::Fill(filling), 0, note)
 }
 
 /// The term with each hole filled by the set that the list has for its number, also in the types that are written in
@@ -91,5 +92,5 @@ pub fn fill_term(alloc: Global, node: &Rc<Node>, filling: &[CapSet]) -> Result<R
     if filling.is_empty() {
         return node.clone();
     }
-    acting::act_node(alloc, &Action::Fill(filling), 0, node)
+    acting_terms::act_node(alloc, &Action::Fill(filling), 0, node)
 }

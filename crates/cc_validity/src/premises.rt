@@ -22,7 +22,8 @@ use crate::captures::{
 use crate::comparisons::{element_at, only_element};
 use crate::places::{Spot, Spots};
 use cc_capture::{CapSet, Elem, Var};
-use cc_core::acting::{Action, act_node};
+use cc_core::acting::Action;
+use cc_core::acting_terms::act_node;
 use cc_core::reading::{read_shape, read_type};
 use cc_core::same::same_shape;
 use cc_core::substitution::instantiate_term;
