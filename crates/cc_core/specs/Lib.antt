@@ -3,6 +3,7 @@ pub mod Actions
 pub mod Binders
 pub mod Captured
 pub mod Changes
+pub mod ClosedEntries
 pub mod Contexts
 pub mod Depths
 pub mod DerivationExamples

@@ -1,8 +1,10 @@
 ghost use Rattle.std.specs.Prelude.{◌≡◌, ◌+◌, [], ◌∷◌, drop, length, slice_get, IfOk, option_map};
+ghost use Rattle.cc_core.specs.ClosedEntries.{is_open, closed_entries};
 ghost use Rattle.cc_core.specs.Contexts.{lookup};
 ghost use Rattle.cc_core.specs.Entries.{entries, AreLinked};
 ghost use Rattle.cc_core.specs.TermViews.{bind_of, context_of};
 
+use crate::occurrences::holds_hole;
 use crate::types::{Shape, Ty};
 use cc_capture::CapSet;
 use std::alloc::{AllocError, Global};
@@ -45,13 +47,15 @@ enum Link {
 /// A context. Contracts see the list of its entries, the newest first. A position is the number of entries before it,
 /// so it stays the same when entries are added.
 ///
-/// The far link of an entry passes over one entry, or over those that the far links of the two entries behind it pass
-/// over where these are equally many. So adding an entry takes a fixed time, and finding one a time that grows with the
-/// number of digits of the length.
+/// The far link of an entry passes over that entry alone. But where the far link of the entry behind it passes over as
+/// many as the one of the entry that it leads to, it passes over all of these and itself. So adding an entry takes a fixed
+/// time, and finding one a time that grows with the number of digits of the length.
 #[derive(Drop)]
 pub struct Ctx {
     head: Link,
     len: u32,
+    // How many entries are older than all whose declared sets have holes.
+    closed: u32,
 }
 
 impl Model for Ctx {
@@ -59,7 +63,9 @@ impl Model for Ctx {
     ghost use Rattle.std.specs.Coded.{codes};
     ghost use Rattle.cc_core.specs.declared.context.Bind.{Bind};
     ghost use Rattle.cc_core.specs.contracts.context.Bind as bind;
+    ghost use Rattle.cc_core.specs.ClosedEntries.{closed_entries};
     ghost use Rattle.cc_core.specs.Entries.{entries, AreLinked};
+    ghost use Rattle.cc_core.specs.TermViews.{context_of};
 
     ghost Value = { List Bind };
 
@@ -67,7 +73,7 @@ impl Model for Ctx {
 
     ghost view = { λ c. entries c.head };
 
-    ghost invariant = { λ c. (c.len ≡ length (entries c.head)) × AreLinked c.head };
+    ghost invariant = { λ c. (c.len ≡ length (entries c.head)) × AreLinked c.head × (c.closed ≡ closed_entries (context_of (entries c.head))) };
 }
 
 // The same entries, shared.
@@ -149,6 +155,17 @@ fn entry_at(link: &Link, index: u32) -> Option<&Bind>
     }
 }
 
+// Whether the declared set of the entry has a hole.
+fn is_open(bind: &Bind) -> bool
+    ensures { result ≡ is_open (bind_of bind.now) }
+{
+    match bind {
+        Bind::Var(ty) => holds_hole(&ty.set),
+        Bind::TVar(_) => false,
+        Bind::Unread { set, .. } => holds_hole(set),
+    }
+}
+
 impl Ctx {
     /// The context with no entry. It takes no memory.
     pub fn new() -> Ctx
@@ -157,6 +174,7 @@ impl Ctx {
         Ctx {
             head: Link::End,
             len: 0,
+            closed: 0,
         }
     }
 
@@ -167,8 +185,10 @@ impl Ctx {
         ensures { IfOk result (λ c. c ≡ bind ∷ self.now) }
     {
         let len = self.len.checked_add(1).ok_or(AllocError)?;
+        let stays = self.closed < self.len || is_open(&bind);
+        let closed = if stays { self.closed } else { len };
         let head = with_entry(alloc, bind, &self.head)?;
-        Ok(Ctx { head, len })
+        Ok(Ctx { head, len, closed })
     }
 
     /// The entry at a position, if the context has so many. It takes no memory.
@@ -187,6 +207,13 @@ impl Ctx {
     {
         self.len
     }
+
+    /// How many entries are older than all whose declared sets have holes. It takes no memory.
+    pub fn closed(&self) -> u32
+        ensures { result ≡ closed_entries (context_of self.now) }
+    {
+        self.closed
+    }
 }
 
 /// A clone is the same context and shares its entries. It fails only for want of memory.
@@ -198,6 +225,7 @@ impl Clone for Ctx {
         Ok(Ctx {
             head,
             len: self.len,
+            closed: self.closed,
         })
     }
 }

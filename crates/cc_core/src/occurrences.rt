@@ -66,7 +66,7 @@ fn is_hole(elem: Elem) -> bool
     }
 }
 
-fn holds_hole(set: &CapSet) -> bool
+pub(crate) fn holds_hole(set: &CapSet) -> bool
     ensures { result ≡ list_any plain.is_hole set.now.list }
 {
     for elem in set.iter() {
