@@ -243,6 +243,36 @@ def chains_of_own_binders_beside_a_hole(count):
     return chains_of_own_binders(count, upper='(%s)^?')
 
 
+def chains_of_kept_demands(count, first='h', second='a', above='%s', last='%s'):
+    """A chain of bounds whose sets lead to an omitted one: what is asked of it is kept."""
+    text = 'def f=fun(h:((x:Int)->Unit)^?)=>fun[X0<:(z:Int)->Int]=>fun[Y0<:Int]=>'
+    for at in range(1, count + 1):
+        text += 'fun[X%d<:(p:(a:X%d^{%s})->(b:X%d^{%s})->Int)->Int]=>' % (at, at - 1, first, at - 1, second)
+        takes = '((z:Y%d)->Int)' % (at - 1)
+        text += 'fun[Y%d<:(a:%s)->(b:%s)->Int]=>' % (at, above % takes, last % takes)
+    return text + 'fun(x:X%d)=>val r:(z:Y%d)->Int=x;unit\n' % (count, count)
+
+
+def chains_of_kept_demands_alike(count):
+    """The same, where both sets are the omitted one's."""
+    return chains_of_kept_demands(count, 'h', 'h')
+
+
+def chains_of_kept_demands_below_a_device(count):
+    """The same, where a device is in what they are to be below."""
+    return chains_of_kept_demands(count, above='%s^{out}', last='%s^{out}')
+
+
+def chains_of_kept_demands_below_cap(count):
+    """The same with the universal capability."""
+    return chains_of_kept_demands(count, above='%s^{cap}', last='%s^{cap}')
+
+
+def chains_of_kept_demands_below_own_binders(count):
+    """The same with a parameter of the types that are compared."""
+    return chains_of_kept_demands(count, 'h', 'h', last='%s^{a}')
+
+
 def chains_of_own_parameters(count):
     """A chain of bounds of type parameters of the types that are compared."""
     text = '[X0<:(z:Int)->Int]->[Y0<:Int]->'
@@ -260,6 +290,11 @@ TEXTS = [
     ('own binders where sets are apart', chains_of_own_binders_apart, 45, 'E15'),
     ('own binders beside an omitted set', chains_of_own_binders_beside_a_hole, 45, 1),
     ('a chain of bounds of own parameters', chains_of_own_parameters, 45, 1),
+    ('a chain of bounds with kept demands', chains_of_kept_demands, 45, 1),
+    ('the same with one kept demand', chains_of_kept_demands_alike, 45, 1),
+    ('kept demands with a device on the right', chains_of_kept_demands_below_a_device, 45, 1),
+    ('kept demands with cap on the right', chains_of_kept_demands_below_cap, 45, 1),
+    ('kept demands with own binders on the right', chains_of_kept_demands_below_own_binders, 45, 1),
     ('98 vals inside one another', vals, 80, 80),
     ('comparisons of types of size 1,985', comparisons, 4200, 1),
     ('the same beside an omitted set', comparisons_beside_a_hole, 4200, 1),

@@ -219,7 +219,7 @@ pub record Moves (small real : Context) (to back : ℕ → ℕ) : Type 0 where
 
 -- What stands on the two.
 module _ (small real : Context) (to back : ℕ → ℕ) (moves : Moves small real to back) where
-  abbrev moved : Elem → Elem
+  abbrev pub moved : Elem → Elem
   moved = moved_element (renamed_variable to)
 
   returned : (x : Elem) → moved_element (renamed_variable back) (moved x) ≡ x
@@ -231,24 +231,24 @@ module _ (small real : Context) (to back : ℕ → ℕ) (moves : Moves small rea
   one_moved : (x y : Elem) → moved x ≡ moved y → x ≡ y
   one_moved x y e = sym (returned x) ∙ ap (moved_element (renamed_variable back)) e ∙ returned y
 
-  one_position : (p q : ℕ) → to p ≡ to q → p ≡ q
+  pub one_position : (p q : ℕ) → to p ≡ to q → p ≡ q
   one_position p q e = sym (moves.undone p) ∙ ap back e ∙ moves.undone q
 
-  member_moved : (x : Elem) (c : Set) → Member x c → Member (moved x) (renamed_set to c)
+  pub member_moved : (x : Elem) (c : Set) → Member x c → Member (moved x) (renamed_set to c)
   member_moved x c m =
       (Member-flat_image (λ y. single (moved y)) (moved x) c).1 (x, m, Member-single_itself (moved x))
 
-  member_from : (y : Elem) (c : Set) → Member y (renamed_set to c) → (x : Elem) × Member x c × (y ≡ moved x)
+  pub member_from : (y : Elem) (c : Set) → Member y (renamed_set to c) → (x : Elem) × Member x c × (y ≡ moved x)
   member_from y c m =
       let h = (Member-flat_image (λ x. single (moved x)) y c).0 m in (h.0, h.1, Member-single y (moved h.0) h.2)
 
-  contains-moved : (x : Elem) (c : Set) → contains (moved x) (renamed_set to c) ≡ contains x c
+  pub contains-moved : (x : Elem) (c : Set) → contains (moved x) (renamed_set to c) ≡ contains x c
   contains-moved x c =
       same_tests (contains (moved x) (renamed_set to c)) (contains x c)
       (λ m. let h = member_from (moved x) c m in subst (λ y. Member y c) (sym (one_moved x h.0 h.2)) h.1)
       (member_moved x c)
 
-  list_all-renamed : (test : Elem → Bool) (c : Set)
+  pub list_all-renamed : (test : Elem → Bool) (c : Set)
       → list_all test (renamed_set to c).list ≡ list_all (λ x. test (moved x)) c.list
   unfolding contains
   list_all-renamed test c =
@@ -340,7 +340,7 @@ module _ (small real : Context) (to back : ℕ → ℕ) (moves : Moves small rea
   again [] = real
   again (b ∷ more) = renamed_entry to b ∷ again more
 
-  length-again : (more : Context) → length (again more) ≡ to (length (more ++ small))
+  pub length-again : (more : Context) → length (again more) ≡ to (length (more ++ small))
   length-again more =
       counted more ∙ sym (moves.passes (length more)) ∙ ap to (sym (length-append more small))
     where
@@ -369,7 +369,7 @@ module _ (small real : Context) (to back : ℕ → ℕ) (moves : Moves small rea
       λ i. cond (has_hole-renamed r i) (is_subset-renamed l r i) (below i)
 
   -- what is looked up
-  entry-again : (more : Context) (p : ℕ)
+  pub entry-again : (more : Context) (p : ℕ)
       → option_map seen (lookup (again more) (to p)) ≡ option_map (λ b. renamed_entry to (seen b)) (lookup (more ++ small) p)
   entry-again [] p = moves.entries p
   entry-again (b ∷ more) p =
@@ -531,12 +531,13 @@ module _ (small real : Context) (to back : ℕ → ℕ) (moves : Moves small rea
         ∙ told_unless test (same_shape l r) (Matches []) _ _ (told_unless test (is_any r) (Matches []) _ _
         (form_again (comparison steps) (comparison_again steps) more l r))
 
--- a test that is the same for all that comes again, wherever the entries stand
-abbrev pub TestsAgain : (Demand → Bool) → Type 0
-TestsAgain test = (small real : Context) (to back : ℕ → ℕ) (moves : Moves small real to back) (more : Context) (l r : Set) → test (demanded (again small real to back moves more) (renamed_set to l) (renamed_set to r)) ≡ test (demanded (more ++ small) l r)
+-- a test that is the same for all that comes again with the oldest entries where they are, wherever the others stand
+abbrev pub TestsAgain : ℕ → (Demand → Bool) → Type 0
+TestsAgain oldest test = (small real : Context) (to back : ℕ → ℕ) (moves : Moves small real to back) → oldest ≤ length small
+    → ((p : ℕ) → p < oldest → to p ≡ p) → (more : Context) (l r : Set) → test (demanded (again small real to back moves more) (renamed_set to l) (renamed_set to r)) ≡ test (demanded (more ++ small) l r)
 
-pub settled_again : TestsAgain is_demand_settled
-settled_again = settled-again
+pub settled_again : (oldest : ℕ) → TestsAgain oldest is_demand_settled
+settled_again oldest small real to back moves within stays = settled-again small real to back moves
 
 -- renamings that agree on the positions of what is well formed
 renamings_agree : (sort : Sort) (n : ℕ) (to other : ℕ → ℕ) → ((p : ℕ) → p < n → other p ≡ to p)
@@ -692,12 +693,18 @@ module _ (small real : Context) (to : ℕ → ℕ) (formed : IsKindedContext sma
     entries = entry_out;
   }
 
-  pub told_embedded : (test : Demand → Bool) → TestsAgain test → (steps : ℕ) (l r : Shape)
+  still_out : (oldest : ℕ) → oldest ≤ length small → ((p : ℕ) → p < oldest → to p ≡ p) → (p : ℕ) → p < oldest → out p ≡ p
+  still_out oldest within stays p h =
+      onward_first (length small) (length real) to embeds.apart inside p (omega (arith, h, within)) ∙ stays p h
+
+  pub told_embedded : (oldest : ℕ) → oldest ≤ length small → ((p : ℕ) → p < oldest → to p ≡ p)
+      → (test : Demand → Bool) → TestsAgain oldest test → (steps : ℕ) (l r : Shape)
       → IsKinded (kinds_of small) [] l → IsKinded (kinds_of small) [] r
       → told test (comparison steps real (renamed to l) (renamed to r)) ≡ told test (comparison steps small l r)
-  told_embedded test alike steps l r left right =
+  told_embedded oldest within stays test alike steps l r left right =
       (λ i. told test (comparison steps real (sym (renamed_out ShapeSort l left) i) (sym (renamed_out ShapeSort r right) i)))
-      ∙ comparison_again small real out into moves_out test (alike small real out into moves_out) steps [] l r
+      ∙ comparison_again small real out into moves_out test
+      (alike small real out into moves_out within (still_out oldest within stays)) steps [] l r
 
   -- demands of sets
   pub demand_embedded : (l r : Set) → IsKindedSet (kinds_of small) [] l → IsKindedSet (kinds_of small) [] r
@@ -707,15 +714,21 @@ module _ (small real : Context) (to : ℕ → ℕ) (formed : IsKindedContext sma
       ∙ settled-again small real out into moves_out [] l r
 
   -- a type variable by its bound
-  pub told_bound_embedded : (test : Demand → Bool) → TestsAgain test → (steps : ℕ) (v : Var) (r : Shape)
+  pub told_bound_embedded : (oldest : ℕ) → oldest ≤ length small → ((p : ℕ) → p < oldest → to p ≡ p)
+      → (test : Demand → Bool) → TestsAgain oldest test → (steps : ℕ) (v : Var) (r : Shape)
       → IsKinded (kinds_of small) [] (TypeVariable v) → IsKinded (kinds_of small) [] r
       → told test (bound_compared (comparison steps) real (bound_of real (renamed_variable to v)) (renamed to r))
       ≡ told test (bound_compared (comparison steps) small (bound_of small v) r)
-  told_bound_embedded test alike steps v r named right =
+  told_bound_embedded oldest within stays test alike steps v r named right =
       (λ i. told test (bound_compared (comparison steps) real (bound_of real (variable_out (sym (renamed_out ShapeSort (TypeVariable v) named)) i)) (sym (renamed_out ShapeSort r right) i)))
-      ∙ bound_compared-again small real out into moves_out test (alike small real out into moves_out) (comparison steps)
-      (comparison_again small real out into moves_out test (alike small real out into moves_out) steps) [] v r
+      ∙ bound_compared-again small real out into moves_out test tests (comparison steps)
+      (comparison_again small real out into moves_out test tests steps) [] v r
     where
+      tests : (more : Context) (left other : Set)
+          → test (demanded (again small real out into moves_out more) (renamed_set out left) (renamed_set out other))
+          ≡ test (demanded (more ++ small) left other)
+      tests = alike small real out into moves_out within (still_out oldest within stays)
+
       variable_in : Shape → Var
       variable_in (TypeVariable w) = w
       variable_in _ = v
@@ -745,17 +758,17 @@ embeds_deeper passed base k = record {
 }
 
 -- The positions of the base stay.
-pub told_again : (test : Demand → Bool) → TestsAgain test → (base passed : Context) (steps : ℕ) (l r : Shape)
-    → IsWellFormedContext base → IsWellFormedShape base l → IsWellFormedShape base r
+pub told_again : (base : Context) (test : Demand → Bool) → TestsAgain (length base) test → (passed : Context) (steps : ℕ)
+    (l r : Shape) → IsWellFormedContext base → IsWellFormedShape base l → IsWellFormedShape base r
     → told test (comparison steps (passed ++ base) l r) ≡ told test (comparison steps base l r)
-told_again test alike base passed steps l r formed left right =
+told_again base test alike passed steps l r formed left right =
     let kinded = IsKindedContext-from base formed in
     let still : (s : Shape) → IsWellFormedShape base s → renamed (λ p. p) s ≡ s =
     λ s h. renamed_same ShapeSort (length base) (λ p. p) (λ p l. refl) s (well_formed-positions_below ShapeSort base s h) in
     (λ i. told test (comparison steps (passed ++ base) (sym (still l left) i) (sym (still r right) i)))
     ∙ told_embedded base (passed ++ base) (λ p. p) kinded
     (λ p h s d is. older_members base kinded p s d (older_there p h s d is)) (embeds_deeper passed base kinded)
-    test alike steps l r (IsKinded-from (kinds_of base) [] l left) (IsKinded-from (kinds_of base) [] r right)
+    (length base) (omega arith) (λ p l. refl) test alike steps l r (IsKinded-from (kinds_of base) [] l left) (IsKinded-from (kinds_of base) [] r right)
   where
     older_there : (p : ℕ) → p < length base → (s : Shape) (d : Set) → lookup (passed ++ base) p ≡ Some (TermEntry s d)
         → lookup base p ≡ Some (TermEntry s d)
@@ -764,13 +777,13 @@ told_again test alike base passed steps l r formed left right =
         there.1 ∙ sym (lookup-more passed base p there.0 there.1) ∙ is
 
 pub compared_again : ComparedAgain
-compared_again base passed steps l r = told_again is_demand_settled settled_again base passed steps l r
+compared_again base passed steps l r = told_again base is_demand_settled (settled_again (length base)) passed steps l r
 
 pub compared_embedded : ComparedEmbedded
 compared_embedded small real to steps l r formed larger embeds left right =
     told_embedded small real to (IsKindedContext-from small formed)
     (λ p h. older_members real (IsKindedContext-from real larger) (to p)) embeds
-    is_demand_settled settled_again steps l r
+    zero (omega arith) (λ p h. absurd (omega (arith, h))) is_demand_settled (settled_again zero) steps l r
     (IsKinded-from (kinds_of small) [] l left) (IsKinded-from (kinds_of small) [] r right)
 
 pub settled_embedded : SettledEmbedded

@@ -1,7 +1,7 @@
 -- The ends of what is kept, and what is known of ends in the context in which a comparison began.
 use Rattle.std.proofs.Common.{◌≡◌, ℕ, zero, suc, ◌<◌, ◌≤◌, Bool, true, false, not, cond, ◌||◌, ◌&&◌, List, []}
 use Rattle.std.proofs.Common.{◌∷◌, ◌++◌, length, Some, None, refl, sym, ap, ◌∙◌, subst, arith}
-use Rattle.std.proofs.Common.{length-append, set}
+use Rattle.std.proofs.Common.{length-append, set, get_or}
 use Rattle.cc_subty.specs.declared.demands.Demand.{Demand as DeclaredDemand}
 use Rattle.cc_subty.specs.Demands.{demand_of, asked_of}
 use Rattle.std.specs.List.{list_all}
@@ -26,10 +26,11 @@ use Rattle.cc_sets.proofs.SubcapturingSearch.{set_lower}
 use Rattle.cc_known.specs.declared.ended.EndedDemand.{EndedDemand}
 use Rattle.cc_known.specs.declared.known.KnownEnds.{KnownEnds}
 use Rattle.cc_known.specs.EndedDemands.{same_ended, HasEnds, is_among, AreThose, IsEndedIn, is_known_end}
-use Rattle.cc_known.specs.Keeping.{is_end, beyond, declared_of, given_way, all_given_way, ends_beyond}
+use Rattle.cc_known.specs.Keeping.{is_end, beyond, declared_of, given_way, all_given_way, ends_beyond, fillable}
 use Rattle.cc_known.specs.Keeping.{is_ended_so, has_ended_so, is_repeated, is_settled, may_force, has_lost, with_one}
 use Rattle.cc_known.specs.KeptWalks.{StandsOn, IsKnownAgain}
 use Rattle.cc_known.proofs.DemandEnds.{beyond_both, stays}
+use Rattle.cc_known.proofs.FillableSets.{Member-fillable, fillable_on}
 use Rattle.cc_known.proofs.KnownSets.{still}
 
 -- one more in a list
@@ -71,7 +72,9 @@ those_more before after asked p ended put is old other =
 -- what has no ends to be noted changes nothing
 not_ended : (ends right : Set) (a : Asked) → HasEnds None a → is_ended_so ends right a ≡ false
 not_ended ends right (IsBelow d) is =
-    ap (λ h. not h && (same_set ends (ends_beyond d.context d.right d.left) && same_set right d.right)) is
+    ap
+    (λ h. not h && (same_set ends (ends_beyond d.context d.right d.left) && same_set right (fillable d.context d.right)))
+    is
 not_ended ends right (IsCapless c) is = refl
 
 pub those_still : (before : List EndedDemand) (asked : List Placed) (p : Placed) → HasEnds None p.asked
@@ -114,19 +117,27 @@ ends_on passed base right left formed =
     let low = set_lower base left formed q (beyond_both right left (Variable (Free q)) m).0 in omega (arith, low, from))
     ∙ given_alike passed base right (beyond right left) (length base) (omega arith))
 
--- a demand that is known to repeat something is not kept
-pub again_goes : (at : Place) (n : ℕ) (base g : Context) (l r : Set) (log : List Placed) → StandsOn base g
-    → IsKnownAgain base log l r → log ≡ with_one log (demand_at at (demanded g (read_set n l) (read_set n r)))
-again_goes at n base g l r log s k =
+-- a set of the base is read as it stands
+pub set_still : (n : ℕ) (base : Context) (c : Set) → IsWellFormedSet base c → read_set n c ≡ c
+set_still n base c h = still n base c h
+
+-- what is known to repeat something repeats it where it is read
+pub again_repeated : (n : ℕ) (base g : Context) (l r : Set) (log : List Placed) → StandsOn base g → IsKnownAgain base log l r
+    → is_repeated log (IsBelow (demanded g (read_set n l) (read_set n r))) ≡ true
+again_repeated n base g l r log s k =
     let p = still n base l k.lower in
     let q = still n base r k.upper in
     let here : is_repeated log (IsBelow (demanded g l r)) ≡ true =
     subst (λ x. is_repeated log (IsBelow (demanded x l r)) ≡ true) (sym s.is)
-    (ap (λ e. has_ended_so log e r) (ends_on s.passed base r l k.lower) ∙ k.again) in
-    let there : is_repeated log (IsBelow (demanded g (read_set n l) (read_set n r))) ≡ true =
-    (λ i. is_repeated log (IsBelow (demanded g (p i) (q i)))) ∙ here in
+    ((λ i. has_ended_so log (ends_on s.passed base r l k.lower i) (fillable_on s.passed base r k.upper i)) ∙ k.again) in
+    (λ i. is_repeated log (IsBelow (demanded g (p i) (q i)))) ∙ here
+
+-- a demand that is known to repeat something is not kept
+pub again_goes : (at : Place) (n : ℕ) (base g : Context) (l r : Set) (log : List Placed) → StandsOn base g
+    → IsKnownAgain base log l r → log ≡ with_one log (demand_at at (demanded g (read_set n l) (read_set n r)))
+again_goes at n base g l r log s k =
     sym
-    (repeated_goes log (demand_at at (demanded g (read_set n l) (read_set n r))) there)
+    (repeated_goes log (demand_at at (demanded g (read_set n l) (read_set n r))) (again_repeated n base g l r log s k))
   where
     repeated_goes : (list : List Placed) (placed : Placed) → is_repeated list placed.asked ≡ true
         → with_one list placed ≡ list
@@ -140,7 +151,7 @@ pub known_again : (base : Context) (log : List Placed) (l r : Set) (ended : Ende
 known_again base log l r ended is again = record {
   lower = is.lower;
   upper = is.upper;
-  again = (λ i. has_ended_so log (sym is.ends i) (sym is.same i)) ∙ again;
+  again = (λ i. has_ended_so log (sym is.ends i) (sym is.filled i)) ∙ again;
 }
 
 -- the base of a well-formed context is well formed
@@ -154,15 +165,17 @@ base_formed base g s formed = without s.passed (subst IsWellFormedContext s.is f
         (and_parts (is_well_formed_entry (kinds_of (passed ++ base)) b) (is_well_formed_context (passed ++ base)) h).1
 
 -- sets without members have no ends
-pub no_ends_known : (context : Context) (known : KnownEnds) → known.left ≡ empty → known.demand.ends ≡ empty
-    → known.demand.right ≡ empty → is_known_end context known ≡ true
-no_ends_known context known left ends right =
+pub no_ends_known : (context : Context) (known : KnownEnds) → known.left ≡ empty → known.right ≡ empty
+    → known.demand.ends ≡ empty → known.demand.right ≡ empty → is_known_end context known ≡ true
+no_ends_known context known left right ends filled =
     (λ i. (is_well_formed_set (kinds_of context) [] (left i) && is_well_formed_set (kinds_of context) [] (right i))
-    && same_set (ends i) (ends_beyond context (right i) (left i)))
+    && (same_set (ends i) (ends_beyond context (right i) (left i)) && same_set (filled i) (fillable context (right i))))
     ∙ and_from (is_well_formed_set (kinds_of context) [] empty && is_well_formed_set (kinds_of context) [] empty)
-    (same_set empty (ends_beyond context empty empty))
+    (same_set empty (ends_beyond context empty empty) && same_set empty (fillable context empty))
     (and_from (is_well_formed_set (kinds_of context) [] empty) (is_well_formed_set (kinds_of context) [] empty) formed formed)
+    (and_from (same_set empty (ends_beyond context empty empty)) (same_set empty (fillable context empty))
     ((same_set-decides empty (ends_beyond context empty empty)).1 none)
+    ((same_set-decides empty (fillable context empty)).1 nothing))
   where
     formed : is_well_formed_set (kinds_of context) [] empty ≡ true
     formed = IsKindedSet-test (kinds_of context) [] empty (empty_kinded (kinds_of context) [])
@@ -181,35 +194,48 @@ no_ends_known context known left ends right =
         (stays context empty (beyond empty empty) zero (length context) (omega arith)
         (λ q from to l. no_member (Variable (Free q)) l)) here)))
 
+    nothing : empty ≡ fillable context empty
+    nothing =
+        same_members empty (fillable context empty) (λ e m. absurd (Member-empty e m))
+        (λ e m. absurd (Member-empty e ((Member-fillable context e empty).0 m).1))
+
 -- what is known of a set, as a fact
 pub ended_known : (context : Context) (known : KnownEnds) (left right : Set) → known.left ≡ left
-    → known.demand.right ≡ right → is_known_end context known ≡ true → IsEndedIn context left right known.demand
+    → known.right ≡ right → is_known_end context known ≡ true → IsEndedIn context left right known.demand
 ended_known context known left right same same' is =
     let k = and_parts (is_well_formed_set (kinds_of context) [] known.left
-    && is_well_formed_set (kinds_of context) [] known.demand.right)
-    (same_set known.demand.ends (ends_beyond context known.demand.right known.left)) is in
+    && is_well_formed_set (kinds_of context) [] known.right)
+    (same_set known.demand.ends (ends_beyond context known.right known.left)
+    && same_set known.demand.right (fillable context known.right)) is in
     let both = and_parts (is_well_formed_set (kinds_of context) [] known.left)
-    (is_well_formed_set (kinds_of context) [] known.demand.right) k.0 in
+    (is_well_formed_set (kinds_of context) [] known.right) k.0 in
+    let sets = and_parts (same_set known.demand.ends (ends_beyond context known.right known.left))
+    (same_set known.demand.right (fillable context known.right)) k.1 in
     record {
       lower = subst (IsWellFormedSet context) same both.0;
       upper = subst (IsWellFormedSet context) same' both.1;
       ends =
-          (same_set-decides known.demand.ends (ends_beyond context known.demand.right known.left)).0 k.1
+          (same_set-decides known.demand.ends (ends_beyond context known.right known.left)).0 sets.0
           ∙ (λ i. ends_beyond context (same' i) (same i));
-      same = same';
+      filled =
+          (same_set-decides known.demand.right (fillable context known.right)).0 sets.1
+          ∙ (λ i. fillable context (same' i));
     }
 
-pub known_ended : (context : Context) (known : KnownEnds) (left : Set) (demand : EndedDemand) → known.left ≡ left
-    → known.demand ≡ demand → IsEndedIn context left demand.right demand → is_known_end context known ≡ true
-known_ended context known left demand same same' is =
+pub known_ended : (context : Context) (known : KnownEnds) (left right : Set) (demand : EndedDemand) → known.left ≡ left
+    → known.right ≡ right → known.demand ≡ demand → IsEndedIn context left right demand → is_known_end context known ≡ true
+known_ended context known left right demand same upper same' is =
     (λ i. (is_well_formed_set (kinds_of context) [] (same i)
-    && is_well_formed_set (kinds_of context) [] (same' i).right)
-    && same_set (same' i).ends (ends_beyond context (same' i).right (same i)))
-    ∙ and_from (is_well_formed_set (kinds_of context) [] left && is_well_formed_set (kinds_of context) [] demand.right)
-    (same_set demand.ends (ends_beyond context demand.right left))
-    (and_from (is_well_formed_set (kinds_of context) [] left) (is_well_formed_set (kinds_of context) [] demand.right)
+    && is_well_formed_set (kinds_of context) [] (upper i))
+    && (same_set (same' i).ends (ends_beyond context (upper i) (same i))
+    && same_set (same' i).right (fillable context (upper i))))
+    ∙ and_from (is_well_formed_set (kinds_of context) [] left && is_well_formed_set (kinds_of context) [] right)
+    (same_set demand.ends (ends_beyond context right left) && same_set demand.right (fillable context right))
+    (and_from (is_well_formed_set (kinds_of context) [] left) (is_well_formed_set (kinds_of context) [] right)
     is.lower is.upper)
-    ((same_set-decides demand.ends (ends_beyond context demand.right left)).1 is.ends)
+    (and_from (same_set demand.ends (ends_beyond context right left)) (same_set demand.right (fillable context right))
+    ((same_set-decides demand.ends (ends_beyond context right left)).1 is.ends)
+    ((same_set-decides demand.right (fillable context right)).1 is.filled))
 
 pub none_ended : (context : Context) (known : List KnownEnds) → known ≡ [] → list_all (is_known_end context) known ≡ true
 none_ended context known none = ap (list_all (is_known_end context)) none
@@ -237,6 +263,17 @@ pub those_added : (before middle after : List EndedDemand) (ds ds' : List Declar
 those_added before middle after ds ds' d ended same put is more old =
     subst (AreThose after) (sym (ap asked_of more ∙ asked-push ds d))
     (those_more middle after (asked_of ds) (demand_of d) ended put is (λ other. same other ∙ old other))
+
+-- one of them
+pub known-at : (context : Context) (known : List KnownEnds) (i : ℕ) (one : KnownEnds)
+    → (i < length known) × (one ≡ get_or known i one) → list_all (is_known_end context) known ≡ true
+    → is_known_end context one ≡ true
+known-at context [] i one at all = absurd (omega (arith, at.0))
+known-at context (k ∷ known) zero one at all =
+    ap (is_known_end context) at.1 ∙ (and_parts (is_known_end context k) (list_all (is_known_end context) known) all).0
+known-at context (k ∷ known) (suc i) one at all =
+    known-at context known i one (omega (arith, at.0), at.1)
+    (and_parts (is_known_end context k) (list_all (is_known_end context) known) all).1
 
 -- with another one at a place
 pub known-set : (context : Context) (known : List KnownEnds) (i : ℕ) (other : KnownEnds)

@@ -1,6 +1,9 @@
+pub mod ClosedAgain
 pub mod ComparedAgain
 pub mod DemandEnds
 pub mod EndedLists
+pub mod EndsAgain
+pub mod FillableSets
 pub mod FilledAlike
 pub mod FormedParts
 pub mod GreatestPositions
@@ -13,6 +16,7 @@ pub mod KeyedPairs
 pub mod KnownSets
 pub mod LostDemands
 pub mod MeasuredShapes
+pub mod NeedlessLater
 pub mod RememberedPairs
 pub mod RepeatedDemands
 pub mod SettledTests

@@ -21,7 +21,7 @@ use Rattle.cc_core.proofs.SubcapturingContexts.{IsKindedContext, IsKindedContext
 use Rattle.cc_core.proofs.SubcapturingLemmas.{subcaptures_along, subcaptures_above}
 use Rattle.cc_checking.specs.Comparison.{Demand}
 use Rattle.cc_checking.specs.Outcomes.{Asked, IsBelow, IsCapless, Placed}
-use Rattle.cc_checking.specs.Fillings.{Filling, filled_context, IsServed, IsAskedIn, IsOverGlobals}
+use Rattle.cc_checking.specs.Fillings.{Filling, filled_context, IsServed, IsOverGlobals}
 use Rattle.cc_typing_laws.proofs.FormedContexts.{IsKindedContext-test}
 use Rattle.cc_checking_laws.specs.FillingLaws.{IsFit}
 use Rattle.cc_checking_laws.proofs.LeastFillings.{Member-filled, Member-from_filled, lookup-filled, lookup-from_filled}

@@ -1,8 +1,8 @@
 -- Shapes of which it is known that so many steps from them there is one that names no position from one on.
-use Rattle.std.proofs.Common.{◌≡◌, ◌≢◌, ℕ, suc, ◌-◌, ◌≤◌, Bool, true, false, ◌||◌, Option, None, refl, subst, sym, ◌∙◌, arith}
-use Rattle.cc_core.specs.Shapes.{Shape, BaseShape, AnyShape, TypeVariable, FunctionShape, TypeFunctionShape, BoxShape}
-use Rattle.cc_core.specs.Shapes.{ExitShape, CapturingType}
-use Rattle.cc_core.specs.Occurrences.{MeetsInSet, Meets, MeetsInType, without}
+use Rattle.std.proofs.Common.{◌≡◌, ℕ, ◌≤◌, Bool, true, false, ◌||◌, None, subst, ◌∙◌}
+use Rattle.cc_core.specs.Shapes.{Shape, FunctionShape, TypeFunctionShape}
+use Rattle.cc_core.specs.Shapes.{CapturingType}
+use Rattle.cc_core.specs.Occurrences.{Meets, MeetsInType, without}
 use Rattle.cc_core.specs.Questions.{Question, occurs, occurs_in_type}
 use Rattle.cc_core.proofs.OccurrenceTests.{decided, decided_type, position-decides}
 use Rattle.cc_checking.specs.Avoidance.{is_free_in}

@@ -27,9 +27,11 @@ use Rattle.cc_checking_laws.specs.FillingLaws.{AreGlobals, IsFit}
 use Rattle.cc_checking_laws.proofs.CheckedDefinitions.{all_terms}
 use Rattle.cc_checking_laws.proofs.LeastFillings.{Member-filled, Member-from_filled, lookup-filled, globals_still}
 use Rattle.cc_checking_laws.proofs.LeastFillings.{filled_context-append}
-use Rattle.cc_known.specs.Keeping.{has_hole, is_end, beyond, declared_of, all_given_way, ends_beyond}
+use Rattle.cc_core.specs.ClosedEntries.{closed_entries}
+use Rattle.cc_known.specs.Keeping.{has_hole, is_end, beyond, declared_of, all_given_way, ends_beyond, may_fill, fillable}
 use Rattle.cc_known.specs.Keeping.{is_ended_so, has_ended_so, may_force, is_repeated}
 use Rattle.cc_known.proofs.DemandEnds.{beyond_both, both_beyond, member_cases, declared_is_lower, declared_is_kinded}
+use Rattle.cc_known.proofs.FillableSets.{Member-fillable, global_fills, fillable_hole, filled_none, below_globals}
 use Rattle.cc_known.proofs.KeptDemands.{none_passes}
 
 -- all that is asked is fit over the globals
@@ -261,66 +263,80 @@ module _ (globals : Context) (formed : IsWellFormedContext globals) (alone : Are
       filled_context-append f later globals
       ∙ ap (λ g. filled_context f later ++ g) (globals_still f globals alone)
 
-  -- a global that is below a set in one context on top of the globals is below it in each
-  global_moves : (later later' : Context) (e : Elem) (c : Set) → IsGlobal (length globals) e
-      → Subcaptures (filled_context f (later ++ globals)) e c → Subcaptures (filled_context f (later' ++ globals)) e c
-  global_moves later later' e c is below =
+  -- A global that is below a set in one context on top of the globals is below each that has the same globals in each.
+  global_moves : (later later' : Context) (e : Elem) (c c' : Set) → IsGlobal (length globals) e
+      → ((x : Elem) → IsGlobal (length globals) x → Member x c → Member x c')
+      → Subcaptures (filled_context f (later ++ globals)) e c → Subcaptures (filled_context f (later' ++ globals)) e c'
+  global_moves later later' e c c' is into below =
       let known = IsKindedSet-test (kinds_of globals) [] (single e)
       (λ x m. subst (IsKindedElement (kinds_of globals) []) (sym (Member-single x e m)) (global_kinded e is)) in
       let here : SubcapturesSet (filled_context f later ++ globals) (single e) c =
       λ x m. subst (λ g. Subcaptures g x c) (filled_later later)
       (subst (λ y. Subcaptures (filled_context f (later ++ globals)) y c) (sym (Member-single x e m)) below) in
-      let there = subcaptures_longer globals (filled_context f later') (single e) c
-      (subcaptures_shorter globals (filled_context f later) (single e) c formed known here) in
-      subst (λ g. Subcaptures g e c) (sym (filled_later later')) (there e (Member-single_itself e))
+      let alone_there : Subcaptures globals e c' =
+      below_globals (subcaptures_shorter globals (filled_context f later) (single e) c formed known here e (Member-single_itself e))
+      alone formed is c' into in
+      let there = subcaptures_longer globals (filled_context f later') (single e) c'
+      (λ x m. subst (λ y. Subcaptures globals y c') (sym (Member-single x e m)) alone_there) in
+      subst (λ g. Subcaptures g e c') (sym (filled_later later')) (there e (Member-single_itself e))
 
-  module _ (later later' : Context) (right : Set) where
+  module _ (later later' : Context) (right right' : Set) (none : has_hole right ≡ false) (none' : has_hole right' ≡ false)
+      (into : (x : Elem) → IsGlobal (length globals) x → Member x right → Member x right') where
     abbrev g : Context
     g = filled_context f (later ++ globals)
 
     abbrev g' : Context
     g' = filled_context f (later' ++ globals)
 
-    abbrev filled_right : Set
-    filled_right = filled_set f right
-
-    -- what becomes of a member of the right set is below it
-    member_moves : (x e : Elem) → Member x right → Member e (filled_element f x) → Subcaptures g' e filled_right
-    member_moves x e m l = element (Member-filled f x e right m l)
+    global_below : (e : Elem) → IsGlobal (length globals) e → Subcaptures g e (filled_set f right)
+        → Subcaptures g' e (filled_set f right')
+    global_below e is below =
+        subst (Subcaptures g' e) (sym (filled_none f right' none'))
+        (global_moves later later' e right right' is into (subst (Subcaptures g e) (filled_none f right none) below))
 
     -- what becomes of an end is below in both contexts or in none
-    end_moves : (x e : Elem) → is_end x ≡ true → Member e (filled_element f x) → Subcaptures g e filled_right
-        → Subcaptures g' e filled_right
+    end_moves : (x e : Elem) → is_end x ≡ true → Member e (filled_element f x) → Subcaptures g e (filled_set f right)
+        → Subcaptures g' e (filled_set f right')
     end_moves (Variable v) e is m below = cc
     end_moves Cap e is m below =
-        global_moves later later' e filled_right (subst (IsGlobal (length globals)) (sym (Member-single e Cap m)) tt)
-        below
-    end_moves (Hole n) e is m below = global_moves later later' e filled_right (over n e m) below
+        global_below e (subst (IsGlobal (length globals)) (sym (Member-single e Cap m)) tt) below
+    end_moves (Hole n) e is m below = global_below e (over n e m) below
 
     -- so are all ends
-    ends_move : (set : Set) → ((x : Elem) → Member x set → is_end x ≡ true) → SubcapturesSet g (filled_set f set) filled_right
-        → SubcapturesSet g' (filled_set f set) filled_right
+    ends_move : (set : Set) → ((x : Elem) → Member x set → is_end x ≡ true)
+        → SubcapturesSet g (filled_set f set) (filled_set f right) → SubcapturesSet g' (filled_set f set) (filled_set f right')
     ends_move set only below e m =
         let m' = Member-from_filled f e set m in end_moves m'.0 e (only m'.0 m'.1) m'.2 (below e m)
 
-  -- what has the ends and the right set of a demand that is served is served
+  -- the globals of a right set are those of each of which the same may be put in for holes
+  same_globals : (first again : Demand) → IsFit globals (IsBelow first) → IsFit globals (IsBelow again)
+      → fillable again.context again.right ≡ fillable first.context first.right
+      → (x : Elem) → IsGlobal (length globals) x → Member x first.right → Member x again.right
+  same_globals first again fit fit' same x is m =
+      let fills = subst (λ h. may_fill (closed_entries h) x ≡ true) (sym fit.0.1) (global_fills fit.0.0 globals alone x is) in
+      let here = (Member-fillable first.context x first.right).1 (fills, m) in
+      ((Member-fillable again.context x again.right).0 (subst (Member x) (sym same) here)).1
+
+  -- what has the ends of a demand that is served, and what may be put in for holes of its right set, is served
   served_again : (first again : Demand) → IsFit globals (IsBelow first) → IsFit globals (IsBelow again)
-      → is_ended_so (ends_beyond again.context again.right again.left) again.right (IsBelow first) ≡ true
+      → is_ended_so (ends_beyond again.context again.right again.left) (fillable again.context again.right) (IsBelow first) ≡ true
       → IsServed f (IsBelow first) → IsServed f (IsBelow again)
   served_again first again fit fit' is served =
       let k = and_parts (not (has_hole first.right))
       (same_set (ends_beyond again.context again.right again.left) (ends_beyond first.context first.right first.left)
-      && same_set again.right first.right) is in
+      && same_set (fillable again.context again.right) (fillable first.context first.right)) is in
       let both = and_parts
       (same_set (ends_beyond again.context again.right again.left) (ends_beyond first.context first.right first.left))
-      (same_set again.right first.right) k.1 in
+      (same_set (fillable again.context again.right) (fillable first.context first.right)) k.1 in
       let ends : ends_beyond again.context again.right again.left ≡ ends_beyond first.context first.right first.left =
       (same_set-decides _ _).0 both.0 in
-      let right : again.right ≡ first.right = (same_set-decides again.right first.right).0 both.1 in
+      let right : fillable again.context again.right ≡ fillable first.context first.right = (same_set-decides _ _).0 both.1 in
       let none : has_hole first.right ≡ false = not-true (has_hole first.right) k.0 in
-      let none' : has_hole again.right ≡ false = ap has_hole right ∙ none in
+      let none' : has_hole again.right ≡ false =
+      sym (fillable_hole again.context again.right) ∙ ap has_hole right ∙ fillable_hole first.context first.right ∙ none in
       let here = (ends_below f first.context first.right fit.1 none first.left fit.2).0 served in
-      let there = ends_move fit.0.0 fit'.0.0 first.right (ends_beyond first.context first.right first.left)
+      let there = ends_move fit.0.0 fit'.0.0 first.right again.right none none' (same_globals first again fit fit' right)
+      (ends_beyond first.context first.right first.left)
       (λ x m. ((Member-retain is_end x
       (all_given_way first.context first.right (length first.context) (beyond first.right first.left))).0 m).0)
       (subst (λ g. SubcapturesSet (filled_context f g)
@@ -329,15 +345,13 @@ module _ (globals : Context) (formed : IsWellFormedContext globals) (alone : Are
       (subst (λ g. SubcapturesSet (filled_context f g)
       (filled_set f (ends_beyond again.context again.right again.left)) (filled_set f again.right)) (sym fit'.0.1)
       (subst (λ e. SubcapturesSet (filled_context f (fit'.0.0 ++ globals)) (filled_set f e) (filled_set f again.right))
-      (sym ends)
-      (subst (λ r. SubcapturesSet (filled_context f (fit'.0.0 ++ globals))
-      (filled_set f (ends_beyond first.context first.right first.left)) (filled_set f r)) (sym right) there)))
+      (sym ends) there))
 
   pub repeated_served : (list : List Placed) (a : Asked) → AllFit globals list → IsFit globals a → AllServed f list
       → is_repeated list a ≡ true → IsServed f a
   repeated_served [] (IsBelow d) fits fit all is = cc
   repeated_served (p ∷ list) (IsBelow d) fits fit all is =
-      elim (or_cases (is_ended_so (ends_beyond d.context d.right d.left) d.right p.asked)
+      elim (or_cases (is_ended_so (ends_beyond d.context d.right d.left) (fillable d.context d.right) p.asked)
       (is_repeated list (IsBelow d)) is)
       as (λ _. IsServed f (IsBelow d)) [
         | inl here ↦ by_asked p.asked fits.0 all.0 here
@@ -345,7 +359,7 @@ module _ (globals : Context) (formed : IsWellFormedContext globals) (alone : Are
       ]
     where
       by_asked : (a : Asked) → IsFit globals a → IsServed f a
-          → is_ended_so (ends_beyond d.context d.right d.left) d.right a ≡ true → IsServed f (IsBelow d)
+          → is_ended_so (ends_beyond d.context d.right d.left) (fillable d.context d.right) a ≡ true → IsServed f (IsBelow d)
       by_asked (IsBelow first) fit' served h = served_again first d fit' fit h served
       by_asked (IsCapless c) fit' served h = cc
   repeated_served list (IsCapless c) fits fit all is = cc
@@ -353,12 +367,14 @@ module _ (globals : Context) (formed : IsWellFormedContext globals) (alone : Are
 -- what is ended so has no hole on its right side
 pub ended_has_none : (ends right : Set) (a : Asked) → is_ended_so ends right a ≡ true → has_hole right ≡ false
 ended_has_none ends right (IsBelow d) h =
-    let k = and_parts (not (has_hole d.right)) (same_set ends (ends_beyond d.context d.right d.left) && same_set right d.right) h in
-    let both = and_parts (same_set ends (ends_beyond d.context d.right d.left)) (same_set right d.right) k.1 in
-    ap has_hole ((same_set-decides right d.right).0 both.1) ∙ not-true (has_hole d.right) k.0
+    let k = and_parts (not (has_hole d.right))
+    (same_set ends (ends_beyond d.context d.right d.left) && same_set right (fillable d.context d.right)) h in
+    let both = and_parts (same_set ends (ends_beyond d.context d.right d.left)) (same_set right (fillable d.context d.right)) k.1 in
+    ap has_hole ((same_set-decides right (fillable d.context d.right)).0 both.1) ∙ fillable_hole d.context d.right
+    ∙ not-true (has_hole d.right) k.0
 ended_has_none ends right (IsCapless c) h = cc
 
-pub any_ended_has_none : (list : List Placed) (ends right : Set) → has_ended_so list ends right ≡ true
+any_ended_has_none : (list : List Placed) (ends right : Set) → has_ended_so list ends right ≡ true
     → has_hole right ≡ false
 any_ended_has_none [] ends right h = cc
 any_ended_has_none (p ∷ list) ends right h =
@@ -367,9 +383,13 @@ any_ended_has_none (p ∷ list) ends right h =
       | inr later ↦ any_ended_has_none list ends right later
     ]
 
+pub repeated_has_none : (list : List Placed) (d : Demand) → is_repeated list (IsBelow d) ≡ true → has_hole d.right ≡ false
+repeated_has_none list d h =
+    sym (fillable_hole d.context d.right)
+    ∙ any_ended_has_none list (ends_beyond d.context d.right d.left) (fillable d.context d.right) h
+
 -- what may force something is never repeated
 pub force_not_repeated : (list : List Placed) (a : Asked) → may_force a ≡ true → is_repeated list a ≡ false
 force_not_repeated list (IsBelow d) force =
-    false_from_ne_true (is_repeated list (IsBelow d))
-    (λ h. both_ways (has_hole d.right) (any_ended_has_none list (ends_beyond d.context d.right d.left) d.right h) force)
+    false_from_ne_true (is_repeated list (IsBelow d)) (λ h. both_ways (has_hole d.right) (repeated_has_none list d h) force)
 force_not_repeated list (IsCapless c) force = refl

@@ -13,7 +13,7 @@ use Rattle.cc_capture.proofs.Equality.{same_set-decides}
 use Rattle.cc_core.specs.Contexts.{Context}
 use Rattle.cc_core.specs.WellFormed.{kinds_of, is_well_formed_set, IsWellFormedSet}
 use Rattle.cc_checking.specs.Outcomes.{Asked, IsBelow, IsCapless, Placed}
-use Rattle.cc_known.specs.Keeping.{has_hole, is_end, ends_beyond, has_ended_so}
+use Rattle.cc_known.specs.Keeping.{has_hole, is_end, ends_beyond, fillable, has_ended_so}
 use Rattle.cc_known.specs.declared.ended.EndedDemand.{EndedDemand}
 use Rattle.cc_known.specs.declared.known.KnownEnds.{KnownEnds}
 
@@ -48,11 +48,11 @@ ended_input-equal one other same =
     let right : one.right ≡ other.right = (same_set-decides one.right other.right).0 both.1 in
     (λ i. set_input (ends i) ++ set_input (right i))
 
--- the demand has these ends, if it has no hole on its right side
+-- the demand has these ends, and these members of its right set may be put in for holes, if it has no hole there
 abbrev pub HasEnds : Option EndedDemand → Asked → Type 0
 HasEnds (Some ended) (IsBelow demand) =
     (has_hole demand.right ≡ false) × (ended.ends ≡ ends_beyond demand.context demand.right demand.left)
-    × (ended.right ≡ demand.right)
+    × (ended.right ≡ fillable demand.context demand.right)
 HasEnds (Some ended) (IsCapless set) = ⊥
 HasEnds None (IsBelow demand) = has_hole demand.right ≡ true
 HasEnds None (IsCapless set) = Unit {0}
@@ -86,15 +86,17 @@ IsLastBelow limit set position =
     Member (Variable (Free position)) set × (position < limit)
     × ((other : ℕ) → Member (Variable (Free other)) set → other ≤ position)
 
--- the context has well-formed sets, of which the left one has these ends beyond the right one
+-- The context has well-formed sets, of which the left one has these ends beyond the right one, which has these members
+-- that may be put in for holes.
 pub record IsEndedIn (context : Context) (left right : Set) (demand : EndedDemand) : Type 0 where
   pub lower : IsWellFormedSet context left
   pub upper : IsWellFormedSet context right
   pub ends : demand.ends ≡ ends_beyond context right left
-  pub same : demand.right ≡ right
+  pub filled : demand.right ≡ fillable context right
 
 -- Whether a left set is well formed in the context, and so is the right set, and the left one has these ends.
 abbrev pub is_known_end : Context → KnownEnds → Bool
 is_known_end context known =
-    (is_well_formed_set (kinds_of context) [] known.left && is_well_formed_set (kinds_of context) [] known.demand.right)
-    && same_set known.demand.ends (ends_beyond context known.demand.right known.left)
+    (is_well_formed_set (kinds_of context) [] known.left && is_well_formed_set (kinds_of context) [] known.right)
+    && (same_set known.demand.ends (ends_beyond context known.right known.left)
+    && same_set known.demand.right (fillable context known.right))

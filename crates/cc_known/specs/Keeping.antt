@@ -1,12 +1,13 @@
 -- Of what is asked, only what may force an element into a hole, or may be the first to fail under some filling, has to
 -- be kept.
-use Rattle.std.specs.Prelude.{ℕ, zero, suc, nat_eq, Bool, true, false, not, ◌&&◌, ◌||◌, List, [], ◌∷◌, ◌++◌, length}
+use Rattle.std.specs.Prelude.{ℕ, zero, suc, nat_eq, nat_lt, Bool, true, false, not, ◌&&◌, ◌||◌, List, [], ◌∷◌, ◌++◌, length}
 use Rattle.std.specs.Prelude.{Option, Some, None, if◌then◌else◌}
 use Rattle.std.specs.List.{list_any, list_all}
 use Rattle.cc_capture.specs.declared.var.Var.TheVariants.{Bound, Free}
 use Rattle.cc_capture.specs.declared.var.Elem.{Elem}
 use Rattle.cc_capture.specs.declared.var.Elem.TheVariants.{Var as Variable, Cap, Hole}
 use Rattle.cc_capture.specs.Sets.{Set, contains, empty, is_subset, same_set, union, retain, remove}
+use Rattle.cc_core.specs.ClosedEntries.{closed_entries}
 use Rattle.cc_core.specs.Contexts.{Bind, TermEntry, TypeEntry, Context, lookup}
 use Rattle.cc_core.specs.Questions.{is_hole}
 use Rattle.cc_core.specs.Substitution.{filled_set}
@@ -112,22 +113,34 @@ abbrev pub ends_beyond : Context → Set → Set → Set
 ends_beyond context right left =
     retain is_end (all_given_way context right (length context) (beyond right left))
 
--- Whether what is asked forces nothing, has this right set, and ends so: fillings over the globals serve all such
--- demands alike.
+-- whether it may be put in for a hole, where so many entries are older than all with holes: the globals are among them
+abbrev pub may_fill : ℕ → Elem → Bool
+may_fill closed (Variable (Free position)) = nat_lt position closed
+may_fill closed (Variable (Bound index)) = true
+may_fill closed Cap = true
+may_fill closed (Hole number) = true
+
+-- the members of a right set that may be put in for a hole: of the others no filling over the globals sees anything
+unfoldable pub fillable : Context → Set → Set
+fillable context right = retain (may_fill (closed_entries context)) right
+
+-- Whether what is asked forces nothing, has a right set of which this may be put in for holes, and ends so: fillings
+-- over the globals serve all such demands alike.
 abbrev pub is_ended_so : Set → Set → Asked → Bool
 is_ended_so ends right (IsBelow demand) =
     not (has_hole demand.right)
-    && (same_set ends (ends_beyond demand.context demand.right demand.left) && same_set right demand.right)
+    && (same_set ends (ends_beyond demand.context demand.right demand.left)
+    && same_set right (fillable demand.context demand.right))
 is_ended_so ends right (IsCapless set) = false
 
 -- whether something in the list is ended so
 abbrev pub has_ended_so : List Placed → Set → Set → Bool
 has_ended_so list ends right = list_any (λ placed. is_ended_so ends right placed.asked) list
 
--- whether it has the ends and the right set of something in the list
+-- whether it has the ends of something in the list, and what may be put in for holes of its right set
 abbrev pub is_repeated : List Placed → Asked → Bool
 is_repeated list (IsBelow demand) =
-    has_ended_so list (ends_beyond demand.context demand.right demand.left) demand.right
+    has_ended_so list (ends_beyond demand.context demand.right demand.left) (fillable demand.context demand.right)
 is_repeated list (IsCapless set) = false
 
 -- Whether it need not be kept behind the list. What forces nothing cannot be the first to fail behind what is lost, nor

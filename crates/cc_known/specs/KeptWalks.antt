@@ -17,6 +17,7 @@ use Rattle.cc_checking.specs.Comparison.{bound_compared, by_form, comparison}
 use Rattle.cc_checking.specs.Outcomes.{IsBelow, Placed}
 use Rattle.cc_checking.specs.Inference.{demand_at}
 use Rattle.cc_known.specs.ComparedAgain.{told}
+use Rattle.cc_known.specs.EndsAgain.{comes_again}
 use Rattle.cc_known.specs.Keeping.{has_hole, is_demand_settled, is_repeated, keeping}
 use Rattle.cc_known.specs.declared.keys.KeyedPair.{KeyedPair}
 use Rattle.cc_known.specs.declared.pairs.Pair.{Pair}
@@ -27,14 +28,14 @@ put true before more = before ++ more
 put false before more = keeping before more
 
 -- What is kept of a comparison that ends, by whether the whole is kept: the two do not match, or they do, and what they
--- demand is kept behind the log. Where it is said afterwards that all was settled, it was so before, and each of the
--- demands is settled.
-abbrev pub Keeps : Bool → Place → Comparison → Bool → Bool → Bool → List Placed → List Placed → Type 0
-Keeps whole at Unfinished matched was is before after = ⊥
-Keeps whole at Mismatch matched was is before after = matched ≡ false
-Keeps whole at (Matches demands) matched was is before after =
+-- demand is kept behind the log. Where it is said afterwards that all is needless wherever it comes again, it was so
+-- before, and each of the demands is so then, with the oldest variables where they are.
+abbrev pub Keeps : ℕ → Bool → Place → Comparison → Bool → Bool → Bool → List Placed → List Placed → Type 0
+Keeps oldest whole at Unfinished matched was is before after = ⊥
+Keeps oldest whole at Mismatch matched was is before after = matched ≡ false
+Keeps oldest whole at (Matches demands) matched was is before after =
     (matched ≡ true) × (after ≡ put whole before (map (demand_at at) demands))
-    × (is ≡ true → (was ≡ true) × (list_all is_demand_settled demands ≡ true))
+    × (is ≡ true → (was ≡ true) × (list_all (comes_again oldest after) demands ≡ true))
 
 -- the comparison of two shapes, read in the context, by their forms alone where they are not one
 abbrev pub form_compared : ℕ → Context → Shape → Shape → Comparison
@@ -67,9 +68,10 @@ pub record IsKnownAgain (context : Context) (log : List Placed) (left right : Se
   pub upper : IsWellFormedSet context right
   pub again : is_repeated log (IsBelow (demanded context left right)) ≡ true
 
--- Whether a demand is not kept behind any log, or else behind one where something is lost.
-abbrev pub goes : Bool → Demand → Bool
-goes lost demand = is_demand_settled demand || (lost && not (has_hole demand.right))
+-- Whether a demand that comes again with the oldest variables where they are is not kept behind the log, or else behind
+-- one where something is lost.
+abbrev pub goes : ℕ → List Placed → Bool → Demand → Bool
+goes oldest log lost demand = comes_again oldest log demand || (lost && not (has_hole demand.right))
 
 -- it is told, and told that they pass
 abbrev pub is_told : Option Bool → Bool
@@ -77,23 +79,25 @@ is_told (Some all) = all
 is_told None = false
 
 -- whether the comparison of a type variable's bound with a shape matches in so many steps, with demands that are not
--- kept
-abbrev pub is_matched : Context → Bool → ℕ → Var → Shape → Bool
-is_matched context lost steps variable right =
-    is_told (told (goes lost) (bound_compared (comparison steps) context (bound_of context variable) right))
+-- kept behind the log
+abbrev pub is_matched : ℕ → List Placed → Context → Bool → ℕ → Var → Shape → Bool
+is_matched oldest log context lost steps variable right =
+    is_told (told (goes oldest log lost) (bound_compared (comparison steps) context (bound_of context variable) right))
 
 -- whether, besides, the type variable and the shape are a name and a shape of the context
-abbrev pub is_remembered_as : Context → Bool → ℕ → Var → Shape → Bool
-is_remembered_as context lost steps variable right =
+abbrev pub is_remembered_as : ℕ → List Placed → Context → Bool → ℕ → Var → Shape → Bool
+is_remembered_as oldest log context lost steps variable right =
     (is_well_formed_shape (kinds_of context) [] (TypeVariable variable) && is_well_formed_shape (kinds_of context) [] right)
-    && is_matched context lost steps variable right
+    && is_matched oldest log context lost steps variable right
 
--- the same of a pair as it is stored
-abbrev pub is_remembered : Context → Pair → Bool
-is_remembered context pair = is_remembered_as context pair.lost pair.steps pair.variable (shape_of pair.right)
+-- the same of a pair as it is stored, with all variables of the context where they are
+abbrev pub is_remembered : List Placed → Context → Pair → Bool
+is_remembered log context pair =
+    is_remembered_as (length context) log context pair.lost pair.steps pair.variable (shape_of pair.right)
 
--- The same of a pair that is stored with the entries that it goes by, where they stand on top of a base.
-abbrev pub is_keyed : Context → KeyedPair → Bool
-is_keyed base pair =
+-- The same of a pair that is stored with the entries that it goes by, where they stand on top of a base, with the
+-- variables of the base where they are.
+abbrev pub is_keyed : List Placed → Context → KeyedPair → Bool
+is_keyed log base pair =
     is_well_formed_context (context_of pair.entries ++ base)
-    && is_remembered_as (context_of pair.entries ++ base) pair.lost pair.steps pair.variable (shape_of pair.right.value)
+    && is_remembered_as (length base) log (context_of pair.entries ++ base) pair.lost pair.steps pair.variable (shape_of pair.right.value)

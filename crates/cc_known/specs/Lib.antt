@@ -1,5 +1,6 @@
 pub mod ComparedAgain
 pub mod EndedDemands
+pub mod EndsAgain
 pub mod FilledHoles
 pub mod FormedDemands
 pub mod Keeping

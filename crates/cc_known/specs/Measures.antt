@@ -9,7 +9,7 @@ use Rattle.cc_capture.specs.declared.var.Elem.TheVariants.{Var as Variable}
 use Rattle.cc_capture.specs.Sets.{Set, contains}
 use Rattle.cc_capture.specs.Variables.{same_variable}
 use Rattle.cc_core.specs.Shapes.{Shape, BaseShape, AnyShape, TypeVariable, FunctionShape, TypeFunctionShape, BoxShape}
-use Rattle.cc_core.specs.Shapes.{ExitShape, CapturingType}
+use Rattle.cc_core.specs.Shapes.{ExitShape}
 use Rattle.cc_core.specs.Contexts.{TermEntry, Context, lookup}
 use Rattle.cc_core.specs.Questions.{Question}
 use Rattle.cc_core.specs.Sizes.{shape_size}

@@ -7,7 +7,8 @@ ghost use Rattle.cc_known.specs.EndedDemands as ended;
 use cc_capture::{CapSet, Elem, Var};
 use std::hash::{Hash, Hasher};
 
-/// Where a demand's left set ends, and its right set: all that fillings over the globals see of it.
+/// Where a demand's left set ends, and what of its right set may be put in for holes: all that fillings over the globals
+/// see of it.
 #[derive(Drop)]
 pub struct EndedDemand {
     pub ends: CapSet,

@@ -2,7 +2,7 @@
 //! remembered as if these entries alone stood on the base. That they stand in a context is tested, so a key that is not
 //! the right one costs time alone.
 
-ghost use Rattle.std.specs.Prelude.{ℕ, ◌≡◌, ◌+◌, ◌++◌, ◌<◌, ◌≤◌, true, length, IsTrue, IfOk, IfSome, option_map, Some};
+ghost use Rattle.std.specs.Prelude.{ℕ, List, ◌≡◌, ◌+◌, ◌++◌, ◌<◌, ◌≤◌, true, length, IsTrue, IfOk, IfSome, option_map, Some};
 ghost use Rattle.std.specs.List.{list_all};
 ghost use Rattle.cc_core.specs.Actions.{renamed_by};
 ghost use Rattle.cc_core.specs.Contexts.{Context, TermEntry, TypeEntry, lookup};
@@ -11,6 +11,7 @@ ghost use Rattle.cc_core.specs.Shapes.{TypeVariable, AnyShape};
 ghost use Rattle.cc_core.specs.Substitution.{renamed, renamed_set, renamed_variable};
 ghost use Rattle.cc_core.specs.TermViews.{shape_of, bind_of, context_of};
 ghost use Rattle.cc_core.specs.WellFormed.{kinds_of, is_well_formed_entry, IsWellFormedContext, IsWellFormedShape};
+ghost use Rattle.cc_checking.specs.Outcomes.{Placed};
 ghost use Rattle.cc_known.specs.ComparedAgain.{Embeds, renamed_entry, seen};
 ghost use Rattle.cc_known.specs.KeptWalks.{StandsOn, is_matched, is_keyed};
 
@@ -192,7 +193,7 @@ fn entries_stand(
     Ok(true)
 }
 
-// Whether the entries on top of the base stand in the context.
+// Whether the entries on top of the base stand in the context, and those of the base where they are.
 fn stand_in(
     alloc: Global,
     base: &Ctx,
@@ -202,7 +203,8 @@ fn stand_in(
 ) -> Result<bool, AllocError>
     requires context { IsWellFormedContext (context_of ctx.now) }
     requires base { StandsOn (context_of base.now) (context_of ctx.now) }
-    ensures { IfOk result (λ b. IsTrue b → Embeds (context_of entries.now ++ context_of base.now) (context_of ctx.now) (renamed_by to.now)) }
+    ensures { IfOk result (λ b. IsTrue b → Embeds (context_of entries.now ++ context_of base.now) (context_of ctx.now) (renamed_by to.now)
+        × ((position : ℕ) → position < length (context_of base.now) → renamed_by to.now position ≡ position)) }
 {
     if stays(to, steps::entries(base)) {
         entries_stand(alloc, base, entries, ctx, to)
@@ -263,7 +265,7 @@ fn is_met(
 ) -> Result<bool, AllocError>
     requires context { IsWellFormedContext (context_of ctx.now) }
     requires base { StandsOn (context_of base.now) (context_of ctx.now) }
-    ensures { IfOk result (λ b. IsTrue b → is_keyed (context_of base.now) pair.now ≡ true → is_matched (context_of ctx.now) lost steps variable (shape_of right.now.value) ≡ true) }
+    ensures { IfOk result (λ b. IsTrue b → (log : List Placed) → is_keyed log (context_of base.now) pair.now ≡ true → is_matched (length (context_of base.now)) log (context_of ctx.now) lost steps variable (shape_of right.now.value) ≡ true) }
 {
     if !is_of(pair, to, variable, steps, lost) {
         return Ok(false);
@@ -290,7 +292,7 @@ pub(crate) fn is_among(
 ) -> Result<bool, AllocError>
     requires context { IsWellFormedContext (context_of ctx.now) }
     requires base { StandsOn (context_of base.now) (context_of ctx.now) }
-    ensures { IfOk result (λ b. IsTrue b → list_all (is_keyed (context_of base.now)) pairs.now ≡ true → is_matched (context_of ctx.now) lost steps variable (shape_of right.now.value) ≡ true) }
+    ensures { IfOk result (λ b. IsTrue b → (log : List Placed) → list_all (is_keyed log (context_of base.now)) pairs.now ≡ true → is_matched (length (context_of base.now)) log (context_of ctx.now) lost steps variable (shape_of right.now.value) ≡ true) }
 {
     let mut limit = pairs.len();
     let mut next = last;
@@ -420,10 +422,9 @@ fn pair_with(
 ) -> Result<Option<KeyedPair>, AllocError>
     requires context { IsWellFormedContext (context_of ctx.now) }
     requires base { StandsOn (context_of base.now) (context_of ctx.now) }
-    requires matched { is_matched (context_of ctx.now) lost steps variable (shape_of right.now.value) ≡ true }
     requires formed { IsWellFormedContext (context_of entries.whole) }
     requires whole { context_of entries.whole ≡ context_of entries.own ++ context_of base.now }
-    ensures { IfOk result (λ o. IfSome o (λ pair. is_keyed (context_of base.now) pair ≡ true)) }
+    ensures { IfOk result (λ o. IfSome o (λ pair. (log : List Placed) → is_matched (length (context_of base.now)) log (context_of ctx.now) lost steps variable (shape_of right.now.value) ≡ true → is_keyed log (context_of base.now) pair ≡ true)) }
 {
     if !is_name(&entries.whole, key.variable) {
         return Ok(None);
@@ -466,8 +467,7 @@ pub(crate) fn pair_of(
 ) -> Result<Option<KeyedPair>, AllocError>
     requires context { IsWellFormedContext (context_of ctx.now) }
     requires base { StandsOn (context_of base.now) (context_of ctx.now) }
-    requires matched { is_matched (context_of ctx.now) lost steps variable (shape_of right.now.value) ≡ true }
-    ensures { IfOk result (λ o. IfSome o (λ pair. is_keyed (context_of base.now) pair ≡ true)) }
+    ensures { IfOk result (λ o. IfSome o (λ pair. (log : List Placed) → is_matched (length (context_of base.now)) log (context_of ctx.now) lost steps variable (shape_of right.now.value) ≡ true → is_keyed log (context_of base.now) pair ≡ true)) }
 {
     match entries_of(alloc, base, key.entries.as_slice())? {
         Some(entries) => pair_with(

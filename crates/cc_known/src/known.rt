@@ -1,9 +1,10 @@
 //! What is known on the way through a comparison.
 
-ghost use Rattle.std.specs.Prelude.{◌≡◌, ◌<◌, ◌≤◌, true, length, IsTrue, IfOk, OnOk, IfSome};
+ghost use Rattle.std.specs.Prelude.{◌≡◌, ◌<◌, ◌≤◌, true, List, [], length, IsTrue, IfOk, OnOk, IfSome};
 ghost use Rattle.std.specs.List.{list_all};
 ghost use Rattle.cc_core.specs.Contexts.{Context};
 ghost use Rattle.cc_core.specs.TermViews.{shape_of, context_of};
+ghost use Rattle.cc_checking.specs.Outcomes.{Placed};
 ghost use Rattle.cc_known.specs.EndedDemands.{IsEndedIn, is_known_end};
 ghost use Rattle.cc_core.specs.WellFormed.{IsWellFormedContext};
 ghost use Rattle.cc_known.specs.KeptWalks.{IsKnown, StandsOn, is_keyed, is_matched, is_remembered, is_remembered_as};
@@ -22,10 +23,11 @@ use std::rc::Rc;
 // For so many places the ends of a set are known.
 const PLACES: usize = 64;
 
-/// A left set with the ends that it has beyond a right set.
+/// A left set and a right set, and what fillings over the globals see of their demand.
 #[derive(Drop)]
 pub struct KnownEnds {
     pub left: CapSet,
+    pub right: CapSet,
     pub demand: EndedDemand,
 }
 
@@ -34,10 +36,12 @@ fn no_ends(alloc: Global) -> KnownEnds
     ensures { (context : Context) → is_known_end context result ≡ true }
 {
     let left = CapSet::new(alloc);
+    let upper = CapSet::new(alloc);
     let ends = CapSet::new(alloc);
     let right = CapSet::new(alloc);
     KnownEnds {
         left,
+        right: upper,
         demand: EndedDemand { ends, right },
     }
 }
@@ -55,19 +59,23 @@ fn no_ends_anywhere(alloc: Global) -> Result<Vec<KnownEnds>, AllocError>
     Ok(sets)
 }
 
-// A left set with the ends that it has in the context.
-fn known_ends(base: &Ctx, left: CapSet, demand: EndedDemand) -> KnownEnds
-    requires { IsEndedIn (context_of base.now) left demand.right demand }
+// A left set and a right set with the ends that they have in the context.
+fn known_ends(base: &Ctx, left: CapSet, right: CapSet, demand: EndedDemand) -> KnownEnds
+    requires { IsEndedIn (context_of base.now) left right demand }
     ensures { is_known_end (context_of base.now) result ≡ true }
 {
-    KnownEnds { left, demand }
+    KnownEnds {
+        left,
+        right,
+        demand,
+    }
 }
 
 // The demand, where it is that of the two sets.
 fn ends_if<'a>(known: &'a KnownEnds, left: &CapSet, right: &CapSet) -> Option<&'a EndedDemand>
     ensures { IfSome result (λ d. (context : Context) → is_known_end context known.now ≡ true → IsEndedIn context left.now right.now d.now) }
 {
-    if known.left == *left && known.demand.right == *right {
+    if known.left == *left && known.right == *right {
         Some(&known.demand)
     } else {
         None
@@ -106,15 +114,15 @@ pub struct Known {
     pub keyed: Vec<KeyedPair>,
     pub last_keyed: HashMap<u64, usize>,
     pub ghost known: { IsKnown (context_of base) left right },
-    pub ghost remembered: { list_all (is_remembered (context_of base)) pairs.items ≡ true },
-    pub ghost matched: { list_all (is_keyed (context_of base)) keyed.items ≡ true },
     pub ghost ended: { list_all (is_known_end (context_of base)) sets.items ≡ true },
 }
 
 impl Known {
     /// Nothing but that the set without elements is below itself.
     pub fn new(alloc: Global, base: Ctx) -> Known
-        ensures { result.base ≡ base }
+        ensures base { result.base ≡ base }
+        ensures pairs { result.pairs.items ≡ [] }
+        ensures keyed { result.keyed.items ≡ [] }
     {
         Known {
             base,
@@ -138,7 +146,9 @@ impl Known {
     /// Keeps in mind that the left set is below the right one.
     pub fn learn(&mut self, left: CapSet, right: CapSet)
         requires { IsKnown (context_of self.old.base) left right }
-        ensures { self.new.base ≡ self.old.base }
+        ensures base { self.new.base ≡ self.old.base }
+        ensures pairs { self.new.pairs ≡ self.old.pairs }
+        ensures keyed { self.new.keyed ≡ self.old.keyed }
     {
         self.left = left;
         self.right = right;
@@ -146,7 +156,7 @@ impl Known {
 
     /// Whether the variable and the shape are remembered to match in so many steps.
     pub fn matches(&self, variable: Var, right: &Shape, steps: u32, lost: bool) -> bool
-        ensures { IsTrue result → IsTrue (is_remembered_as (context_of self.now.base) lost steps variable (shape_of right.now)) }
+        ensures { IsTrue result → (log : List Placed) → list_all (is_remembered log (context_of self.now.base)) self.now.pairs.items ≡ true → IsTrue (is_remembered_as (length (context_of self.now.base)) log (context_of self.now.base) lost steps variable (shape_of right.now)) }
     {
         if self.pairs.is_empty() {
             return false;
@@ -163,8 +173,9 @@ impl Known {
         steps: u32,
         lost: bool,
     ) -> Result<(), AllocError>
-        requires { IsTrue (is_remembered_as (context_of self.old.base) lost steps variable (shape_of right.now)) }
-        ensures { self.new.base ≡ self.old.base }
+        ensures base { self.new.base ≡ self.old.base }
+        ensures pairs { (log : List Placed) → list_all (is_remembered log (context_of self.old.base)) self.old.pairs.items ≡ true → IsTrue (is_remembered_as (length (context_of self.old.base)) log (context_of self.old.base) lost steps variable (shape_of right.now)) → list_all (is_remembered log (context_of self.old.base)) self.new.pairs.items ≡ true }
+        ensures keyed { self.new.keyed ≡ self.old.keyed }
     {
         let trace = trace_of(variable, right);
         let before = self.last.get(&trace).copied();
@@ -190,7 +201,7 @@ impl Known {
     ) -> Result<bool, AllocError>
         requires context { IsWellFormedContext (context_of ctx.now) }
         requires base { StandsOn (context_of self.now.base) (context_of ctx.now) }
-        ensures { IfOk result (λ b. IsTrue b → is_matched (context_of ctx.now) lost steps variable (shape_of right.now.value) ≡ true) }
+        ensures { IfOk result (λ b. IsTrue b → (log : List Placed) → list_all (is_keyed log (context_of self.now.base)) self.now.keyed.items ≡ true → is_matched (length (context_of self.now.base)) log (context_of ctx.now) lost steps variable (shape_of right.now.value) ≡ true) }
     {
         let last = self.last_keyed.get(&key.trace).copied();
         keys::is_among(
@@ -209,8 +220,9 @@ impl Known {
 
     // Remembers the pair, by its trace.
     fn add_keyed(&mut self, trace: u64, pair: KeyedPair) -> Result<(), AllocError>
-        requires { is_keyed (context_of self.old.base) pair ≡ true }
-        ensures { self.new.base ≡ self.old.base }
+        ensures base { self.new.base ≡ self.old.base }
+        ensures pairs { self.new.pairs ≡ self.old.pairs }
+        ensures keyed { (log : List Placed) → list_all (is_keyed log (context_of self.old.base)) self.old.keyed.items ≡ true → is_keyed log (context_of self.old.base) pair ≡ true → list_all (is_keyed log (context_of self.old.base)) self.new.keyed.items ≡ true }
     {
         let place = self.keyed.len();
         self.keyed.push(pair)?;
@@ -233,8 +245,9 @@ impl Known {
     ) -> Result<(), AllocError>
         requires context { IsWellFormedContext (context_of ctx.now) }
         requires base { StandsOn (context_of self.old.base) (context_of ctx.now) }
-        requires matched { is_matched (context_of ctx.now) lost steps variable (shape_of right.now.value) ≡ true }
-        ensures { self.new.base ≡ self.old.base }
+        ensures base { self.new.base ≡ self.old.base }
+        ensures pairs { self.new.pairs ≡ self.old.pairs }
+        ensures keyed { (log : List Placed) → list_all (is_keyed log (context_of self.old.base)) self.old.keyed.items ≡ true → is_matched (length (context_of self.old.base)) log (context_of ctx.now) lost steps variable (shape_of right.now.value) ≡ true → list_all (is_keyed log (context_of self.old.base)) self.new.keyed.items ≡ true }
     {
         let before = self.last_keyed.get(&key.trace).copied();
         match keys::pair_of(
@@ -261,6 +274,8 @@ impl Known {
     // Makes room for all places.
     fn make_room(&mut self, alloc: Global) -> Result<(), AllocError>
         ensures base { self.new.base ≡ self.old.base }
+        ensures pairs { self.new.pairs ≡ self.old.pairs }
+        ensures keyed { self.new.keyed ≡ self.old.keyed }
         ensures room { OnOk result (PLACES ≤ length self.new.sets.items) }
     {
         if self.sets.len() >= PLACES {
@@ -275,14 +290,17 @@ impl Known {
         &mut self,
         alloc: Global,
         left: CapSet,
+        right: CapSet,
         demand: EndedDemand,
     ) -> Result<(), AllocError>
-        requires { IsEndedIn (context_of self.old.base) left demand.right demand }
-        ensures { self.new.base ≡ self.old.base }
+        requires { IsEndedIn (context_of self.old.base) left right demand }
+        ensures base { self.new.base ≡ self.old.base }
+        ensures pairs { self.new.pairs ≡ self.old.pairs }
+        ensures keyed { self.new.keyed ≡ self.old.keyed }
     {
         self.make_room(alloc)?;
-        let place = place_of(&left, &demand.right);
-        let known = known_ends(&self.base, left, demand);
+        let place = place_of(&left, &right);
+        let known = known_ends(&self.base, left, right, demand);
         self.sets[place] = known;
         Ok(())
     }

@@ -2,12 +2,15 @@
 //! need not be made again.
 #![tactic(auto)]
 
+pub mod again_laws;
 pub mod ended;
+pub mod fillable;
 pub mod found;
 pub mod keys;
 pub mod known;
 pub mod measures;
 pub mod names;
+pub mod needless;
 mod pairs;
 pub mod steps;
 pub mod stop;

@@ -1,9 +1,10 @@
 //! Pairs of a type variable and a shape that were compared, as they are remembered.
 
-ghost use Rattle.std.specs.Prelude.{◌≡◌, ◌≤◌, true, IsTrue, IfOk};
+ghost use Rattle.std.specs.Prelude.{◌≡◌, ◌≤◌, true, List, length, IsTrue, IfOk};
 ghost use Rattle.std.specs.List.{list_all};
 ghost use Rattle.cc_core.specs.Contexts.{Context};
 ghost use Rattle.cc_core.specs.TermViews.{shape_of};
+ghost use Rattle.cc_checking.specs.Outcomes.{Placed};
 ghost use Rattle.cc_known.specs.KeptWalks.{is_remembered, is_remembered_as};
 
 use cc_capture::{Var, same_var};
@@ -11,8 +12,8 @@ use cc_core::Shape;
 use cc_core::same::same_shape;
 use std::alloc::AllocError;
 
-/// A type variable and a shape of which the comparison matched in so many steps, with demands that need not be kept: each
-/// is settled, or it may not be kept only because something is lost.
+/// A type variable and a shape of which the comparison matched in so many steps, with demands that need not be kept where
+/// they come again: each is settled or repeats what is kept, or it may not be kept only because something is lost.
 #[derive(Drop)]
 pub struct Pair {
     pub variable: Var,
@@ -54,7 +55,7 @@ pub fn pair_of(
     lost: bool,
     before: Option<usize>,
 ) -> Result<Pair, AllocError>
-    ensures { IfOk result (λ p. (context : Context) → is_remembered context p ≡ is_remembered_as context lost steps variable (shape_of right.now)) }
+    ensures { IfOk result (λ p. (log : List Placed) (context : Context) → is_remembered log context p ≡ is_remembered_as (length context) log context lost steps variable (shape_of right.now)) }
 {
     let right = copy(right)?;
     Ok(Pair {
@@ -95,7 +96,7 @@ pub fn is_among(
     steps: u32,
     lost: bool,
 ) -> bool
-    ensures { IsTrue result → (context : Context) → list_all (is_remembered context) pairs.now ≡ true → IsTrue (is_remembered_as context lost steps variable (shape_of right.now)) }
+    ensures { IsTrue result → (log : List Placed) (context : Context) → list_all (is_remembered log context) pairs.now ≡ true → IsTrue (is_remembered_as (length context) log context lost steps variable (shape_of right.now)) }
 {
     let mut limit = pairs.len();
     let mut next = last;

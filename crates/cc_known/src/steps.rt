@@ -24,21 +24,21 @@ use cc_core::{Bind, Ctx, Shape, Ty};
 use std::alloc::{AllocError, Global};
 use std::rc::Rc;
 
-// How many entries the context has.
+/// How many entries the context has.
 pub fn entries(ctx: &Ctx) -> u32
     ensures { result ≡ length (context_of ctx.now) }
 {
     ctx.len()
 }
 
-// What stands in a term at a place of the context, as it stands in the context.
+/// What stands in a term at a place of the context, as it stands in the context.
 pub fn in_context(ctx: &Ctx, variable: Var) -> Var
     ensures { result ≡ plain.in_context (context_of ctx.now) variable }
 {
     read_variable(entries(ctx), 0, variable)
 }
 
-// The set of one variable.
+/// The set of one variable.
 pub fn variable_set(alloc: Global, variable: Var) -> Result<CapSet, AllocError>
     ensures { IfOk result (λ s. s ≡ captured.variable_set variable) }
 {
@@ -61,7 +61,7 @@ fn entry_shape(alloc: Global, variable: Var, found: Option<&Bind>) -> Result<Rc<
     }
 }
 
-// The shape of a variable of the context, whose type has the set of that variable.
+/// The shape of a variable of the context, whose type has the set of that variable.
 #[inline(always)]
 pub fn variable_shape(alloc: Global, ctx: &Ctx, variable: Var) -> Result<Rc<Shape>, Stop>
     ensures { Answers (λ s. capturing (shape_of s.value) (captured.variable_set variable)) result (plain.variable_type (context_of ctx.now) variable) }
@@ -72,7 +72,7 @@ pub fn variable_shape(alloc: Global, ctx: &Ctx, variable: Var) -> Result<Rc<Shap
     }
 }
 
-// The type of a variable of the context.
+/// The type of a variable of the context.
 pub fn variable_type(alloc: Global, ctx: &Ctx, variable: Var) -> Result<Ty, Stop>
     ensures { Answers type_of result (plain.variable_type (context_of ctx.now) variable) }
 {
@@ -81,7 +81,7 @@ pub fn variable_type(alloc: Global, ctx: &Ctx, variable: Var) -> Result<Ty, Stop
     Ok(Ty { shape, set })
 }
 
-// What a function takes and gives, where the shape is one.
+/// What a function takes and gives, where the shape is one.
 pub fn function_head(at: Place, shape: &Shape) -> Result<(&Rc<Ty>, &Rc<Ty>), Stop>
     ensures { Answers (λ f. record { takes = type_of f.0.now.value; gives = type_of f.1.now.value }) result (plain.function_head at (shape_of shape.now)) }
 {
@@ -91,7 +91,7 @@ pub fn function_head(at: Place, shape: &Shape) -> Result<(&Rc<Ty>, &Rc<Ty>), Sto
     }
 }
 
-// The bound that a type function takes and what it gives, where the shape is one.
+/// The bound that a type function takes and what it gives, where the shape is one.
 pub fn type_function_head(at: Place, shape: &Shape) -> Result<(&Rc<Shape>, &Rc<Ty>), Stop>
     ensures { Answers (λ f. record { bound = shape_of f.0.now.value; gives = type_of f.1.now.value }) result (plain.type_function_head at (shape_of shape.now)) }
 {
@@ -101,7 +101,7 @@ pub fn type_function_head(at: Place, shape: &Shape) -> Result<(&Rc<Shape>, &Rc<T
     }
 }
 
-// The type of what is in a box, where the shape is one.
+/// The type of what is in a box, where the shape is one.
 pub fn box_head(at: Place, shape: &Shape) -> Result<&Rc<Ty>, Stop>
     ensures { Answers (λ t. type_of t.now.value) result (plain.box_head at (shape_of shape.now)) }
 {
@@ -111,7 +111,7 @@ pub fn box_head(at: Place, shape: &Shape) -> Result<&Rc<Ty>, Stop>
     }
 }
 
-// The shape that an exit takes, where the shape is one.
+/// The shape that an exit takes, where the shape is one.
 pub fn exit_head(at: Place, shape: &Shape) -> Result<&Rc<Shape>, Stop>
     ensures { Answers (λ s. shape_of s.now.value) result (plain.exit_head at (shape_of shape.now)) }
 {
@@ -121,7 +121,7 @@ pub fn exit_head(at: Place, shape: &Shape) -> Result<&Rc<Shape>, Stop>
     }
 }
 
-// Whether the shape is that of the devices of the base.
+/// Whether the shape is that of the devices of the base.
 pub fn device_head(at: Place, base: Base, shape: &Shape) -> Result<(), Stop>
     ensures { Answers (λ u. u) result (plain.device_head at base (shape_of shape.now)) }
 {

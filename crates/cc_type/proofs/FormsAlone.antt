@@ -28,7 +28,8 @@ use Rattle.cc_checking.specs.Comparison.{comparison, type_comparison}
 use Rattle.cc_checking.specs.Inference.{demand_at, compared_at}
 use Rattle.cc_checking.specs.Outcomes.{Placed}
 use Rattle.cc_type.specs.FormsAlone.{forces_nothing}
-use Rattle.cc_known.specs.Keeping.{has_hole, is_demand_settled, is_lost, has_lost, is_needless, with_one}
+use Rattle.cc_known.specs.Keeping.{has_hole, is_lost, has_lost, is_needless, with_one}
+use Rattle.cc_known.specs.EndsAgain.{comes_again}
 use Rattle.cc_known.specs.KeptWalks.{goes, form_compared}
 use Rattle.cc_known.specs.Logs.{Got, after}
 use Rattle.cc_known.proofs.ComparedAgain.{all_both}
@@ -169,17 +170,17 @@ still_lost log p h =
       | false ↦ lost_before log (p ∷ []) h
     ]
 
-go_behind : (ds : List Demand) → list_all holeless ds ≡ true → list_all (goes true) ds ≡ true
-go_behind [] h = refl
-go_behind (d ∷ ds) h =
+go_behind : (log : List Placed) (ds : List Demand) → list_all holeless ds ≡ true → list_all (goes zero log true) ds ≡ true
+go_behind log [] h = refl
+go_behind log (d ∷ ds) h =
     let both = and_parts (holeless d) (list_all holeless ds) h in
-    and_from (goes true d) (list_all (goes true) ds) (or_right (is_demand_settled d) (holeless d) both.0) (go_behind ds both.1)
+    and_from (goes zero log true d) (list_all (goes zero log true) ds) (or_right (comes_again zero log d) (holeless d) both.0) (go_behind log ds both.1)
 
 pub shapes_behind : (at : Place) (c : Comparison) (log : List Placed) → has_lost log ≡ true → forces_nothing c ≡ true
     → after log (compared_at at c) ≡ Got tt log
 shapes_behind at Unfinished log l h = absurd (untrue h)
 shapes_behind at Mismatch log l h = absurd (untrue h)
-shapes_behind at (Matches ds) log l h = ap (Got tt) (all_go true log at ds (λ e. l) (go_behind ds h))
+shapes_behind at (Matches ds) log l h = ap (Got tt) (all_go zero true log at ds (λ e. l) (go_behind log ds h))
 
 pub types_behind : (at : Place) (d : Demand) (c : Comparison) (log : List Placed) → has_lost log ≡ true
     → forces_nothing c ≡ true
@@ -188,4 +189,4 @@ types_behind at d Unfinished log l h = absurd (untrue h)
 types_behind at d Mismatch log l h = absurd (untrue h)
 types_behind at d (Matches ds) log l h =
     ap (Got tt)
-    (all_go true (with_one log (demand_at at d)) at ds (λ e. still_lost log (demand_at at d) l) (go_behind ds h))
+    (all_go zero true (with_one log (demand_at at d)) at ds (λ e. still_lost log (demand_at at d) l) (go_behind (with_one log (demand_at at d)) ds h))

@@ -9,10 +9,11 @@ use Rattle.cc_capture.specs.declared.var.Elem.TheVariants.{Hole}
 use Rattle.cc_checking.specs.Comparison.{demanded}
 use Rattle.cc_checking.specs.Fillings.{global, forced}
 use Rattle.cc_checking.specs.Inference.{demand_at}
+use Rattle.cc_known.specs.Keeping.{fillable}
 use Rattle.cc_type.specs.KeepingExamples.{with_local, number, NumbersAreBelowNothing, ConsolesAreKept, NumbersAreForced}
 use Rattle.cc_type.specs.KeepingExamples.{HolesAreBelowThemselves, HolesMayHaveCap, ConsolesAreLost}
 use Rattle.cc_type.specs.KeepingExamples.{OneLostAndWhatForcesAreKept, WhatMayFailIsKept, RepeatedIsKeptOnce}
-use Rattle.cc_type.specs.KeepingExamples.{OneOfAlikeEndsIsKept}
+use Rattle.cc_type.specs.KeepingExamples.{OneOfAlikeEndsIsKept, LocalsAboveAreNotSeen}
 use Rattle.cc_type.specs.KeepingExamples.{GreatestIsFound}
 
 pub numbers_are_below_nothing : NumbersAreBelowNothing
@@ -53,12 +54,16 @@ unfolding contains empty insert placed element_order same_element is_subset same
 what_may_fail_is_kept at = refl
 
 pub repeated_is_kept_once : RepeatedIsKeptOnce
-unfolding contains empty insert placed element_order same_element is_subset same_set flat_image from_list union retain remove
+unfolding contains empty insert placed element_order same_element is_subset same_set flat_image from_list union retain remove fillable
 repeated_is_kept_once at other = (refl, refl)
 
 pub one_of_alike_ends_is_kept : OneOfAlikeEndsIsKept
-unfolding contains empty insert placed element_order same_element is_subset same_set flat_image from_list union retain remove
+unfolding contains empty insert placed element_order same_element is_subset same_set flat_image from_list union retain remove fillable
 one_of_alike_ends_is_kept at other = (refl, refl, refl)
+
+pub locals_above_are_not_seen : LocalsAboveAreNotSeen
+unfolding contains empty insert placed element_order same_element is_subset same_set flat_image from_list union retain remove fillable
+locals_above_are_not_seen at other = (refl, refl)
 
 pub greatest_is_found : GreatestIsFound
 unfolding contains empty insert placed element_order same_element is_subset

@@ -13,5 +13,6 @@ pub mod MeasuredEntries
 pub mod NewestVariables
 pub mod OneShape
 pub mod RememberedInstances
+pub mod RememberedLater
 pub mod StandingTerms
 pub mod SubtypeAnswers

@@ -23,11 +23,11 @@ some_inside : {A : Type 0} (a b : A) → Some a ≡ Some b → a ≡ b
 some_inside a b e = cc
 
 -- what a walk that keeps the whole comes to
-pub whole_demanded : (at : Place) (c : Comparison) (was is : Bool) (before more : List DeclaredDemand) → before ≡ []
-    → Keeps true at c true was is (asked_of before) (asked_of more) → Demanded at c (Some more)
-whole_demanded at Unfinished was is before more none k = absurd k
-whole_demanded at Mismatch was is before more none k = cc
-whole_demanded at (Matches ds) was is before more none k =
+pub whole_demanded : (oldest : ℕ) (at : Place) (c : Comparison) (was is : Bool) (before more : List DeclaredDemand) → before ≡ []
+    → Keeps oldest true at c true was is (asked_of before) (asked_of more) → Demanded at c (Some more)
+whole_demanded oldest at Unfinished was is before more none k = absurd k
+whole_demanded oldest at Mismatch was is before more none k = cc
+whole_demanded oldest at (Matches ds) was is before more none k =
     ap (λ b. Some (asked_of b ++ map (demand_at at) ds)) (sym none) ∙ ap Some (sym k.1)
 
 -- what is handed on is what the comparison comes to

@@ -139,6 +139,25 @@ OneOfAlikeEndsIsKept =
     (local_below_nothing at with_local ∷ below_with_two other (insert (Hole 1) (single second_local)) empty ∷ [])
     ≡ local_below_nothing at with_local ∷ below_with_two other (insert (Hole 1) (single second_local)) empty ∷ [])
 
+-- a third local variable, whose declared set has no member
+abbrev pub with_three_locals : Context
+with_three_locals = TermEntry (BaseShape bases.Int) empty ∷ with_two_locals
+
+-- that the first local variable is below a set, in the context with all three
+abbrev pub local_below : Place → Set → Placed
+local_below at right = demand_at at (demanded with_three_locals (single local) right)
+
+-- No filling puts a local variable into a hole, so behind the demand that the first one is below nothing it is not kept
+-- that it is below the other two; that it is below the number is, which a filling may put there.
+abbrev pub LocalsAboveAreNotSeen : Type 0
+LocalsAboveAreNotSeen =
+    (at other : Place)
+    → (kept
+    (local_below_nothing at with_local ∷ local_below other (insert (Variable (Free 4)) (single second_local)) ∷ [])
+    ≡ local_below_nothing at with_local ∷ [])
+    × (kept (local_below_nothing at with_local ∷ local_below other (single number) ∷ [])
+    ≡ local_below_nothing at with_local ∷ local_below other (single number) ∷ [])
+
 -- the greatest position from the first definition on, and none where only devices are free
 abbrev pub GreatestIsFound : Type 0
 GreatestIsFound =

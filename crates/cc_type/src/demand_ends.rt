@@ -5,11 +5,12 @@ ghost use Rattle.cc_capture.specs.Sets.{Member, empty};
 ghost use Rattle.cc_core.specs.TermViews.{bind_of, context_of};
 ghost use Rattle.cc_core.specs.WellFormed.{IsWellFormedContext, IsWellFormedSet};
 ghost use Rattle.cc_known.specs.EndedDemands.{PutsBeyond, IsPositionBelow, IsLastBelow};
-ghost use Rattle.cc_known.specs.Keeping.{declared_of, ends_beyond};
+ghost use Rattle.cc_known.specs.Keeping.{declared_of, ends_beyond, fillable};
 
 use cc_capture::{CapSet, Elem, Var};
 use cc_core::{Bind, Ctx};
 use cc_known::ended::EndedDemand;
+use cc_known::fillable::fillable;
 use std::alloc::{AllocError, Global};
 
 // Puts the element where it belongs, unless the right set has it: a variable waits, and what no context says more of is
@@ -134,9 +135,9 @@ pub(crate) fn ended(
     requires context { IsWellFormedContext (context_of ctx.now) }
     requires left { IsWellFormedSet (context_of ctx.now) left.now }
     ensures ends { IfOk result (λ d. d.ends ≡ ends_beyond (context_of ctx.now) right.now left.now) }
-    ensures right { IfOk result (λ d. d.right ≡ right.now) }
+    ensures right { IfOk result (λ d. d.right ≡ fillable (context_of ctx.now) right.now) }
 {
     let ends = ends_of(alloc, ctx, left, right)?;
-    let right = right.clone()?;
+    let right = fillable(alloc, ctx, right)?;
     Ok(EndedDemand { ends, right })
 }

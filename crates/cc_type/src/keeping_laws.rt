@@ -92,5 +92,6 @@ pub fn examples()
     ensures may_fail { example.WhatMayFailIsKept }
     ensures repeated { example.RepeatedIsKeptOnce }
     ensures alike { example.OneOfAlikeEndsIsKept }
+    ensures above { example.LocalsAboveAreNotSeen }
     ensures greatest { example.GreatestIsFound }
 {}

@@ -1,7 +1,9 @@
 //! The log of inference: all that is kept of what was asked.
 
-ghost use Rattle.std.specs.Prelude.{◌≡◌, ◌↔◌, ◌<◌, ◌≤◌, [], ◌∷◌, ◌++◌, ◌&&◌, ◌||◌, not, true, cond, length, Some, None, IsTrue, OnOk, IfOk};
+ghost use Rattle.std.specs.Prelude.{◌≡◌, ◌≢◌, ◌↔◌, false, ◌<◌, ◌≤◌, [], ◌∷◌, ◌++◌, ◌&&◌, ◌||◌, not, true, cond, length, Some, None, IsTrue, OnOk, IfOk};
 ghost use Rattle.std.specs.HashSet.{spare};
+ghost use Rattle.std.specs.List.{list_all};
+ghost use Rattle.cc_capture.specs.Sets.{Set};
 ghost use Rattle.cc_core.specs.Subcapturing.{SubcapturesSet};
 ghost use Rattle.cc_core.specs.TermViews.{context_of};
 ghost use Rattle.cc_core.specs.WellFormed.{IsWellFormedContext, IsWellFormedSet};
@@ -10,6 +12,9 @@ ghost use Rattle.cc_checking.specs.Outcomes.{IsBelow};
 ghost use Rattle.cc_checking.specs.Inference.{demand_at};
 ghost use Rattle.cc_sets.specs.Marked.{IsClear};
 ghost use Rattle.cc_subty.specs.Demands.{demand_of, asked_of};
+ghost use Rattle.cc_known.specs.EndsAgain as again;
+ghost use Rattle.cc_known.specs.EndsAgain.{comes_again};
+ghost use Rattle.cc_known.specs.KeptWalks.{is_remembered, is_keyed};
 ghost use Rattle.cc_known.specs.EndedDemands.{HasEnds, AreThose, is_among, same_ended};
 ghost use Rattle.cc_known.specs.Keeping as keeping;
 ghost use Rattle.cc_known.specs.Keeping.{has_lost};
@@ -24,6 +29,7 @@ use cc_core::Ctx;
 use cc_core::occurrences::set_has_hole;
 use cc_known::ended::EndedDemand;
 use cc_known::known::Known;
+use cc_known::needless::stays_fillable;
 use cc_sets::marks::Marks;
 use cc_sets::subcapturing::subcap;
 use cc_solve::{Filling, is_served};
@@ -55,6 +61,19 @@ pub struct Log {
     ghost clear: { IsClear marks },
     ghost told: { lost ≡ has_lost (asked_of demands) },
     ghost noted: { AreThose ended.keys (asked_of demands) },
+    ghost remembered: { list_all (is_remembered (asked_of demands) (context_of known.base)) known.pairs.items ≡ true },
+    ghost matched: { list_all (is_keyed (asked_of demands) (context_of known.base)) known.keyed.items ≡ true },
+}
+
+/// What became of something that was asked.
+#[derive(Clone, Copy, Debug, PartialEq, Eq)]
+pub(crate) enum Kept {
+    /// It was settled as it stood.
+    Settled,
+    /// It is needless wherever it comes again.
+    Again,
+    /// Nothing more is told.
+    Once,
 }
 
 impl Log {
@@ -407,6 +426,22 @@ pub(crate) fn keep(alloc: Global, log: &mut Log, demand: &Demand) -> Result<(), 
     add(log, demand, lost, ends)
 }
 
+// What is told of a demand that is kept, with this right set.
+fn kept_with(ctx: &Ctx, right: &CapSet, oldest: u32) -> Kept
+    ensures settled { result ≢ Kept.Settled }
+    ensures again { result ≡ Kept.Again → (left : Set) → again.stays_fillable oldest (demanded (context_of ctx.now) left right.now) ≡ true }
+    ensures again_hole { result ≡ Kept.Again → keeping.has_hole right.now ≡ false }
+{
+    if has_hole(right) {
+        return Kept::Once;
+    }
+    if stays_fillable(ctx, right, oldest) {
+        Kept::Again
+    } else {
+        Kept::Once
+    }
+}
+
 // What asks that the left set is below the right one.
 fn below(ctx: &Ctx, left: &CapSet, right: &CapSet, at: Place) -> Result<Demand, AllocError>
     ensures { IfOk result (λ d. demand_of d ≡ demand_at at (demanded (context_of ctx.now) left.now right.now)) }
@@ -423,7 +458,7 @@ fn below(ctx: &Ctx, left: &CapSet, right: &CapSet, at: Place) -> Result<Demand, 
 }
 
 /// Keeps that the left set is below the right one in the context, unless that is needless. The sets are copied only
-/// where it is kept. Where the answer is yes it was settled.
+/// where it is kept.
 pub(crate) fn keep_below(
     alloc: Global,
     ctx: &Ctx,
@@ -431,26 +466,28 @@ pub(crate) fn keep_below(
     right: &CapSet,
     at: Place,
     log: &mut Log,
-) -> Result<bool, AllocError>
+) -> Result<Kept, AllocError>
     requires context { IsWellFormedContext (context_of ctx.now) }
     requires left { IsWellFormedSet (context_of ctx.now) left.now }
     ensures kept { OnOk result (asked_of log.new.demands ≡ keeping.with_one (asked_of log.old.demands) (demand_at at (demanded (context_of ctx.now) left.now right.now))) }
-    ensures settled { IfOk result (λ s. IsTrue s → keeping.is_demand_settled (demanded (context_of ctx.now) left.now right.now) ≡ true) }
+    ensures settled { IfOk result (λ k. k ≡ Kept.Settled → keeping.is_demand_settled (demanded (context_of ctx.now) left.now right.now) ≡ true) }
+    ensures again { IfOk result (λ k. k ≡ Kept.Again → comes_again (length (context_of log.old.known.base)) (asked_of log.new.demands) (demanded (context_of ctx.now) left.now right.now) ≡ true) }
     ensures base { log.new.known.base ≡ log.old.known.base }
     ensures still { log.new.settled ≡ log.old.settled }
 {
     if log.lost && !has_hole(right) {
-        return Ok(false);
+        return Ok(Kept::Once);
     }
+    let oldest = log.known.base.len();
     if is_demand_settled(ctx, &mut log.marks, left, right)? {
-        return Ok(true);
+        return Ok(Kept::Settled);
     }
     if is_repeated(alloc, log, ctx, left, right)? {
-        return Ok(false);
+        return Ok(kept_with(ctx, right, oldest));
     }
     let ends = ends_below(alloc, ctx, left, right)?;
     let demand = below(ctx, left, right, at)?;
     let lost = is_either_lost(alloc, log.lost, &mut log.marks, &demand)?;
     add(log, demand, lost, ends)?;
-    Ok(false)
+    Ok(kept_with(ctx, right, oldest))
 }

@@ -14,12 +14,13 @@ ghost use Rattle.cc_checking.specs.Comparison as plain;
 ghost use Rattle.cc_checking.specs.Comparison.{comparison, demanded};
 ghost use Rattle.cc_checking.specs.Inference.{demand_at, shape_in, type_in};
 ghost use Rattle.cc_subty.specs.Demands.{asked_of};
+ghost use Rattle.cc_known.specs.EndsAgain.{comes_again};
 ghost use Rattle.cc_known.specs.Keeping.{with_one, is_demand_settled, has_lost};
-ghost use Rattle.cc_known.specs.KeptWalks.{put, Keeps, StandsOn, IsKnownAgain, form_compared, variable_compared, is_matched};
+ghost use Rattle.cc_known.specs.KeptWalks.{put, Keeps, StandsOn, IsKnownAgain, form_compared, variable_compared, is_matched, is_remembered_as};
 ghost use Rattle.cc_type.specs.WholeLogs.{listed};
 
 use crate::demand_ends::ended;
-use crate::log::{Log, has_hole, keep_below};
+use crate::log::{Kept, Log, has_hole, keep_below};
 use cc_base::place::Place;
 use cc_capture::{CapSet, Var};
 use cc_core::acting::read_variable;
@@ -88,7 +89,8 @@ fn learn_ends(alloc: Global, left: &CapSet, right: &CapSet, log: &mut Log) -> Re
     if wf_set(&log.known.base, left) && wf_set(&log.known.base, right) {
         let demand = ended(alloc, &log.known.base, left, right)?;
         let left = left.clone()?;
-        log.known.learn_ends(alloc, left, demand)?;
+        let right = right.clone()?;
+        log.known.learn_ends(alloc, left, right, demand)?;
     }
     Ok(())
 }
@@ -118,20 +120,21 @@ fn keep_read_sets(
     requires base { StandsOn (context_of log.old.known.base) (context_of ctx.now) }
     ensures kept { OnOk result (asked_of log.new.demands ≡ with_one (asked_of log.old.demands) (demand_at at (demanded (context_of ctx.now) (reading.read_set (length (context_of ctx.now)) left.now) (reading.read_set (length (context_of ctx.now)) right.now)))) }
     ensures before { OnOk result (log.new.settled ≡ true → log.old.settled ≡ true) }
-    ensures settled { OnOk result (log.new.settled ≡ true → is_demand_settled (demanded (context_of ctx.now) (reading.read_set (length (context_of ctx.now)) left.now) (reading.read_set (length (context_of ctx.now)) right.now)) ≡ true) }
+    ensures settled { OnOk result (log.new.settled ≡ true → comes_again (length (context_of log.old.known.base)) (asked_of log.new.demands) (demanded (context_of ctx.now) (reading.read_set (length (context_of ctx.now)) left.now) (reading.read_set (length (context_of ctx.now)) right.now)) ≡ true) }
     ensures base { log.new.known.base ≡ log.old.known.base }
 {
     let left_read = read_if_other(alloc, left, entries(ctx))?;
     let right_read = read_if_other(alloc, right, entries(ctx))?;
     let one = chosen(&left_read, left);
     let other = chosen(&right_read, right);
-    if keep_below(alloc, ctx, one, other, at, log)? {
-        learn_read(ctx, left, right, &left_read, &right_read, log)?;
-    } else {
-        log.settled = false;
-        learn_ends(alloc, left, right, log)?;
+    match keep_below(alloc, ctx, one, other, at, log)? {
+        Kept::Settled => learn_read(ctx, left, right, &left_read, &right_read, log),
+        Kept::Again => learn_ends(alloc, left, right, log),
+        Kept::Once => {
+            log.settled = false;
+            learn_ends(alloc, left, right, log)
+        }
     }
-    Ok(())
 }
 
 // The same, where two sets that are known are not gone over again.
@@ -149,7 +152,7 @@ fn keep_sets(
     requires base { StandsOn (context_of log.old.known.base) (context_of ctx.now) }
     ensures kept { OnOk result (asked_of log.new.demands ≡ with_one (asked_of log.old.demands) (demand_at at (demanded (context_of ctx.now) (reading.read_set (length (context_of ctx.now)) left.now) (reading.read_set (length (context_of ctx.now)) right.now)))) }
     ensures before { OnOk result (log.new.settled ≡ true → log.old.settled ≡ true) }
-    ensures settled { OnOk result (log.new.settled ≡ true → is_demand_settled (demanded (context_of ctx.now) (reading.read_set (length (context_of ctx.now)) left.now) (reading.read_set (length (context_of ctx.now)) right.now)) ≡ true) }
+    ensures settled { OnOk result (log.new.settled ≡ true → comes_again (length (context_of log.old.known.base)) (asked_of log.new.demands) (demanded (context_of ctx.now) (reading.read_set (length (context_of ctx.now)) left.now) (reading.read_set (length (context_of ctx.now)) right.now)) ≡ true) }
     ensures base { log.new.known.base ≡ log.old.known.base }
 {
     if *left == *right {
@@ -159,7 +162,6 @@ fn keep_sets(
         return Ok(());
     }
     if is_known_again(left, right, log) {
-        log.settled = false;
         return Ok(());
     }
     keep_read_sets(alloc, ctx, left, right, at, log)
@@ -176,7 +178,7 @@ fn demand_sets(
 ) -> Result<(), AllocError>
     ensures kept { OnOk result (asked_of log.new.whole ≡ asked_of log.old.whole ++ (demand_at at (demanded (context_of ctx.now) (reading.read_set (length (context_of ctx.now)) left.now) (reading.read_set (length (context_of ctx.now)) right.now)) ∷ [])) }
     ensures before { OnOk result (log.new.settled ≡ true → log.old.settled ≡ true) }
-    ensures settled { OnOk result (log.new.settled ≡ true → is_demand_settled (demanded (context_of ctx.now) (reading.read_set (length (context_of ctx.now)) left.now) (reading.read_set (length (context_of ctx.now)) right.now)) ≡ true) }
+    ensures settled { OnOk result (log.new.settled ≡ true → comes_again (length (context_of log.old.known.base)) (asked_of log.new.whole) (demanded (context_of ctx.now) (reading.read_set (length (context_of ctx.now)) left.now) (reading.read_set (length (context_of ctx.now)) right.now)) ≡ true) }
     ensures base { log.new.known.base ≡ log.old.known.base }
 {
     let left = read_set(alloc, left, entries(ctx))?;
@@ -207,7 +209,7 @@ fn ask_sets(
     requires base { StandsOn (context_of log.old.known.base) (context_of ctx.now) }
     ensures kept { OnOk result (listed whole log.new ≡ put whole (listed whole log.old) (demand_at at (demanded (context_of ctx.now) (reading.read_set (length (context_of ctx.now)) left.now) (reading.read_set (length (context_of ctx.now)) right.now)) ∷ [])) }
     ensures before { OnOk result (log.new.settled ≡ true → log.old.settled ≡ true) }
-    ensures settled { OnOk result (log.new.settled ≡ true → is_demand_settled (demanded (context_of ctx.now) (reading.read_set (length (context_of ctx.now)) left.now) (reading.read_set (length (context_of ctx.now)) right.now)) ≡ true) }
+    ensures settled { OnOk result (log.new.settled ≡ true → comes_again (length (context_of log.old.known.base)) (listed whole log.new) (demanded (context_of ctx.now) (reading.read_set (length (context_of ctx.now)) left.now) (reading.read_set (length (context_of ctx.now)) right.now)) ≡ true) }
     ensures base { log.new.known.base ≡ log.old.known.base }
 {
     if whole {
@@ -234,6 +236,44 @@ fn are_one(
     }
 }
 
+// Remembers that the variable and the shape match in so many steps.
+fn remember(
+    variable: Var,
+    right: &Shape,
+    log: &mut Log,
+    steps: u32,
+    lost: bool,
+) -> Result<(), AllocError>
+    requires { is_remembered_as (length (context_of log.old.known.base)) (asked_of log.old.demands) (context_of log.old.known.base) lost steps variable (shape_of right.now) ≡ true }
+    ensures demands { log.new.demands ≡ log.old.demands }
+    ensures base { log.new.known.base ≡ log.old.known.base }
+    ensures still { log.new.settled ≡ log.old.settled }
+{
+    log.known.remember(variable, right, steps, lost)
+}
+
+// The same by their key, where they name more than the base has.
+fn remember_keyed(
+    alloc: Global,
+    ctx: &Ctx,
+    key: &Key,
+    variable: Var,
+    right: &Rc<Shape>,
+    log: &mut Log,
+    steps: u32,
+    lost: bool,
+) -> Result<(), AllocError>
+    requires context { IsWellFormedContext (context_of ctx.now) }
+    requires base { StandsOn (context_of log.old.known.base) (context_of ctx.now) }
+    requires matched { is_matched (length (context_of log.old.known.base)) (asked_of log.old.demands) (context_of ctx.now) lost steps variable (shape_of right.now.value) ≡ true }
+    ensures demands { log.new.demands ≡ log.old.demands }
+    ensures base { log.new.known.base ≡ log.old.known.base }
+    ensures still { log.new.settled ≡ log.old.settled }
+{
+    log.known
+        .remember_keyed(alloc, ctx, key, variable, right, steps, lost)
+}
+
 // Goes over the bound of the variable and the shape, and remembers that they match where nothing has to be kept.
 #[cycle(walk)]
 fn keep_new(
@@ -252,7 +292,7 @@ fn keep_new(
     requires there { plain.bound_of (context_of ctx.now) variable ≡ Some (shape_of bound.now) }
     requires named { IsWellFormedShape (context_of log.old.known.base) (TypeVariable variable) }
     requires shape { IsWellFormedShape (context_of log.old.known.base) (shape_of right.now) }
-    ensures kept { IfOk result (λ m. Keeps false at (comparison steps (context_of ctx.now) (shape_in (context_of ctx.now) (shape_of bound.now)) (shape_in (context_of ctx.now) (shape_of right.now))) m log.old.settled log.new.settled (asked_of log.old.demands) (asked_of log.new.demands)) }
+    ensures kept { IfOk result (λ m. Keeps (length (context_of log.old.known.base)) false at (comparison steps (context_of ctx.now) (shape_in (context_of ctx.now) (shape_of bound.now)) (shape_in (context_of ctx.now) (shape_of right.now))) m log.old.settled log.new.settled (asked_of log.old.demands) (asked_of log.new.demands)) }
     ensures base { log.new.known.base ≡ log.old.known.base }
 {
     let settled = log.settled;
@@ -264,9 +304,9 @@ fn keep_new(
     }
     let all = log.settled;
     if all {
-        log.known.remember(variable, right, steps, false)?;
+        remember(variable, right, log, steps, false)?;
     } else if log.demands.len() == count {
-        log.known.remember(variable, right, steps, true)?;
+        remember(variable, right, log, steps, true)?;
     }
     log.settled = settled && all;
     Ok(true)
@@ -285,7 +325,7 @@ fn known_again(
 ) -> Result<Option<bool>, AllocError>
     requires context { IsWellFormedContext (context_of ctx.now) }
     requires base { StandsOn (context_of log.now.known.base) (context_of ctx.now) }
-    ensures matched { IfOk result (λ o. IfSome o (λ lost. is_matched (context_of ctx.now) lost steps variable (shape_of read.now.value) ≡ true)) }
+    ensures matched { IfOk result (λ o. IfSome o (λ lost. is_matched (length (context_of log.now.known.base)) (asked_of log.now.demands) (context_of ctx.now) lost steps variable (shape_of read.now.value) ≡ true)) }
     ensures lost { IfOk result (λ o. IfSome o (λ lost. lost ≡ true → has_lost (asked_of log.now.demands) ≡ true)) }
 {
     if log
@@ -325,7 +365,7 @@ fn keep_keyed(
     requires base { StandsOn (context_of log.old.known.base) (context_of ctx.now) }
     requires there { plain.bound_of (context_of ctx.now) variable ≡ Some (shape_of bound.now) }
     requires read { shape_of read.now.value ≡ shape_in (context_of ctx.now) (shape_of right.now) }
-    ensures kept { IfOk result (λ m. Keeps false at (comparison steps (context_of ctx.now) (shape_in (context_of ctx.now) (shape_of bound.now)) (shape_in (context_of ctx.now) (shape_of right.now))) m log.old.settled log.new.settled (asked_of log.old.demands) (asked_of log.new.demands)) }
+    ensures kept { IfOk result (λ m. Keeps (length (context_of log.old.known.base)) false at (comparison steps (context_of ctx.now) (shape_in (context_of ctx.now) (shape_of bound.now)) (shape_in (context_of ctx.now) (shape_of right.now))) m log.old.settled log.new.settled (asked_of log.old.demands) (asked_of log.new.demands)) }
     ensures base { log.new.known.base ≡ log.old.known.base }
 {
     let settled = log.settled;
@@ -337,11 +377,9 @@ fn keep_keyed(
     }
     let all = log.settled;
     if all {
-        log.known
-            .remember_keyed(alloc, ctx, key, variable, read, steps, false)?;
+        remember_keyed(alloc, ctx, key, variable, read, log, steps, false)?;
     } else if log.demands.len() == count {
-        log.known
-            .remember_keyed(alloc, ctx, key, variable, read, steps, true)?;
+        remember_keyed(alloc, ctx, key, variable, read, log, steps, true)?;
     }
     log.settled = settled && all;
     Ok(true)
@@ -365,7 +403,7 @@ fn keep_own(
     requires base { StandsOn (context_of log.old.known.base) (context_of ctx.now) }
     requires there { plain.bound_of (context_of ctx.now) variable ≡ Some (shape_of bound.now) }
     requires many { FEWER < steps }
-    ensures kept { IfOk result (λ m. Keeps false at (comparison steps (context_of ctx.now) (shape_in (context_of ctx.now) (shape_of bound.now)) (shape_in (context_of ctx.now) (shape_of right.now))) m log.old.settled log.new.settled (asked_of log.old.demands) (asked_of log.new.demands)) }
+    ensures kept { IfOk result (λ m. Keeps (length (context_of log.old.known.base)) false at (comparison steps (context_of ctx.now) (shape_in (context_of ctx.now) (shape_of bound.now)) (shape_in (context_of ctx.now) (shape_of right.now))) m log.old.settled log.new.settled (asked_of log.old.demands) (asked_of log.new.demands)) }
     ensures base { log.new.known.base ≡ log.old.known.base }
 {
     let read = read_right(alloc, right, entries(ctx))?;
@@ -409,7 +447,7 @@ fn keep_bound(
     requires right { IsWellFormedShape (context_of ctx.now) (shape_in (context_of ctx.now) (shape_of right.now)) }
     requires base { StandsOn (context_of log.old.known.base) (context_of ctx.now) }
     requires there { plain.bound_of (context_of ctx.now) variable ≡ Some (shape_of bound.now) }
-    ensures kept { IfOk result (λ m. Keeps false at (comparison steps (context_of ctx.now) (shape_in (context_of ctx.now) (shape_of bound.now)) (shape_in (context_of ctx.now) (shape_of right.now))) m log.old.settled log.new.settled (asked_of log.old.demands) (asked_of log.new.demands)) }
+    ensures kept { IfOk result (λ m. Keeps (length (context_of log.old.known.base)) false at (comparison steps (context_of ctx.now) (shape_in (context_of ctx.now) (shape_of bound.now)) (shape_in (context_of ctx.now) (shape_of right.now))) m log.old.settled log.new.settled (asked_of log.old.demands) (asked_of log.new.demands)) }
     ensures base { log.new.known.base ≡ log.old.known.base }
 {
     if steps <= FEWER {
@@ -449,7 +487,7 @@ fn walk_bound(
     requires right { IsWellFormedShape (context_of ctx.now) (shape_in (context_of ctx.now) (shape_of right.now)) }
     requires base { StandsOn (context_of log.old.known.base) (context_of ctx.now) }
     requires there { plain.bound_of (context_of ctx.now) variable ≡ Some (shape_of bound.now) }
-    ensures kept { IfOk result (λ m. Keeps whole at (comparison steps (context_of ctx.now) (shape_in (context_of ctx.now) (shape_of bound.now)) (shape_in (context_of ctx.now) (shape_of right.now))) m log.old.settled log.new.settled (listed whole log.old) (listed whole log.new)) }
+    ensures kept { IfOk result (λ m. Keeps (length (context_of log.old.known.base)) whole at (comparison steps (context_of ctx.now) (shape_in (context_of ctx.now) (shape_of bound.now)) (shape_in (context_of ctx.now) (shape_of right.now))) m log.old.settled log.new.settled (listed whole log.old) (listed whole log.new)) }
     ensures base { log.new.known.base ≡ log.old.known.base }
 {
     if whole {
@@ -473,7 +511,7 @@ fn keep_variable(
     requires context { IsWellFormedContext (context_of ctx.now) }
     requires right { IsWellFormedShape (context_of ctx.now) (shape_in (context_of ctx.now) (shape_of right.now)) }
     requires base { StandsOn (context_of log.old.known.base) (context_of ctx.now) }
-    ensures kept { IfOk result (λ m. Keeps whole at (variable_compared steps (context_of ctx.now) variable (shape_of right.now)) m log.old.settled log.new.settled (listed whole log.old) (listed whole log.new)) }
+    ensures kept { IfOk result (λ m. Keeps (length (context_of log.old.known.base)) whole at (variable_compared steps (context_of ctx.now) variable (shape_of right.now)) m log.old.settled log.new.settled (listed whole log.old) (listed whole log.new)) }
     ensures base { log.new.known.base ≡ log.old.known.base }
 {
     if is_variable(entries(ctx), variable, right) {
@@ -508,7 +546,7 @@ fn keep_functions(
     requires apart { let t = type_of takes.now in let g = type_of gives.now in let t' = type_of others.now in let g' = type_of other_gives.now in
         whole ≡ true → same_shape (shape_in (context_of ctx.now) (FunctionShape t.shape t.set g.shape g.set)) (shape_in (context_of ctx.now) (FunctionShape t'.shape t'.set g'.shape g'.set)) ≡ false }
     ensures kept { let t = type_of takes.now in let g = type_of gives.now in let t' = type_of others.now in let g' = type_of other_gives.now in
-        IfOk result (λ m. Keeps whole at (form_compared steps (context_of ctx.now) (FunctionShape t.shape t.set g.shape g.set) (FunctionShape t'.shape t'.set g'.shape g'.set)) m log.old.settled log.new.settled (listed whole log.old) (listed whole log.new)) }
+        IfOk result (λ m. Keeps (length (context_of log.old.known.base)) whole at (form_compared steps (context_of ctx.now) (FunctionShape t.shape t.set g.shape g.set) (FunctionShape t'.shape t'.set g'.shape g'.set)) m log.old.settled log.new.settled (listed whole log.old) (listed whole log.new)) }
     ensures base { log.new.known.base ≡ log.old.known.base }
 {
     if !keep_types(alloc, ctx, others, takes, at, log, steps, whole)? {
@@ -540,7 +578,7 @@ fn keep_type_functions(
     requires apart { let g = type_of gives.now in let g' = type_of other_gives.now in
         whole ≡ true → same_shape (shape_in (context_of ctx.now) (TypeFunctionShape (shape_of bound.now.value) g.shape g.set)) (shape_in (context_of ctx.now) (TypeFunctionShape (shape_of other.now.value) g'.shape g'.set)) ≡ false }
     ensures kept { let g = type_of gives.now in let g' = type_of other_gives.now in
-        IfOk result (λ m. Keeps whole at (form_compared steps (context_of ctx.now) (TypeFunctionShape (shape_of bound.now.value) g.shape g.set) (TypeFunctionShape (shape_of other.now.value) g'.shape g'.set)) m log.old.settled log.new.settled (listed whole log.old) (listed whole log.new)) }
+        IfOk result (λ m. Keeps (length (context_of log.old.known.base)) whole at (form_compared steps (context_of ctx.now) (TypeFunctionShape (shape_of bound.now.value) g.shape g.set) (TypeFunctionShape (shape_of other.now.value) g'.shape g'.set)) m log.old.settled log.new.settled (listed whole log.old) (listed whole log.new)) }
     ensures base { log.new.known.base ≡ log.old.known.base }
 {
     if !same_read(alloc, bound, other, entries(ctx), 0)? {
@@ -568,7 +606,7 @@ fn keep_boxes(
     requires apart { let t = type_of content.now in let t' = type_of other.now in
         whole ≡ true → same_shape (shape_in (context_of ctx.now) (BoxShape t.shape t.set)) (shape_in (context_of ctx.now) (BoxShape t'.shape t'.set)) ≡ false }
     ensures kept { let t = type_of content.now in let t' = type_of other.now in
-        IfOk result (λ m. Keeps whole at (form_compared steps (context_of ctx.now) (BoxShape t.shape t.set) (BoxShape t'.shape t'.set)) m log.old.settled log.new.settled (listed whole log.old) (listed whole log.new)) }
+        IfOk result (λ m. Keeps (length (context_of log.old.known.base)) whole at (form_compared steps (context_of ctx.now) (BoxShape t.shape t.set) (BoxShape t'.shape t'.set)) m log.old.settled log.new.settled (listed whole log.old) (listed whole log.new)) }
     ensures base { log.new.known.base ≡ log.old.known.base }
 {
     keep_types(alloc, ctx, content, other, at, log, steps, whole)
@@ -598,7 +636,7 @@ fn keep_form(
     requires right { IsWellFormedShape (context_of ctx.now) (shape_in (context_of ctx.now) (shape_of right.now)) }
     requires base { StandsOn (context_of log.old.known.base) (context_of ctx.now) }
     requires apart { whole ≡ true → same_shape (shape_in (context_of ctx.now) (shape_of left.now)) (shape_in (context_of ctx.now) (shape_of right.now)) ≡ false }
-    ensures kept { IfOk result (λ m. Keeps whole at (form_compared steps (context_of ctx.now) (shape_of left.now) (shape_of right.now)) m log.old.settled log.new.settled (listed whole log.old) (listed whole log.new)) }
+    ensures kept { IfOk result (λ m. Keeps (length (context_of log.old.known.base)) whole at (form_compared steps (context_of ctx.now) (shape_of left.now) (shape_of right.now)) m log.old.settled log.new.settled (listed whole log.old) (listed whole log.new)) }
     ensures base { log.new.known.base ≡ log.old.known.base }
 {
     match left {
@@ -665,7 +703,7 @@ pub(crate) fn keep_shapes(
     requires left { IsWellFormedShape (context_of ctx.now) (shape_in (context_of ctx.now) (shape_of left.now)) }
     requires right { IsWellFormedShape (context_of ctx.now) (shape_in (context_of ctx.now) (shape_of right.now)) }
     requires base { StandsOn (context_of log.old.known.base) (context_of ctx.now) }
-    ensures kept { IfOk result (λ m. Keeps whole at (comparison steps (context_of ctx.now) (shape_in (context_of ctx.now) (shape_of left.now)) (shape_in (context_of ctx.now) (shape_of right.now))) m log.old.settled log.new.settled (listed whole log.old) (listed whole log.new)) }
+    ensures kept { IfOk result (λ m. Keeps (length (context_of log.old.known.base)) whole at (comparison steps (context_of ctx.now) (shape_in (context_of ctx.now) (shape_of left.now)) (shape_in (context_of ctx.now) (shape_of right.now))) m log.old.settled log.new.settled (listed whole log.old) (listed whole log.new)) }
     ensures base { log.new.known.base ≡ log.old.known.base }
 {
     if steps == 0 {
@@ -696,7 +734,7 @@ pub(crate) fn keep_types(
     requires left { IsWellFormedType (context_of ctx.now) (type_in (context_of ctx.now) (type_of left.now)) }
     requires right { IsWellFormedType (context_of ctx.now) (type_in (context_of ctx.now) (type_of right.now)) }
     requires base { StandsOn (context_of log.old.known.base) (context_of ctx.now) }
-    ensures kept { IfOk result (λ m. Keeps whole at (plain.type_comparison steps (context_of ctx.now) (type_in (context_of ctx.now) (type_of left.now)) (type_in (context_of ctx.now) (type_of right.now))) m log.old.settled log.new.settled (listed whole log.old) (listed whole log.new)) }
+    ensures kept { IfOk result (λ m. Keeps (length (context_of log.old.known.base)) whole at (plain.type_comparison steps (context_of ctx.now) (type_in (context_of ctx.now) (type_of left.now)) (type_in (context_of ctx.now) (type_of right.now))) m log.old.settled log.new.settled (listed whole log.old) (listed whole log.new)) }
     ensures base { log.new.known.base ≡ log.old.known.base }
 {
     ask_sets(alloc, ctx, &left.set, &right.set, at, log, whole)?;

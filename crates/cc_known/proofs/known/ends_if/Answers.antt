@@ -8,4 +8,4 @@ returns-then-eq-2 c = λ context is.
     let known = c.args.known.now in
     ended_known context known c.args.left.now c.args.right.now
     ((same_set-decides known.left c.args.left.now).0 (sym c.eq.ensures ∙ c.if-eq.true))
-    ((same_set-decides known.demand.right c.args.right.now).0 (sym c.eq-then-eq.ensures ∙ c.if-eq-2.true)) is
+    ((same_set-decides known.right c.args.right.now).0 (sym c.eq-then-eq.ensures ∙ c.if-eq-2.true)) is

@@ -1,5 +1,4 @@
 use Rattle.std.proofs.Common.{◌≡◌, false, sym, subst}
-use Rattle.cc_core.specs.Occurrences.{Meets, MeetsInType, without}
 use Rattle.cc_core.specs.Questions.{occurs, occurs_in_type}
 use Rattle.cc_core.specs.TermViews.{shape_of, type_of}
 use Rattle.cc_known.specs.Measures.{IsClearAlong, position_question}

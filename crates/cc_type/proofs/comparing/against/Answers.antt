@@ -1,4 +1,4 @@
-use Rattle.std.proofs.Common.{true, false, subst, sym, ◌∙◌, arith}
+use Rattle.std.proofs.Common.{true, false, subst, sym, ◌∙◌, arith, length}
 use Rattle.cc_core.specs.TermViews.{shape_of, context_of}
 use Rattle.cc_checking.specs.Comparison.{comparison}
 use Rattle.cc_checking.specs.Inference as plain
@@ -26,12 +26,13 @@ returns-then-branch c =
     let left = shape_of c.args.left.now in
     let right = shape_of c.args.right.now in
     let was = c.args.log.now in
+    let oldest = length (context_of c.new.result.base) in
     let now = c.keep_shapes.new.log in
     let log = asked_of was.demands in
     let more = asked_of now.demands in
-    matched_after c.args.at (comparison most_steps g left right) was.settled now.settled log more
-    (shapes_root false c.args.at most_steps g left right true was.settled now.settled log more c.requires.left c.requires.right
-    (subst (λ m. Keeps false c.args.at (comparison most_steps g (shape_in g left) (shape_in g right)) m was.settled
+    matched_after oldest c.args.at (comparison most_steps g left right) was.settled now.settled log more
+    (shapes_root oldest false c.args.at most_steps g left right true was.settled now.settled log more c.requires.left c.requires.right
+    (subst (λ m. Keeps oldest false c.args.at (comparison most_steps g (shape_in g left) (shape_in g right)) m was.settled
     now.settled log more) c.if-branch.true c.in_ok-keep_shapes.ensures.kept))
 
 pub returns-else-branch : goal.returns-else-branch
@@ -40,13 +41,14 @@ returns-else-branch c =
     let left = shape_of c.args.left.now in
     let right = shape_of c.args.right.now in
     let was = c.args.log.now in
+    let oldest = length (context_of c.new.result.base) in
     let now = c.keep_shapes.new.log in
     let log = asked_of was.demands in
     let more = asked_of now.demands in
     refused_met more c.refused.result c.args.at (after log (plain.against comparing c.args.at g left right)) c.refused.ensures
-    (apart_after c.args.at (comparison most_steps g left right) was.settled now.settled log more
-    (shapes_root false c.args.at most_steps g left right false was.settled now.settled log more c.requires.left c.requires.right
-    (subst (λ m. Keeps false c.args.at (comparison most_steps g (shape_in g left) (shape_in g right)) m was.settled
+    (apart_after oldest c.args.at (comparison most_steps g left right) was.settled now.settled log more
+    (shapes_root oldest false c.args.at most_steps g left right false was.settled now.settled log more c.requires.left c.requires.right
+    (subst (λ m. Keeps oldest false c.args.at (comparison most_steps g (shape_in g left) (shape_in g right)) m was.settled
     now.settled log more) c.if-branch.false c.in_ok-keep_shapes.ensures.kept)))
 
 pub returns-then-same_shape : goal.returns-then-same_shape

@@ -1,4 +1,4 @@
-use Rattle.std.proofs.Common.{true, false, subst, sym, ap, ◌∙◌, arith}
+use Rattle.std.proofs.Common.{true, false, subst, sym, ap, ◌∙◌, arith, length}
 use Rattle.cc_core.specs.Equality.{same_shape}
 use Rattle.cc_core.specs.TermViews.{shape_of, type_of, context_of}
 use Rattle.cc_checking.specs.Comparison.{demanded, comparison, type_comparison}
@@ -28,12 +28,13 @@ returns-then-branch c =
     let left = type_of c.args.left.now in
     let right = type_of c.args.right.now in
     let was = c.args.log.now in
+    let oldest = length (context_of c.new.result.base) in
     let now = c.keep_types.new.log in
     let log = asked_of was.demands in
     let more = asked_of now.demands in
-    matched_after c.args.at (type_comparison most_steps g left right) was.settled now.settled log more
-    (types_root false c.args.at most_steps g left right true was.settled now.settled log more c.requires.left c.requires.right
-    (subst (λ m. Keeps false c.args.at (type_comparison most_steps g (type_in g left) (type_in g right)) m was.settled
+    matched_after oldest c.args.at (type_comparison most_steps g left right) was.settled now.settled log more
+    (types_root oldest false c.args.at most_steps g left right true was.settled now.settled log more c.requires.left c.requires.right
+    (subst (λ m. Keeps oldest false c.args.at (type_comparison most_steps g (type_in g left) (type_in g right)) m was.settled
     now.settled log more) c.if-branch.true c.in_ok-keep_types.ensures.kept))
 
 pub returns-else-branch : goal.returns-else-branch
@@ -42,13 +43,14 @@ returns-else-branch c =
     let left = type_of c.args.left.now in
     let right = type_of c.args.right.now in
     let was = c.args.log.now in
+    let oldest = length (context_of c.new.result.base) in
     let now = c.keep_types.new.log in
     let log = asked_of was.demands in
     let more = asked_of now.demands in
     refused_met more c.refused.result c.args.at (after log (plain.below comparing c.args.at g left right)) c.refused.ensures
-    (apart_after c.args.at (type_comparison most_steps g left right) was.settled now.settled log more
-    (types_root false c.args.at most_steps g left right false was.settled now.settled log more c.requires.left c.requires.right
-    (subst (λ m. Keeps false c.args.at (type_comparison most_steps g (type_in g left) (type_in g right)) m was.settled
+    (apart_after oldest c.args.at (type_comparison most_steps g left right) was.settled now.settled log more
+    (types_root oldest false c.args.at most_steps g left right false was.settled now.settled log more c.requires.left c.requires.right
+    (subst (λ m. Keeps oldest false c.args.at (type_comparison most_steps g (type_in g left) (type_in g right)) m was.settled
     now.settled log more) c.if-branch.false c.in_ok-keep_types.ensures.kept)))
 
 pub keep_below-requires-clause-left : goal.keep_below-requires-clause-left

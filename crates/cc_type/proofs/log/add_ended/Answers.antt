@@ -1,4 +1,6 @@
 use Rattle.cc_known.proofs.EndedLists.{those_added}
+use Rattle.cc_core.specs.TermViews.{context_of}
+use Rattle.cc_type.proofs.RememberedLater.{remembered_added, keyed_added}
 use Rattle.cc_type.proofs.log.add_ended.Goals as goal
 
 pub invariant_of-log-2-clause-noted : goal.invariant_of-log-2-clause-noted
@@ -6,3 +8,15 @@ invariant_of-log-2-clause-noted c =
     let log = c.args.log.now in
     those_added log.ended.keys c.reserve.new.self.keys c.note.new.ended.keys log.demands c.push.new.self c.args.demand
     c.args.ends c.reserve.ensures.keys.2 c.note.ensures c.requires.ends c.in_ok-push.ensures.ok log.noted
+
+pub invariant_of-log-2-clause-remembered : goal.invariant_of-log-2-clause-remembered
+invariant_of-log-2-clause-remembered c =
+    let log = c.args.log.now in
+    remembered_added log.demands c.push.new.self c.args.demand (context_of log.known.base) log.known.pairs.items
+    c.in_ok-push.ensures.ok log.remembered
+
+pub invariant_of-log-2-clause-matched : goal.invariant_of-log-2-clause-matched
+invariant_of-log-2-clause-matched c =
+    let log = c.args.log.now in
+    keyed_added log.demands c.push.new.self c.args.demand (context_of log.known.base) log.known.keyed.items
+    c.in_ok-push.ensures.ok log.matched

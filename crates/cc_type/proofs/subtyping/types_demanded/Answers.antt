@@ -1,4 +1,4 @@
-use Rattle.std.proofs.Common.{true, false, Some, sym, subst}
+use Rattle.std.proofs.Common.{true, false, Some, sym, subst, length}
 use Rattle.cc_core.specs.TermViews.{type_of, context_of}
 use Rattle.cc_checking.specs.Comparison.{type_comparison}
 use Rattle.cc_checking.specs.Inference.{type_in}
@@ -22,14 +22,15 @@ returns-then-branch c =
     let left = type_of c.args.left.now in
     let right = type_of c.args.right.now in
     let was = c.new-log.result in
+    let oldest = length (context_of c.new.result.base) in
     let now = c.keep_types.new.log in
     let kept =
-    types_root true c.args.at most_steps g left right true was.settled now.settled (asked_of c.new-2.result) (asked_of now.whole)
+    types_root oldest true c.args.at most_steps g left right true was.settled now.settled (asked_of c.new-2.result) (asked_of now.whole)
     c.requires.left c.requires.right
-    (subst (λ m. Keeps true c.args.at (type_comparison most_steps g (type_in g left) (type_in g right)) m was.settled now.settled
+    (subst (λ m. Keeps oldest true c.args.at (type_comparison most_steps g (type_in g left) (type_in g right)) m was.settled now.settled
     (asked_of c.new-2.result) (asked_of now.whole)) c.if-branch.true c.in_ok-keep_types.ensures.kept) in
     subst (λ d. Demanded c.args.at (type_comparison most_steps g left right) (Some d)) (sym c.replace.ensures.value)
-    (whole_demanded c.args.at (type_comparison most_steps g left right) was.settled now.settled c.new-2.result now.whole
+    (whole_demanded oldest c.args.at (type_comparison most_steps g left right) was.settled now.settled c.new-2.result now.whole
     c.new-2.ensures kept)
 
 pub returns : goal.returns
@@ -38,11 +39,12 @@ returns c =
     let left = type_of c.args.left.now in
     let right = type_of c.args.right.now in
     let was = c.new-log.result in
+    let oldest = length (context_of c.new.result.base) in
     let now = c.keep_types.new.log in
     let kept =
-    types_root true c.args.at most_steps g left right false was.settled now.settled (asked_of c.new-2.result) (asked_of now.whole)
+    types_root oldest true c.args.at most_steps g left right false was.settled now.settled (asked_of c.new-2.result) (asked_of now.whole)
     c.requires.left c.requires.right
-    (subst (λ m. Keeps true c.args.at (type_comparison most_steps g (type_in g left) (type_in g right)) m was.settled now.settled
+    (subst (λ m. Keeps oldest true c.args.at (type_comparison most_steps g (type_in g left) (type_in g right)) m was.settled now.settled
     (asked_of c.new-2.result) (asked_of now.whole)) c.if-branch.false c.in_ok-keep_types.ensures.kept) in
-    apart_keep true c.args.at (type_comparison most_steps g left right) was.settled now.settled (asked_of c.new-2.result)
+    apart_keep oldest true c.args.at (type_comparison most_steps g left right) was.settled now.settled (asked_of c.new-2.result)
     (asked_of now.whole) kept
