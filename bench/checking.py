@@ -2,8 +2,8 @@
 
 For each it prints the processor time in milliseconds, the greatest memory in megabytes, and what each is to that of the
 half. The start of the process is counted too, and memory below that of this program itself is shown as that. It fails
-where a verdict is another one, where a text has more than 65,536 bytes, and where the full size takes a second or 200
-megabytes.
+where a verdict is another one, where a text has more than 65,536 bytes, and where the full size takes more than the
+bar of its text.
 Usage: checking.py PROGRAM RUNS [WORD ..] for the texts whose names have one of the words
 """
 import os
@@ -282,38 +282,42 @@ def chains_of_own_parameters(count):
     return 'def f=fun(x:%s(u:Unit)->X%d)=>val r:%s(u:Unit)->(z:Y%d)->Int=x;unit\n' % (text, count, text, count)
 
 
+# Bars: so many milliseconds and so many megabytes.
+CHAIN, COMPARED, KEPT, DEAR = (50, 50), (300, 50), (400, 50), (1000, 200)
+
+# Each text with its full size, how many definitions are accepted or the code of the refusal, and its bar.
 TEXTS = [
-    ('definitions', definitions, 5000, 5000),
-    ('a chain of bounds', chains_of_bounds, 45, 1),
-    ('the same where sets are apart', chains_of_bounds_apart, 45, 'E15'),
-    ('a chain of bounds that name own binders', chains_of_own_binders, 45, 1),
-    ('own binders where sets are apart', chains_of_own_binders_apart, 45, 'E15'),
-    ('own binders beside an omitted set', chains_of_own_binders_beside_a_hole, 45, 1),
-    ('a chain of bounds of own parameters', chains_of_own_parameters, 45, 1),
-    ('a chain of bounds with kept demands', chains_of_kept_demands, 45, 1),
-    ('the same with one kept demand', chains_of_kept_demands_alike, 45, 1),
-    ('kept demands with a device on the right', chains_of_kept_demands_below_a_device, 45, 1),
-    ('kept demands with cap on the right', chains_of_kept_demands_below_cap, 45, 1),
-    ('kept demands with own binders on the right', chains_of_kept_demands_below_own_binders, 45, 1),
-    ('98 vals inside one another', vals, 80, 80),
-    ('comparisons of types of size 1,985', comparisons, 4200, 1),
-    ('the same beside an omitted set', comparisons_beside_a_hole, 4200, 1),
-    ('the same where one set is omitted', comparisons_of_holes, 4200, 1),
-    ('comparisons of types nested to the left', comparisons_to_the_left, 4200, 1),
-    ('comparisons through 90 definitions', comparisons_through_definitions, 4000, 91),
-    ('comparisons of a variable with 288 shapes', comparisons_of_a_variable, 2800, 1),
-    ('kept comparisons of 40 closures', kept_through_closures, 3600, 1),
-    ('kept comparisons behind 12 closures each', kept_behind_closures, 3600, 1),
-    ('kept comparisons of 60 omitted sets', kept_of_omitted, 4800, 1),
-    ('chains of 62 omitted sets', chains_of_holes, 32, 1),
-    ('definitions of 30 closures', closures, 60, 60),
-    ('type applications to a shape', applications, 1160, 1),
-    ('type applications to a name', applications_to_names, 4600, 1),
-    ('large signatures', large_signatures, 1980, 1980),
-    ('98 vals of large types', vals_of_large_types, 72, 72),
-    ('96 functions of large types', functions_of_large_types, 60, 60),
-    ('calls of large types', calls_of_large_types, 5200, 3),
-    ('large types of many positions', many_positions, 450, 499),
+    ('definitions', definitions, 5000, 5000, DEAR),
+    ('a chain of bounds', chains_of_bounds, 45, 1, CHAIN),
+    ('the same where sets are apart', chains_of_bounds_apart, 45, 'E15', CHAIN),
+    ('a chain of bounds that name own binders', chains_of_own_binders, 45, 1, CHAIN),
+    ('own binders where sets are apart', chains_of_own_binders_apart, 45, 'E15', CHAIN),
+    ('own binders beside an omitted set', chains_of_own_binders_beside_a_hole, 45, 1, CHAIN),
+    ('a chain of bounds of own parameters', chains_of_own_parameters, 45, 1, CHAIN),
+    ('a chain of bounds with kept demands', chains_of_kept_demands, 45, 1, CHAIN),
+    ('the same with one kept demand', chains_of_kept_demands_alike, 45, 1, CHAIN),
+    ('kept demands with a device on the right', chains_of_kept_demands_below_a_device, 45, 1, CHAIN),
+    ('kept demands with cap on the right', chains_of_kept_demands_below_cap, 45, 1, CHAIN),
+    ('kept demands with own binders on the right', chains_of_kept_demands_below_own_binders, 45, 1, CHAIN),
+    ('98 vals inside one another', vals, 80, 80, DEAR),
+    ('comparisons of types of size 1,985', comparisons, 4200, 1, COMPARED),
+    ('the same beside an omitted set', comparisons_beside_a_hole, 4200, 1, COMPARED),
+    ('the same where one set is omitted', comparisons_of_holes, 4200, 1, COMPARED),
+    ('comparisons of types nested to the left', comparisons_to_the_left, 4200, 1, COMPARED),
+    ('comparisons through 90 definitions', comparisons_through_definitions, 4000, 91, COMPARED),
+    ('comparisons of a variable with 288 shapes', comparisons_of_a_variable, 2800, 1, COMPARED),
+    ('kept comparisons of 40 closures', kept_through_closures, 3600, 1, KEPT),
+    ('kept comparisons behind 12 closures each', kept_behind_closures, 3600, 1, KEPT),
+    ('kept comparisons of 60 omitted sets', kept_of_omitted, 4800, 1, KEPT),
+    ('chains of 62 omitted sets', chains_of_holes, 32, 1, DEAR),
+    ('definitions of 30 closures', closures, 60, 60, DEAR),
+    ('type applications to a shape', applications, 1160, 1, DEAR),
+    ('type applications to a name', applications_to_names, 4600, 1, DEAR),
+    ('large signatures', large_signatures, 1980, 1980, DEAR),
+    ('98 vals of large types', vals_of_large_types, 72, 72, DEAR),
+    ('96 functions of large types', functions_of_large_types, 60, 60, DEAR),
+    ('calls of large types', calls_of_large_types, 5200, 3, DEAR),
+    ('large types of many positions', many_positions, 450, 499, DEAR),
 ]
 
 
@@ -343,7 +347,7 @@ def measured(words, make, count, accepted):
 program, times, wanted = sys.argv[1], sys.argv[2], sys.argv[3:]
 dear = []
 print('%-42s %6s %6s %9s %5s %8s %5s' % ('text', 'count', 'bytes', 'ms', 'ratio', 'MB', 'ratio'))
-for words, make, count, accepted in TEXTS:
+for words, make, count, accepted, bar in TEXTS:
     if wanted and not any(word in words for word in wanted):
         continue
     half = count // 2
@@ -353,7 +357,7 @@ for words, make, count, accepted in TEXTS:
     half_time, half_memory, _ = measured(words, make, half, half + rest if each else accepted)
     print('%-42s %6d %6d %9.1f %5.2f %8.1f %5.2f' % (
         words, count, size, time * 1000, time / half_time, memory, memory / half_memory), flush=True)
-    if time >= 1 or memory >= 200:
-        dear.append(words)
+    if time * 1000 > bar[0] or memory > bar[1]:
+        dear.append('%s (more than %d ms or %d MB)' % (words, *bar))
 if dear:
     sys.exit('bench/checking.py: too dear: ' + '; '.join(dear))

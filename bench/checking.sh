@@ -1,7 +1,7 @@
 #!/usr/bin/env bash
 # Measures the verdicts of the texts that are dearest to judge, each at its full size and at half of it: the processor
 # time, the greatest memory, and what each is to that of the half. It fails where there is no program, where a verdict is
-# another one, and where a text takes a second or 200 megabytes.
+# another one, and where a text takes more than its bar.
 # Build the program first: cd crates/capc && rt run < stdin
 # Usage: bench/checking.sh [PROGRAM [RUNS [WORD ..]]] for the texts whose names have one of the words
 set -u

@@ -1,5 +1,5 @@
 """Measures the check of modules whose types share those of the definitions before, each at its full size and at half
-of it.
+of it. The two take turns, so that both see the same of what else the machine does.
 
 Usage: sharing.py PROGRAM RUNS
 """
@@ -53,13 +53,14 @@ def row(name, make, count, bar):
     """The full size, by which power it grew from the half without the start of the process, and whether that is within
     the bar."""
     global failed
-    best = []
-    for size in (count // 2, count):
-        took, most, status, last = measuring.measured(program, make(size), runs)
-        if status != 0 or not last.endswith(' ok'):
-            print('another answer:', status, last)
-            failed = True
-        best.append(max(took - start, 0.1))
+    jobs, best, most = [make(count // 2), make(count)], [math.inf, math.inf], 0
+    for _ in range(runs):
+        for at, job in enumerate(jobs):
+            took, memory, status, last = measuring.measured(program, job, 1)
+            if status != 0 or not last.endswith(' ok'):
+                print('another answer:', status, last)
+                failed = True
+            best[at], most = min(best[at], max(took - start, 0.1)), max(most, memory)
     power = math.log2(best[1] / best[0])
     print('%-52s %7d %8.1f ms  power %4.2f  %6.1f MB' % (name, count, best[1], power, most))
     if best[1] > bar:

@@ -8,4 +8,4 @@
 set -u
 program=${1:-$(dirname "$0")/../crates/capc/out/capc}
 [ -x "$program" ] || { echo "bench/sharing.sh: there is no program $program: build it first" >&2; exit 1; }
-PYTHONDONTWRITEBYTECODE=1 exec python3 "$(dirname "$0")/sharing.py" "$program" "${2:-3}"
+PYTHONDONTWRITEBYTECODE=1 exec python3 "$(dirname "$0")/sharing.py" "$program" "${2:-7}"

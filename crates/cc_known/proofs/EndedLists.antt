@@ -264,26 +264,18 @@ those_added before middle after ds ds' d ended same put is more old =
     subst (AreThose after) (sym (ap asked_of more ∙ asked-push ds d))
     (those_more middle after (asked_of ds) (demand_of d) ended put is (λ other. same other ∙ old other))
 
--- one of them
-pub known-at : (context : Context) (known : List KnownEnds) (i : ℕ) (one : KnownEnds)
-    → (i < length known) × (one ≡ get_or known i one) → list_all (is_known_end context) known ≡ true
-    → is_known_end context one ≡ true
-known-at context [] i one at all = absurd (omega (arith, at.0))
-known-at context (k ∷ known) zero one at all =
-    ap (is_known_end context) at.1 ∙ (and_parts (is_known_end context k) (list_all (is_known_end context) known) all).0
-known-at context (k ∷ known) (suc i) one at all =
-    known-at context known i one (omega (arith, at.0), at.1)
-    (and_parts (is_known_end context k) (list_all (is_known_end context) known) all).1
+-- one of many that pass a test
+pub passes-at : {A : Type 0} (test : A → Bool) (xs : List A) (i : ℕ) (x : A) → i < length xs → x ≡ get_or xs i x
+    → list_all test xs ≡ true → test x ≡ true
+passes-at test [] i x below is all = absurd (omega arith)
+passes-at test (y ∷ xs) zero x below is all = ap test is ∙ (and_parts (test y) (list_all test xs) all).0
+passes-at test (y ∷ xs) (suc i) x below is all = passes-at test xs i x (omega arith) is (and_parts (test y) (list_all test xs) all).1
 
--- with another one at a place
-pub known-set : (context : Context) (known : List KnownEnds) (i : ℕ) (other : KnownEnds)
-    → list_all (is_known_end context) known ≡ true → is_known_end context other ≡ true
-    → list_all (is_known_end context) (set known i other) ≡ true
-known-set context [] i other all is = refl
-known-set context (k ∷ known) zero other all is =
-    and_from (is_known_end context other) (list_all (is_known_end context) known) is
-    (and_parts (is_known_end context k) (list_all (is_known_end context) known) all).1
-known-set context (k ∷ known) (suc i) other all is =
-    let both = and_parts (is_known_end context k) (list_all (is_known_end context) known) all in
-    and_from (is_known_end context k) (list_all (is_known_end context) (set known i other)) both.0
-    (known-set context known i other both.1 is)
+-- and with another one at a place
+pub passes-set : {A : Type 0} (test : A → Bool) (xs : List A) (i : ℕ) (x : A) → list_all test xs ≡ true → test x ≡ true
+    → list_all test (set xs i x) ≡ true
+passes-set test [] i x all is = refl
+passes-set test (y ∷ xs) zero x all is = and_from (test x) (list_all test xs) is (and_parts (test y) (list_all test xs) all).1
+passes-set test (y ∷ xs) (suc i) x all is =
+    let both = and_parts (test y) (list_all test xs) all in
+    and_from (test y) (list_all test (set xs i x)) both.0 (passes-set test xs i x both.1 is)

@@ -17,9 +17,9 @@ use Rattle.cc_core.specs.Shapes.{Shape, AnyShape}
 use Rattle.cc_core.specs.Substitution.{moved_element, renamed_variable, renamed_set}
 use Rattle.cc_core.proofs.Lookups.{lookup-more, lookup-within, lookup-below}
 use Rattle.cc_known.specs.ComparedAgain.{renamed_entry, seen}
-use Rattle.cc_known.specs.EndsAgain.{is_among_oldest, stays_fillable, comes_again, KeptComparedAgain, ComesNeedless}
+use Rattle.cc_known.specs.EndsAgain.{stays_fillable, comes_again, KeptComparedAgain, ComesNeedless}
 use Rattle.cc_known.specs.Keeping.{is_end, beyond, declared_of, all_given_way, ends_beyond, is_demand_settled}
-use Rattle.cc_known.specs.Keeping.{has_hole, may_fill, fillable, has_lost, has_ended_so, is_repeated, with_one}
+use Rattle.cc_known.specs.Keeping.{has_hole, is_among_oldest, fillable, has_lost, has_ended_so, is_repeated, with_one}
 use Rattle.cc_checking.specs.Comparison.{demanded}
 use Rattle.cc_checking.specs.Inference.{demand_at}
 use Rattle.cc_checking.specs.Outcomes.{IsBelow, Placed}
@@ -440,7 +440,7 @@ module _ (small real : Context) (to back : ℕ → ℕ) (moves : Moves small rea
       oldest_still (Hole n) h = refl
 
       fills_alike : (x : Elem) → is_among_oldest oldest x ≡ true
-          → may_fill (closed_entries (again small real to back moves more)) x ≡ may_fill (closed_entries (more ++ small)) x
+          → is_among_oldest (closed_entries (again small real to back moves more)) x ≡ is_among_oldest (closed_entries (more ++ small)) x
       fills_alike (Variable (Free q)) h = older_fills q (ltb-true q oldest h)
       fills_alike (Variable (Bound i)) h = refl
       fills_alike Cap h = refl
@@ -448,7 +448,7 @@ module _ (small real : Context) (to back : ℕ → ℕ) (moves : Moves small rea
 
       -- what may fill holes is among the oldest, where one of these is open
       filling_oldest : (x : Elem) → nat_lt (closed_entries (more ++ small)) oldest ≡ true
-          → may_fill (closed_entries (more ++ small)) x ≡ true → is_among_oldest oldest x ≡ true
+          → is_among_oldest (closed_entries (more ++ small)) x ≡ true → is_among_oldest oldest x ≡ true
       filling_oldest (Variable (Free q)) holed h =
           let low = ltb-true q (closed_entries (more ++ small)) h in
           let high = ltb-true (closed_entries (more ++ small)) oldest holed in
@@ -458,7 +458,7 @@ module _ (small real : Context) (to back : ℕ → ℕ) (moves : Moves small rea
       filling_oldest (Hole n) holed h = refl
 
       filling_oldest_there : (x : Elem) → nat_lt (closed_entries (again small real to back moves more)) oldest ≡ true
-          → may_fill (closed_entries (again small real to back moves more)) x ≡ true → is_among_oldest oldest x ≡ true
+          → is_among_oldest (closed_entries (again small real to back moves more)) x ≡ true → is_among_oldest oldest x ≡ true
       filling_oldest_there (Variable (Free q)) holed h =
           let low = ltb-true q (closed_entries (again small real to back moves more)) h in
           let high = ltb-true (closed_entries (again small real to back moves more)) oldest holed in
@@ -472,7 +472,7 @@ module _ (small real : Context) (to back : ℕ → ℕ) (moves : Moves small rea
 
       -- a member that may fill holes is among the oldest
       member_oldest : (r : Set) → Kept r → (x : Elem) → Member x r
-          → may_fill (closed_entries (more ++ small)) x ≡ true → is_among_oldest oldest x ≡ true
+          → is_among_oldest (closed_entries (more ++ small)) x ≡ true → is_among_oldest oldest x ≡ true
       unfolding contains
       member_oldest r kept x m h =
           elim (or_cases (nat_lt (closed_entries (more ++ small)) oldest) (list_all (is_among_oldest oldest) r.list) kept)
@@ -482,7 +482,7 @@ module _ (small real : Context) (to back : ℕ → ℕ) (moves : Moves small rea
           ]
 
       member_oldest_there : (r : Set) → Kept r → (x : Elem) → Member x r
-          → may_fill (closed_entries (again small real to back moves more)) (goes x) ≡ true → is_among_oldest oldest x ≡ true
+          → is_among_oldest (closed_entries (again small real to back moves more)) (goes x) ≡ true → is_among_oldest oldest x ≡ true
       unfolding contains
       member_oldest_there r kept x m h =
           elim (or_cases (nat_lt (closed_entries (more ++ small)) oldest) (list_all (is_among_oldest oldest) r.list) kept)
@@ -500,12 +500,12 @@ module _ (small real : Context) (to back : ℕ → ℕ) (moves : Moves small rea
           (λ e m.
           let k = (Member-fillable (again small real to back moves more) e (renamed_set to r)).0 m in
           let f = member_from small real to back moves e r k.1 in
-          let fills = ap (may_fill (closed_entries (again small real to back moves more))) (sym f.2) ∙ k.0 in
+          let fills = ap (is_among_oldest (closed_entries (again small real to back moves more))) (sym f.2) ∙ k.0 in
           let old = member_oldest_there r kept f.0 f.1 fills in
           let is : e ≡ f.0 = f.2 ∙ oldest_still f.0 old in
           (Member-fillable (more ++ small) e r).1 (
-            ap (may_fill (closed_entries (more ++ small))) is ∙ sym (fills_alike f.0 old)
-                ∙ ap (may_fill (closed_entries (again small real to back moves more))) (sym (oldest_still f.0 old)) ∙ fills,
+            ap (is_among_oldest (closed_entries (more ++ small))) is ∙ sym (fills_alike f.0 old)
+                ∙ ap (is_among_oldest (closed_entries (again small real to back moves more))) (sym (oldest_still f.0 old)) ∙ fills,
             subst (λ x. Member x r) (sym is) f.1,
           ))
           (λ e m.

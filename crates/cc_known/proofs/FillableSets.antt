@@ -29,7 +29,7 @@ use Rattle.cc_sets.proofs.Markings.{listed_last, listed_before, listed_itself}
 use Rattle.cc_sets.proofs.SubcapturingSearch.{set_lower}
 use Rattle.cc_checking_laws.specs.FillingLaws.{AreGlobals}
 use Rattle.cc_checking_laws.proofs.LeastFillings.{filled-still}
-use Rattle.cc_known.specs.Keeping.{has_hole, may_fill, fillable}
+use Rattle.cc_known.specs.Keeping.{has_hole, is_among_oldest, fillable}
 use Rattle.cc_known.proofs.ClosedAgain.{closed_within, opened, open_at, older_alike}
 use Rattle.cc_known.proofs.ComparedAgain.{older_members}
 use Rattle.cc_known.proofs.KeptDemands.{none_passes}
@@ -60,7 +60,7 @@ globals_closed later globals alone =
 
 -- so a global may fill holes
 pub global_fills : (later globals : Context) → AreGlobals globals → (e : Elem) → IsGlobal (length globals) e
-    → may_fill (closed_entries (later ++ globals)) e ≡ true
+    → is_among_oldest (closed_entries (later ++ globals)) e ≡ true
 global_fills later globals alone (Variable (Free p)) is =
     let low = globals_closed later globals alone in lt-ltb p (closed_entries (later ++ globals)) (omega (arith, is, low))
 global_fills later globals alone (Variable (Bound i)) is = absurd is
@@ -68,9 +68,9 @@ global_fills later globals alone Cap is = refl
 global_fills later globals alone (Hole n) is = absurd is
 
 pub Member-fillable : (g : Context) (e : Elem) (r : Set)
-    → Member e (fillable g r) ↔ ((may_fill (closed_entries g) e ≡ true) × Member e r)
+    → Member e (fillable g r) ↔ ((is_among_oldest (closed_entries g) e ≡ true) × Member e r)
 unfolding fillable
-Member-fillable g e r = Member-retain (may_fill (closed_entries g)) e r
+Member-fillable g e r = Member-retain (is_among_oldest (closed_entries g)) e r
 
 all_fail : (test : Elem → Bool) (xs : List Elem) → ((e : Elem) → is_listed e xs ≡ true → test e ≡ false)
     → list_any test xs ≡ false
@@ -84,7 +84,7 @@ pub fillable_hole : (g : Context) (r : Set) → has_hole (fillable g r) ≡ has_
 unfolding contains
 fillable_hole g r = by_tests (has_hole (fillable g r)) (has_hole r) refl refl
   where
-    fills : (e : Elem) → is_hole e ≡ true → may_fill (closed_entries g) e ≡ true
+    fills : (e : Elem) → is_hole e ≡ true → is_among_oldest (closed_entries g) e ≡ true
     fills (Variable v) is = cc
     fills Cap is = refl
     fills (Hole n) is = refl
@@ -133,7 +133,7 @@ fillable_on passed base r formed =
         let found = lookup-within base p low in
         ap opened (lookup-more passed base p found.0 found.1 ∙ sym found.1)
 
-    fills : (e : Elem) → Member e r → may_fill (closed_entries (passed ++ base)) e ≡ may_fill (closed_entries base) e
+    fills : (e : Elem) → Member e r → is_among_oldest (closed_entries (passed ++ base)) e ≡ is_among_oldest (closed_entries base) e
     fills (Variable (Free p)) m =
         let long = length-append passed base in
         older_alike (passed ++ base) base (length base) (omega (arith, long)) (omega arith) there p
@@ -182,23 +182,23 @@ below_globals {globals = globals} (variable {position = p} {shape = s} {declared
 
 -- the elements of a list that may be put in for holes
 abbrev pub AreFillable : ℕ → List Elem → Set → Type 0
-AreFillable closed elements kept = (e : Elem) → Member e kept ↔ ((may_fill closed e ≡ true) × (is_listed e elements ≡ true))
+AreFillable closed elements kept = (e : Elem) → Member e kept ↔ ((is_among_oldest closed e ≡ true) × (is_listed e elements ≡ true))
 
 pub fills_none : (closed : ℕ) (kept : Set) → kept ≡ empty → AreFillable closed [] kept
 fills_none closed kept none e = (λ m. absurd (Member-empty e (subst (Member e) none m)), λ both. let no : false ≡ true = both.1 in cc)
 
 pub fills_more : (closed : ℕ) (xs : List Elem) (x : Elem) (kept kept' : Set)
-    → kept' ≡ cond (may_fill closed x) (insert x kept) kept → AreFillable closed xs kept → AreFillable closed (xs ++ x ∷ []) kept'
-fills_more closed xs x kept kept' put old e = by_test (may_fill closed x) refl put
+    → kept' ≡ cond (is_among_oldest closed x) (insert x kept) kept → AreFillable closed xs kept → AreFillable closed (xs ++ x ∷ []) kept'
+fills_more closed xs x kept kept' put old e = by_test (is_among_oldest closed x) refl put
   where
-    by_test : (b : Bool) → may_fill closed x ≡ b → kept' ≡ cond b (insert x kept) kept
-        → Member e kept' ↔ ((may_fill closed e ≡ true) × (is_listed e (xs ++ x ∷ []) ≡ true))
+    by_test : (b : Bool) → is_among_oldest closed x ≡ b → kept' ≡ cond b (insert x kept) kept
+        → Member e kept' ↔ ((is_among_oldest closed e ≡ true) × (is_listed e (xs ++ x ∷ []) ≡ true))
     by_test true fills is = (
       λ m.
           elim ((Member-insert e x kept).0 (subst (Member e) is m))
-          as (λ _. (may_fill closed e ≡ true) × (is_listed e (xs ++ x ∷ []) ≡ true)) [
+          as (λ _. (is_among_oldest closed e ≡ true) × (is_listed e (xs ++ x ∷ []) ≡ true)) [
             | inl same ↦ (
-              ap (may_fill closed) same ∙ fills,
+              ap (is_among_oldest closed) same ∙ fills,
               subst (λ y. is_listed y (xs ++ x ∷ []) ≡ true) (sym same) (listed_itself x xs),
             )
             | inr was ↦ let k = (old e).0 was in (k.0, listed_before e x xs k.1)
@@ -217,19 +217,19 @@ fills_more closed xs x kept kept' put old e = by_test (may_fill closed x) refl p
           subst (Member e) (sym is)
           (elim (listed_last e x xs both.1) as (λ _. Member e kept) [
             | inl before ↦ (old e).1 (both.0, before)
-            | inr same ↦ absurd (both_ways (may_fill closed x) fills (ap (may_fill closed) (sym same) ∙ both.0))
+            | inr same ↦ absurd (both_ways (is_among_oldest closed x) fills (ap (is_among_oldest closed) (sym same) ∙ both.0))
           ]),
     )
 
 pub fills_all : (closed : ℕ) (xs : List Elem) (set kept : Set) → map (λ x. x) xs ≡ set.list → AreFillable closed xs kept
-    → kept ≡ retain (may_fill closed) set
+    → kept ≡ retain (is_among_oldest closed) set
 unfolding contains
 fills_all closed xs set kept all old =
     let same : xs ≡ set.list = sym (map-id xs) ∙ all in
     same_members _ _
     (λ e m.
     let k = (old e).0 m in
-    (Member-retain (may_fill closed) e set).1 (k.0, subst (λ ys. is_listed e ys ≡ true) same k.1))
+    (Member-retain (is_among_oldest closed) e set).1 (k.0, subst (λ ys. is_listed e ys ≡ true) same k.1))
     (λ e m.
-    let k = (Member-retain (may_fill closed) e set).0 m in
+    let k = (Member-retain (is_among_oldest closed) e set).0 m in
     (old e).1 (k.0, subst (λ ys. is_listed e ys ≡ true) (sym same) k.1))

@@ -1,5 +1,6 @@
 pub mod ClosedAgain
 pub mod ComparedAgain
+pub mod ComparedPairs
 pub mod DemandEnds
 pub mod EndedLists
 pub mod EndsAgain

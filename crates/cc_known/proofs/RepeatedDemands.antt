@@ -28,7 +28,7 @@ use Rattle.cc_checking_laws.proofs.CheckedDefinitions.{all_terms}
 use Rattle.cc_checking_laws.proofs.LeastFillings.{Member-filled, Member-from_filled, lookup-filled, globals_still}
 use Rattle.cc_checking_laws.proofs.LeastFillings.{filled_context-append}
 use Rattle.cc_core.specs.ClosedEntries.{closed_entries}
-use Rattle.cc_known.specs.Keeping.{has_hole, is_end, beyond, declared_of, all_given_way, ends_beyond, may_fill, fillable}
+use Rattle.cc_known.specs.Keeping.{has_hole, is_end, beyond, declared_of, all_given_way, ends_beyond, is_among_oldest, fillable}
 use Rattle.cc_known.specs.Keeping.{is_ended_so, has_ended_so, may_force, is_repeated}
 use Rattle.cc_known.proofs.DemandEnds.{beyond_both, both_beyond, member_cases, declared_is_lower, declared_is_kinded}
 use Rattle.cc_known.proofs.FillableSets.{Member-fillable, global_fills, fillable_hole, filled_none, below_globals}
@@ -313,7 +313,7 @@ module _ (globals : Context) (formed : IsWellFormedContext globals) (alone : Are
       → fillable again.context again.right ≡ fillable first.context first.right
       → (x : Elem) → IsGlobal (length globals) x → Member x first.right → Member x again.right
   same_globals first again fit fit' same x is m =
-      let fills = subst (λ h. may_fill (closed_entries h) x ≡ true) (sym fit.0.1) (global_fills fit.0.0 globals alone x is) in
+      let fills = subst (λ h. is_among_oldest (closed_entries h) x ≡ true) (sym fit.0.1) (global_fills fit.0.0 globals alone x is) in
       let here = (Member-fillable first.context x first.right).1 (fills, m) in
       ((Member-fillable again.context x again.right).0 (subst (Member x) (sym same) here)).1
 

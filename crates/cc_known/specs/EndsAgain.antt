@@ -2,9 +2,6 @@
 use Rattle.std.specs.Prelude.{◌≡◌, ℕ, nat_lt, Bool, true, ◌&&◌, ◌||◌, List, [], ◌∷◌, ◌++◌, length}
 use Rattle.std.specs.List.{list_all}
 use Rattle.cc_base.specs.declared.place.Place.{Place}
-use Rattle.cc_capture.specs.declared.var.Var.TheVariants.{Bound, Free}
-use Rattle.cc_capture.specs.declared.var.Elem.{Elem}
-use Rattle.cc_capture.specs.declared.var.Elem.TheVariants.{Var as Variable, Cap, Hole}
 use Rattle.cc_core.specs.ClosedEntries.{closed_entries}
 use Rattle.cc_core.specs.Contexts.{Context}
 use Rattle.cc_core.specs.Shapes.{Shape}
@@ -13,14 +10,7 @@ use Rattle.cc_checking.specs.Comparison.{Demand, comparison}
 use Rattle.cc_checking.specs.Inference.{demand_at}
 use Rattle.cc_checking.specs.Outcomes.{IsBelow, Placed}
 use Rattle.cc_known.specs.ComparedAgain.{told}
-use Rattle.cc_known.specs.Keeping.{is_demand_settled, is_repeated, with_one}
-
--- whether it is no variable but one of the oldest, of which there are so many
-abbrev pub is_among_oldest : ℕ → Elem → Bool
-is_among_oldest oldest (Variable (Free position)) = nat_lt position oldest
-is_among_oldest oldest (Variable (Bound index)) = true
-is_among_oldest oldest Cap = true
-is_among_oldest oldest (Hole number) = true
+use Rattle.cc_known.specs.Keeping.{is_among_oldest, is_demand_settled, is_repeated, with_one}
 
 -- Whether what may be put in for holes of a demand's right set is the same wherever the demand comes again with the
 -- oldest variables where they are: one of these has a hole, or the right set names no other.

@@ -113,16 +113,17 @@ abbrev pub ends_beyond : Context → Set → Set → Set
 ends_beyond context right left =
     retain is_end (all_given_way context right (length context) (beyond right left))
 
--- whether it may be put in for a hole, where so many entries are older than all with holes: the globals are among them
-abbrev pub may_fill : ℕ → Elem → Bool
-may_fill closed (Variable (Free position)) = nat_lt position closed
-may_fill closed (Variable (Bound index)) = true
-may_fill closed Cap = true
-may_fill closed (Hole number) = true
+-- whether it is no variable but one of the oldest, of which there are so many
+abbrev pub is_among_oldest : ℕ → Elem → Bool
+is_among_oldest oldest (Variable (Free position)) = nat_lt position oldest
+is_among_oldest oldest (Variable (Bound index)) = true
+is_among_oldest oldest Cap = true
+is_among_oldest oldest (Hole number) = true
 
--- the members of a right set that may be put in for a hole: of the others no filling over the globals sees anything
+-- The members of a right set that may be put in for a hole: the variables among them are older than all with holes, as
+-- the globals are. Of the others no filling over the globals sees anything.
 unfoldable pub fillable : Context → Set → Set
-fillable context right = retain (may_fill (closed_entries context)) right
+fillable context right = retain (is_among_oldest (closed_entries context)) right
 
 -- Whether what is asked forces nothing, has a right set of which this may be put in for holes, and ends so: fillings
 -- over the globals serve all such demands alike.

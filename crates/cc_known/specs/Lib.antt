@@ -1,4 +1,5 @@
 pub mod ComparedAgain
+pub mod ComparedPairs
 pub mod EndedDemands
 pub mod EndsAgain
 pub mod FilledHoles

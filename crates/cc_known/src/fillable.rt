@@ -3,19 +3,19 @@
 ghost use Rattle.std.specs.Prelude.{◌≡◌, IfOk, OnOk, if◌then◌else◌};
 ghost use Rattle.cc_capture.specs.Sets.{insert};
 ghost use Rattle.cc_core.specs.TermViews.{context_of};
-ghost use Rattle.cc_known.specs.Keeping.{may_fill, fillable};
+ghost use Rattle.cc_known.specs.Keeping.{is_among_oldest, fillable};
 
 use cc_capture::{CapSet, Elem, Var};
 use cc_core::Ctx;
 use std::alloc::{AllocError, Global};
 
-// Whether the element may be put in for a hole, where so many entries are older than all with holes.
-fn may_fill(elem: Elem, closed: u32) -> bool
-    ensures { result ≡ may_fill closed elem }
+// Whether the element is no variable but one of the oldest, of which there are so many.
+pub(crate) fn is_among_oldest(elem: Elem, oldest: u32) -> bool
+    ensures { result ≡ is_among_oldest oldest elem }
 {
     match elem {
         Elem::Var(variable) => match variable {
-            Var::Free(position) => position < closed,
+            Var::Free(position) => position < oldest,
             Var::Bound(_) => true,
         },
         Elem::Cap => true,
@@ -25,9 +25,9 @@ fn may_fill(elem: Elem, closed: u32) -> bool
 
 // Puts the element to the others, if it may be put in for a hole.
 fn put_if_fillable(kept: &mut CapSet, elem: Elem, closed: u32) -> Result<(), AllocError>
-    ensures { OnOk result (kept.new ≡ (if may_fill closed elem then insert elem kept.old else kept.old)) }
+    ensures { OnOk result (kept.new ≡ (if is_among_oldest closed elem then insert elem kept.old else kept.old)) }
 {
-    if may_fill(elem, closed) {
+    if is_among_oldest(elem, closed) {
         return kept.insert(elem);
     }
     Ok(())

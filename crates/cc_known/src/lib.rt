@@ -3,6 +3,7 @@
 #![tactic(auto)]
 
 pub mod again_laws;
+pub mod compared;
 pub mod ended;
 pub mod fillable;
 pub mod found;

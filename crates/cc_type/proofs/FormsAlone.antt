@@ -1,6 +1,6 @@
 -- Where two shapes match by their forms, with no hole on a right side, nothing of their comparison is kept behind something
 -- lost.
-use Rattle.std.proofs.Common.{◌≡◌, ℕ, zero, suc, ◌-◌, Bool, true, false, ◌&&◌, ◌||◌, not, cond, List, [], ◌∷◌, ◌++◌}
+use Rattle.std.proofs.Common.{◌≡◌, ℕ, zero, suc, ◌-◌, Bool, true, false, ◌&&◌, not, cond, List, [], ◌∷◌}
 use Rattle.std.proofs.Common.{length, refl, sym, ap, ◌∙◌, subst, arith}
 use Rattle.std.specs.List.{list_all}
 use Rattle.std.proofs.lemmas.Bool.{and_from, and_parts, or_right}
@@ -25,13 +25,12 @@ use Rattle.cc_core.proofs.Sorts.{ShapeSort}
 use Rattle.cc_core.proofs.WellFormedness.{well_formed-bound_within}
 use Rattle.cc_checking.specs.Comparison.{Demand, demanded, Comparison, Unfinished, Mismatch, Matches, and_then, is_any, by_form}
 use Rattle.cc_checking.specs.Comparison.{comparison, type_comparison}
-use Rattle.cc_checking.specs.Inference.{demand_at, compared_at}
 use Rattle.cc_checking.specs.Outcomes.{Placed}
 use Rattle.cc_type.specs.FormsAlone.{forces_nothing}
-use Rattle.cc_known.specs.Keeping.{has_hole, is_lost, has_lost, is_needless, with_one}
+use Rattle.cc_known.specs.ComparedPairs.{IsKept}
+use Rattle.cc_known.specs.Keeping.{has_hole, has_lost}
 use Rattle.cc_known.specs.EndsAgain.{comes_again}
 use Rattle.cc_known.specs.KeptWalks.{goes, form_compared}
-use Rattle.cc_known.specs.Logs.{Got, after}
 use Rattle.cc_known.proofs.ComparedAgain.{all_both}
 use Rattle.cc_known.proofs.KeptWalks.{read-any}
 use Rattle.cc_known.proofs.RememberedPairs.{untrue, all_go}
@@ -155,38 +154,18 @@ formed_shape g t h =
     (and_parts (is_well_formed_shape (kinds_of g) [] t.shape) (is_well_formed_set (kinds_of g) [] t.set) h).0
 
 -- behind something lost
-lost_before : (xs ys : List Placed) → has_lost xs ≡ true → has_lost (xs ++ ys) ≡ true
-lost_before [] ys h = absurd (untrue h)
-lost_before (x ∷ xs) ys h =
-    elim (is_lost x.asked) as (λ b. (b || has_lost xs) ≡ true → (b || has_lost (xs ++ ys)) ≡ true) [
-      | true ↦ λ k. refl
-      | false ↦ λ k. lost_before xs ys k
-    ] h
-
-still_lost : (log : List Placed) (p : Placed) → has_lost log ≡ true → has_lost (with_one log p) ≡ true
-still_lost log p h =
-    elim (is_needless log p.asked) as (λ b. has_lost (cond b log (log ++ p ∷ [])) ≡ true) [
-      | true ↦ h
-      | false ↦ lost_before log (p ∷ []) h
-    ]
-
 go_behind : (log : List Placed) (ds : List Demand) → list_all holeless ds ≡ true → list_all (goes zero log true) ds ≡ true
 go_behind log [] h = refl
 go_behind log (d ∷ ds) h =
     let both = and_parts (holeless d) (list_all holeless ds) h in
     and_from (goes zero log true d) (list_all (goes zero log true) ds) (or_right (comes_again zero log d) (holeless d) both.0) (go_behind log ds both.1)
 
-pub shapes_behind : (at : Place) (c : Comparison) (log : List Placed) → has_lost log ≡ true → forces_nothing c ≡ true
-    → after log (compared_at at c) ≡ Got tt log
-shapes_behind at Unfinished log l h = absurd (untrue h)
-shapes_behind at Mismatch log l h = absurd (untrue h)
-shapes_behind at (Matches ds) log l h = ap (Got tt) (all_go zero true log at ds (λ e. l) (go_behind log ds h))
-
-pub types_behind : (at : Place) (d : Demand) (c : Comparison) (log : List Placed) → has_lost log ≡ true
-    → forces_nothing c ≡ true
-    → after log (compared_at at (and_then (Matches (d ∷ [])) c)) ≡ Got tt (with_one log (demand_at at d))
-types_behind at d Unfinished log l h = absurd (untrue h)
-types_behind at d Mismatch log l h = absurd (untrue h)
-types_behind at d (Matches ds) log l h =
-    ap (Got tt)
-    (all_go zero true (with_one log (demand_at at d)) at ds (λ e. still_lost log (demand_at at d) l) (go_behind (with_one log (demand_at at d)) ds h))
+pub kept_behind : (at : Place) (c : Comparison) (log : List Placed) → has_lost log ≡ true → forces_nothing c ≡ true
+    → IsKept at c true log log
+kept_behind at Unfinished log l h = untrue h
+kept_behind at Mismatch log l h = sym h
+kept_behind at (Matches ds) log l h = (
+  refl,
+  sym (all_go zero true log at ds (λ e. l) (go_behind log ds h)),
+  λ e. absurd (untrue e),
+)

@@ -25,10 +25,14 @@ use Rattle.cc_checking.specs.Inference.{demand_at}
 use Rattle.cc_checking.specs.Outcomes.{IsBelow, Placed}
 use Rattle.cc_base.specs.declared.place.Place.{Place}
 use Rattle.cc_capture.proofs.Equality.{same_set-decides}
+use Rattle.cc_known.specs.ComparedPairs.{is_compared}
+use Rattle.cc_known.specs.declared.compared.Compared.{Compared}
 use Rattle.cc_known.specs.declared.ended.EndedDemand.{EndedDemand}
 use Rattle.cc_known.specs.EndedDemands.{HasEnds, AreThose}
-use Rattle.cc_known.specs.EndsAgain.{is_among_oldest, stays_fillable, comes_again}
-use Rattle.cc_known.specs.Keeping.{has_hole, is_demand_settled, ends_beyond, fillable, is_ended_so, has_ended_so, is_repeated}
+use Rattle.cc_known.specs.EndsAgain.{stays_fillable, comes_again}
+use Rattle.cc_known.specs.Keeping.{is_among_oldest, has_hole, is_demand_settled, ends_beyond, fillable, is_ended_so, has_ended_so, is_repeated}
+use Rattle.cc_type.specs.Comparing.{most_steps}
+use Rattle.cc_known.proofs.ComparedPairs.{compared_later}
 use Rattle.cc_known.proofs.EndedLists.{those_still, again_repeated, set_still}
 use Rattle.cc_known.proofs.KeptDemands.{all_pass}
 use Rattle.cc_known.proofs.KeyedPairs.{keyed_later}
@@ -47,6 +51,13 @@ pub keyed_added : (ds ds' : List DeclaredDemand) (d : DeclaredDemand) (g : Conte
 keyed_added ds ds' d g pairs is h =
     subst (λ l. list_all (is_keyed l g) pairs ≡ true) (sym (ap asked_of is ∙ map-append demand_of ds (d ∷ [])))
     (keyed_later (asked_of ds) (demand_of d) g pairs h)
+
+pub compared_added : (ds ds' : List DeclaredDemand) (d : DeclaredDemand) (pairs : List Compared)
+    → ds' ≡ ds ++ d ∷ [] → list_all (is_compared most_steps (asked_of ds)) pairs ≡ true
+    → list_all (is_compared most_steps (asked_of ds')) pairs ≡ true
+compared_added ds ds' d pairs is h =
+    subst (λ l. list_all (is_compared most_steps l) pairs ≡ true) (sym (ap asked_of is ∙ map-append demand_of ds (d ∷ [])))
+    (compared_later most_steps (asked_of ds) (demand_of d) pairs h)
 
 -- one without ends leaves the ends
 pub those_kept : (keys : List EndedDemand) (ds ds' : List DeclaredDemand) (d : DeclaredDemand) → ds' ≡ ds ++ d ∷ []

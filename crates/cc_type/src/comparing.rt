@@ -1,26 +1,97 @@
 //! The steps of inference that ask something.
 
-ghost use Rattle.std.specs.Prelude.{◌≡◌};
+ghost use Rattle.std.specs.Prelude.{◌≡◌, ◌-◌, IfOk};
 ghost use Rattle.cc_core.specs.TermViews.{shape_of, type_of, context_of};
 ghost use Rattle.cc_core.specs.WellFormed.{IsWellFormedContext, IsWellFormedShape, IsWellFormedType};
+ghost use Rattle.cc_checking.specs.Comparison.{comparison};
 ghost use Rattle.cc_checking.specs.Inference as plain;
 ghost use Rattle.cc_subty.specs.Demands.{asked_of};
+ghost use Rattle.cc_known.specs.ComparedPairs.{IsKept};
 ghost use Rattle.cc_known.specs.Logs.{Meets, after};
+ghost use Rattle.cc_type.specs.Comparing.{most_steps};
 ghost use Rattle.cc_type.specs.Rows.{comparing};
 
 use crate::forms::match_behind;
 use crate::log::{Log, keep_below};
-use crate::walking::{keep_shapes, keep_types};
+use crate::walking::keep_shapes;
 use cc_base::code::Code;
 use cc_base::place::Place;
 use cc_core::same::same_shape;
+use cc_core::sizes::shape_size;
 use cc_core::{Ctx, Shape, Ty};
 use cc_known::known::Known;
 use cc_known::stop::{Stop, refused};
-use std::alloc::Global;
+use std::alloc::{AllocError, Global};
 
-/// The left type has to be below the right one. Where the shapes are one the sets alone are compared, and so are they
-/// where the shapes match with nothing to be kept behind something lost.
+// Of smaller shapes it is not remembered that they were compared.
+const SMALL: u64 = 64;
+
+// Whether going over the shape again takes more than to see that the entries of the context are the same.
+fn is_worth(ctx: &Ctx, shape: &Shape) -> bool {
+    let size = shape_size(shape);
+    size >= SMALL && size >= u64::from(ctx.len() / 2)
+}
+
+// Goes over the two shapes, and remembers where nothing of them has to be kept when they come again.
+fn gone_over(
+    alloc: Global,
+    ctx: &Ctx,
+    left: &Shape,
+    right: &Shape,
+    at: Place,
+    log: &mut Log,
+) -> Result<bool, AllocError>
+    requires context { IsWellFormedContext (context_of ctx.now) }
+    requires left { IsWellFormedShape (context_of ctx.now) (shape_of left.now) }
+    requires right { IsWellFormedShape (context_of ctx.now) (shape_of right.now) }
+    ensures { IfOk result (λ m. IsKept at (comparison most_steps (context_of ctx.now) (shape_of left.now) (shape_of right.now)) m (asked_of log.old.demands) (asked_of log.new.demands)) }
+{
+    log.known = Known::new(alloc, ctx.clone()?);
+    log.settled = true;
+    let matched = keep_shapes(alloc, ctx, left, right, at, log, u32::MAX, false)?;
+    if !matched {
+        return Ok(false);
+    }
+    let all = log.settled;
+    if !all {
+        return Ok(true);
+    }
+    if !is_worth(ctx, right) {
+        return Ok(true);
+    }
+    log.remember_compared(ctx, left, right)?;
+    Ok(true)
+}
+
+// Keeps what has to be kept of the comparison of the two shapes, and answers whether they match. Two that are one are
+// not gone over, and neither are two of which nothing has to be kept: behind something lost, where their forms match, or
+// since they were compared before.
+fn matching(
+    alloc: Global,
+    ctx: &Ctx,
+    left: &Shape,
+    right: &Shape,
+    at: Place,
+    log: &mut Log,
+) -> Result<bool, AllocError>
+    requires context { IsWellFormedContext (context_of ctx.now) }
+    requires left { IsWellFormedShape (context_of ctx.now) (shape_of left.now) }
+    requires right { IsWellFormedShape (context_of ctx.now) (shape_of right.now) }
+    ensures { IfOk result (λ m. IsKept at (comparison most_steps (context_of ctx.now) (shape_of left.now) (shape_of right.now)) m (asked_of log.old.demands) (asked_of log.new.demands)) }
+{
+    if same_shape(left, right) {
+        return Ok(true);
+    }
+    if match_behind(left, right, log) {
+        return Ok(true);
+    }
+    if log.has_compared(ctx, left, right) {
+        return Ok(true);
+    }
+    gone_over(alloc, ctx, left, right, at, log)
+}
+
+/// The left type has to be below the right one.
 pub fn below(
     alloc: Global,
     ctx: &Ctx,
@@ -34,24 +105,15 @@ pub fn below(
     requires right { IsWellFormedType (context_of ctx.now) (type_of right.now) }
     ensures { Meets (λ u. u) result (asked_of log.new.demands) (after (asked_of log.old.demands) (plain.below comparing at (context_of ctx.now) (type_of left.now) (type_of right.now))) }
 {
-    if same_shape(&left.shape, &right.shape) {
-        keep_below(alloc, ctx, &left.set, &right.set, at, log)?;
-        return Ok(());
-    }
-    if match_behind(&left.shape, &right.shape, log) {
-        keep_below(alloc, ctx, &left.set, &right.set, at, log)?;
-        return Ok(());
-    }
-    log.known = Known::new(alloc, ctx.clone()?);
-    if keep_types(alloc, ctx, left, right, at, log, u32::MAX, false)? {
+    keep_below(alloc, ctx, &left.set, &right.set, at, log)?;
+    if matching(alloc, ctx, &left.shape, &right.shape, at, log)? {
         Ok(())
     } else {
         Err(refused(Code::E14, at))
     }
 }
 
-/// The left shape has to be below the right one, and sets do not count. Two that are one are not gone through, and of
-/// two that match with nothing to be kept behind something lost the forms alone are.
+/// The left shape has to be below the right one, and sets do not count.
 pub(crate) fn against(
     alloc: Global,
     ctx: &Ctx,
@@ -65,14 +127,7 @@ pub(crate) fn against(
     requires right { IsWellFormedShape (context_of ctx.now) (shape_of right.now) }
     ensures { Meets (λ u. u) result (asked_of log.new.demands) (after (asked_of log.old.demands) (plain.against comparing at (context_of ctx.now) (shape_of left.now) (shape_of right.now))) }
 {
-    if same_shape(left, right) {
-        return Ok(());
-    }
-    if match_behind(left, right, log) {
-        return Ok(());
-    }
-    log.known = Known::new(alloc, ctx.clone()?);
-    if keep_shapes(alloc, ctx, left, right, at, log, u32::MAX, false)? {
+    if matching(alloc, ctx, left, right, at, log)? {
         Ok(())
     } else {
         Err(refused(Code::E14, at))

@@ -5,9 +5,10 @@ ghost use Rattle.std.specs.HashSet.{spare};
 ghost use Rattle.std.specs.List.{list_all};
 ghost use Rattle.cc_capture.specs.Sets.{Set};
 ghost use Rattle.cc_core.specs.Subcapturing.{SubcapturesSet};
-ghost use Rattle.cc_core.specs.TermViews.{context_of};
+ghost use Rattle.cc_base.specs.declared.place.Place.{Place};
+ghost use Rattle.cc_core.specs.TermViews.{shape_of, context_of};
 ghost use Rattle.cc_core.specs.WellFormed.{IsWellFormedContext, IsWellFormedSet};
-ghost use Rattle.cc_checking.specs.Comparison.{demanded};
+ghost use Rattle.cc_checking.specs.Comparison.{demanded, comparison};
 ghost use Rattle.cc_checking.specs.Outcomes.{IsBelow};
 ghost use Rattle.cc_checking.specs.Inference.{demand_at};
 ghost use Rattle.cc_sets.specs.Marked.{IsClear};
@@ -18,15 +19,18 @@ ghost use Rattle.cc_known.specs.KeptWalks.{is_remembered, is_keyed};
 ghost use Rattle.cc_known.specs.EndedDemands.{HasEnds, AreThose, is_among, same_ended};
 ghost use Rattle.cc_known.specs.Keeping as keeping;
 ghost use Rattle.cc_known.specs.Keeping.{has_lost};
+ghost use Rattle.cc_known.specs.ComparedPairs.{is_compared, is_compared_as, IsKept};
 ghost use Rattle.cc_known.specs.FormedDemands.{IsWellFormedAsked};
+ghost use Rattle.cc_type.specs.Comparing.{most_steps};
 
 use crate::demand_ends::ended;
 use crate::instances::Instances;
 use cc_base::place::Place;
 use cc_base::steps::Steps;
 use cc_capture::{CapSet, Elem};
-use cc_core::Ctx;
 use cc_core::occurrences::set_has_hole;
+use cc_core::{Ctx, Shape};
+use cc_known::compared::{ComparedPairs, compared_in};
 use cc_known::ended::EndedDemand;
 use cc_known::known::Known;
 use cc_known::needless::stays_fillable;
@@ -58,11 +62,14 @@ pub struct Log {
     pub(crate) settled: bool,
     // What type functions gave.
     pub(crate) instances: Instances,
+    // Shapes that were compared.
+    compared: ComparedPairs,
     ghost clear: { IsClear marks },
     ghost told: { lost ≡ has_lost (asked_of demands) },
     ghost noted: { AreThose ended.keys (asked_of demands) },
     ghost remembered: { list_all (is_remembered (asked_of demands) (context_of known.base)) known.pairs.items ≡ true },
     ghost matched: { list_all (is_keyed (asked_of demands) (context_of known.base)) known.keyed.items ≡ true },
+    ghost kept: { list_all (is_compared most_steps (asked_of demands)) compared.pairs.items ≡ true },
 }
 
 /// What became of something that was asked.
@@ -90,6 +97,7 @@ impl Log {
             known: Known::new(alloc, Ctx::new()),
             settled: false,
             instances: Instances::new(alloc),
+            compared: ComparedPairs::new(alloc),
         }
     }
 
@@ -105,6 +113,28 @@ impl Log {
         ensures { result ≡ keeping.has_ended_so (asked_of self.now.demands) demand.now.ends demand.now.right }
     {
         self.ended.contains(demand)
+    }
+
+    // Whether it is remembered that nothing of the comparison of the two shapes in the context has to be kept.
+    pub(crate) fn has_compared(&self, ctx: &Ctx, left: &Shape, right: &Shape) -> bool
+        requires { IsWellFormedContext (context_of ctx.now) }
+        ensures { IsTrue result → (at : Place) → IsKept at (comparison most_steps (context_of ctx.now) (shape_of left.now) (shape_of right.now)) true (asked_of self.now.demands) (asked_of self.now.demands) }
+    {
+        self.compared.has(ctx, left, right)
+    }
+
+    // Remembers that.
+    pub(crate) fn remember_compared(
+        &mut self,
+        ctx: &Ctx,
+        left: &Shape,
+        right: &Shape,
+    ) -> Result<(), AllocError>
+        requires { is_compared_as most_steps (asked_of self.old.demands) (context_of ctx.now) (shape_of left.now) (shape_of right.now) ≡ true }
+        ensures { self.new.demands ≡ self.old.demands }
+    {
+        let pair = compared_in(ctx, left, right)?;
+        self.compared.remember(pair)
     }
 
     /// What is kept, in order.

@@ -1,7 +1,7 @@
 use Rattle.std.proofs.Common.{ap, ◌∙◌}
 use Rattle.std.proofs.lemmas.Iterator.Consumers.{YieldsList-from_first, YieldsList-end}
 use Rattle.cc_capture.specs.Sets.{retain}
-use Rattle.cc_known.specs.Keeping.{may_fill, fillable}
+use Rattle.cc_known.specs.Keeping.{is_among_oldest, fillable}
 use Rattle.cc_known.proofs.FillableSets.{fills_none, fills_more, fills_all}
 use Rattle.cc_known.proofs.fillable.fillable.Goals as goal
 
@@ -21,4 +21,4 @@ returns c =
     (c.into_iter-elem-iterator.ensures.into_iter_gives ∙ c.iter-elem-items.ensures))
     c.loop-elem.yielded _ c.loop-elem.yielded_by _ _ c.in-None.is c.next.ensures.steps in
     fills_all c.closed-closed.result c.loop-elem.yielded c.args.set.now c.loop-elem.kept seen.0 c.loop-elem.invariant
-    ∙ ap (λ n. retain (may_fill n) c.args.set.now) c.closed-closed.ensures
+    ∙ ap (λ n. retain (is_among_oldest n) c.args.set.now) c.closed-closed.ensures

@@ -1,7 +1,7 @@
 use Rattle.std.proofs.Common.{sym, ◌∙◌}
 use Rattle.std.proofs.lemmas.Iterator.Consumers.{YieldsList-from_first, YieldsList-turn, YieldsList-end}
 use Rattle.cc_core.proofs.CallLemmas.{all-fails, all-push, all-gone}
-use Rattle.cc_known.specs.EndsAgain.{is_among_oldest}
+use Rattle.cc_known.specs.Keeping.{is_among_oldest}
 use Rattle.cc_known.proofs.needless.names_oldest.Goals as goal
 
 pub returns-then-not-is_among_oldest : goal.returns-then-not-is_among_oldest

@@ -1,6 +1,6 @@
 use Rattle.cc_known.proofs.EndedLists.{those_added}
 use Rattle.cc_core.specs.TermViews.{context_of}
-use Rattle.cc_type.proofs.RememberedLater.{remembered_added, keyed_added}
+use Rattle.cc_type.proofs.RememberedLater.{remembered_added, keyed_added, compared_added}
 use Rattle.cc_type.proofs.log.add_ended.Goals as goal
 
 pub invariant_of-log-2-clause-noted : goal.invariant_of-log-2-clause-noted
@@ -20,3 +20,8 @@ invariant_of-log-2-clause-matched c =
     let log = c.args.log.now in
     keyed_added log.demands c.push.new.self c.args.demand (context_of log.known.base) log.known.keyed.items
     c.in_ok-push.ensures.ok log.matched
+
+pub invariant_of-log-2-clause-kept : goal.invariant_of-log-2-clause-kept
+invariant_of-log-2-clause-kept c =
+    let log = c.args.log.now in
+    compared_added log.demands c.push.new.self c.args.demand log.compared.pairs.items c.in_ok-push.ensures.ok log.kept

@@ -1,5 +1,5 @@
 use Rattle.cc_core.specs.TermViews.{context_of}
-use Rattle.cc_type.proofs.RememberedLater.{remembered_added, keyed_added, those_kept}
+use Rattle.cc_type.proofs.RememberedLater.{remembered_added, keyed_added, compared_added, those_kept}
 use Rattle.cc_type.proofs.log.add_other.Goals as goal
 
 pub invariant_of-log-2-clause-remembered : goal.invariant_of-log-2-clause-remembered
@@ -18,3 +18,8 @@ pub invariant_of-log-2-clause-noted : goal.invariant_of-log-2-clause-noted
 invariant_of-log-2-clause-noted c =
     let log = c.args.log.now in
     those_kept log.ended.keys log.demands c.push.new.self c.args.demand c.in_ok-push.ensures.ok c.requires.ends log.noted
+
+pub invariant_of-log-2-clause-kept : goal.invariant_of-log-2-clause-kept
+invariant_of-log-2-clause-kept c =
+    let log = c.args.log.now in
+    compared_added log.demands c.push.new.self c.args.demand log.compared.pairs.items c.in_ok-push.ensures.ok log.kept

@@ -1,0 +1,28 @@
+use Rattle.std.proofs.Common.{◌≡◌, ◌-◌, inl, inr, sym, subst, arith}
+use Rattle.std.specs.Option.{option_map}
+use Rattle.std.proofs.lemmas.Bool.{cases_eq}
+use Rattle.std.proofs.lemmas.List.{length-map}
+use Rattle.cc_core.specs.Contexts.{lookup}
+use Rattle.cc_core.specs.TermViews.{bind_of, context_of}
+use Rattle.cc_known.specs.ComparedAgain.{seen}
+use Rattle.cc_known.proofs.compared.stands_in.Goals as goal
+
+pub loop-rest-init : goal.loop-rest-init
+loop-rest-init c = λ p high low.
+    let long = length-map c.args.small.now bind_of in
+    let all = c.len-rest.ensures in
+    absurd (omega (arith, high, low, long, all))
+
+pub loop-rest-preserved : goal.loop-rest-preserved
+loop-rest-preserved c = λ p high low.
+    let here = c.stands_at.ensures c.if-not-stands_at.false in
+    elim (cases_eq p (c.loop-rest.rest - 1))
+    as (λ _. option_map seen (lookup (context_of c.args.ctx.now) p) ≡ option_map seen (lookup (context_of c.args.small.now) p)) [
+      | inl same ↦
+          subst (λ q. option_map seen (lookup (context_of c.args.ctx.now) q) ≡ option_map seen (lookup (context_of c.args.small.now) q))
+          (sym same) here
+      | inr other ↦ c.loop-rest.invariant p (omega (arith, high, other)) low
+    ]
+
+pub returns : goal.returns
+returns c = λ holds p low. c.loop-rest.invariant p (let none = c.loop-rest-test.false in omega (arith, none)) low
