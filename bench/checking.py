@@ -96,6 +96,33 @@ def comparisons_through_definitions(count):
     return compared(count, with_sets('{q}'), with_sets('{p}'), lower=lower, before=definitions(90))
 
 
+def sized(leaf):
+    """A type of size 1,933 with the set at 600 places."""
+    return functions(functions(functions('Unit^' + leaf, 10, 'Unit'), 10, 'Unit'), 6, 'Unit')
+
+
+def equal_types(count):
+    """Two types that are one, and do not share their parts."""
+    return compared(count, sized('{p}'), sized('{p}'))
+
+
+def equal_types_beside_a_hole(count):
+    return compared(count, sized('{p}'), sized('{p}'), given='?')
+
+
+def apart(count):
+    """Two types that are not below each other."""
+    return compared(count, sized('{q}'), sized('{p}'), lower='{cap}')
+
+
+def settled_through_closures(count):
+    """Two types whose sets are below each other by way of 50 closures."""
+    vals = 'val c0=fun(x:Int)=>p.print(x);'
+    vals += ''.join('val c%d=fun(x:Int)=>c%d(x);' % (at, at - 1) for at in range(1, 50))
+    return 'def f=fun(p:Console^{cap})=>%sfun(g:(%s)^{p})=>fun(h:(k:(%s)^{p})->Unit)=>%s\n' % (
+        vals, sized('{p}'), sized('{c49}'), tree_of('h(g)', count))
+
+
 def chains_of_holes(count):
     """Functions with omitted sets, each of which calls the one before it: so many chains of 62, the last one called with
     a device."""
@@ -111,12 +138,12 @@ def closures(count):
     return ''.join(text % at for at in range(count))
 
 
-def in_turn(sets, outer):
-    """A type of so many functions that each take one with 20 parameters: the sets take turns."""
+def in_turn(sets, outer, inner=20):
+    """A type of so many functions that each take one with so many parameters: the sets take turns."""
     text, at = '', 0
     for _ in range(outer):
-        row = ''.join('(a:Unit^%s)->' % sets[(at + step) % len(sets)] for step in range(20))
-        text, at = text + '(a:%sUnit)->' % row, at + 20
+        row = ''.join('(a:Unit^%s)->' % sets[(at + step) % len(sets)] for step in range(inner))
+        text, at = text + '(a:%sUnit)->' % row, at + inner
     return text + 'Unit'
 
 
@@ -146,6 +173,17 @@ def kept_of_omitted(count):
     """The sets of 60 parameters take turns, and each is omitted."""
     omitted = ['h%d' % at for at in range(60)]
     return kept(count, omitted, '', ['{%s}' % name for name in omitted], 16)
+
+
+def kept_through_an_application(count):
+    """The same with 70 omitted sets, where both types stand four times in what a type function gives."""
+    omitted = ['h%d' % at for at in range(70)]
+    parameters = ''.join('fun(%s:((x:Int)->Unit)^?)=>' % name for name in omitted)
+    below, above = in_turn(['{%s}' % name for name in omitted], 9, 9), in_turn(['{out}'], 9, 9)
+    given = functions('(%s)' % functions('X', 2, 'Unit'), 2, 'Unit')
+    takes = 'fun(k:[X<:Any]->(y:%s)->Int)=>fun(g:[X<:Any]->(u:Unit)->%s)=>' % (given, given)
+    return 'def m=%s%sval f=k[%s];val w=g[%s];val y=w(unit);%s\n' % (
+        parameters, takes, above, below, tree_of('f(y)', count))
 
 
 def comparisons_of_a_variable(count):
@@ -283,7 +321,7 @@ def chains_of_own_parameters(count):
 
 
 # Bars: so many milliseconds and so many megabytes.
-CHAIN, COMPARED, KEPT, DEAR = (50, 50), (300, 50), (400, 50), (1000, 200)
+CHAIN, COMPARED, KEPT, LARGE, DEAR = (50, 50), (300, 50), (400, 50), (600, 50), (1000, 200)
 
 # Each text with its full size, how many definitions are accepted or the code of the refusal, and its bar.
 TEXTS = [
@@ -305,10 +343,15 @@ TEXTS = [
     ('the same where one set is omitted', comparisons_of_holes, 4200, 1, COMPARED),
     ('comparisons of types nested to the left', comparisons_to_the_left, 4200, 1, COMPARED),
     ('comparisons through 90 definitions', comparisons_through_definitions, 4000, 91, COMPARED),
+    ('equal types of size 1,933', equal_types, 4200, 1, COMPARED),
+    ('equal types beside an omitted set', equal_types_beside_a_hole, 4200, 1, COMPARED),
+    ('types of this size that are apart', apart, 4200, 'E15', LARGE),
+    ('types below each other by 50 closures', settled_through_closures, 4000, 1, LARGE),
     ('comparisons of a variable with 288 shapes', comparisons_of_a_variable, 2800, 1, COMPARED),
     ('kept comparisons of 40 closures', kept_through_closures, 3600, 1, KEPT),
     ('kept comparisons behind 12 closures each', kept_behind_closures, 3600, 1, KEPT),
     ('kept comparisons of 60 omitted sets', kept_of_omitted, 4800, 1, KEPT),
+    ('the same of 70, four times in what is given', kept_through_an_application, 4800, 1, KEPT),
     ('chains of 62 omitted sets', chains_of_holes, 32, 1, DEAR),
     ('definitions of 30 closures', closures, 60, 60, DEAR),
     ('type applications to a shape', applications, 1160, 1, DEAR),
