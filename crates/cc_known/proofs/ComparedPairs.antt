@@ -23,12 +23,12 @@ use Rattle.cc_known.specs.ComparedAgain.{told, renamed_entry, seen, Embeds}
 use Rattle.cc_known.specs.ComparedPairs.{keeps_nothing, is_compared_as, is_compared, StandsSeen, IsKept}
 use Rattle.cc_known.specs.EndsAgain.{comes_again}
 use Rattle.cc_known.specs.Keeping.{keeping}
-use Rattle.cc_known.specs.KeptWalks.{Keeps, is_told}
+use Rattle.cc_known.specs.KeptWalks.{Keeps, StandsOn, is_told}
 use Rattle.cc_known.specs.declared.compared.Compared.{Compared}
-use Rattle.cc_known.proofs.ComparedAgain.{older_members, renamed_same, still_entry, told_embedded}
+use Rattle.cc_known.proofs.ComparedAgain.{older_members, renamed_same, still_entry, told_embedded, told_again}
 use Rattle.cc_known.proofs.EndsAgain.{comes_again_tests, comes_needless}
 use Rattle.cc_known.proofs.NeedlessLater.{all_put}
-use Rattle.cc_known.proofs.RememberedPairs.{untrue}
+use Rattle.cc_known.proofs.RememberedPairs.{untrue, older_formed}
 
 -- nothing is kept of demands that are needless wherever they come again
 none_kept : (oldest : ℕ) (at : Place) (log : List Placed) (ds : List Demand) → list_all (comes_again oldest log) ds ≡ true
@@ -94,15 +94,18 @@ all_told oldest at Unfinished was is before after e k = absurd k
 all_told oldest at Mismatch was is before after e k = sym k
 all_told oldest at (Matches ds) was is before after e k = (k.2 e).1
 
-pub keeps_compared : (steps : ℕ) (at : Place) (g : Context) (l r : Shape) (was is : Bool) (before after : List Placed)
-    → IsWellFormedContext g → IsWellFormedShape g l → IsWellFormedShape g r → is ≡ true
-    → Keeps (length g) false at (comparison steps g l r) true was is before after → is_compared_as steps after g l r ≡ true
+pub keeps_compared : (steps : ℕ) (at : Place) (base g : Context) (l r : Shape) (was is : Bool) (before after : List Placed)
+    → IsWellFormedContext g → StandsOn base g → IsWellFormedShape base l → IsWellFormedShape base r → is ≡ true
+    → Keeps (length base) false at (comparison steps g l r) true was is before after → is_compared_as steps after base l r ≡ true
 unfolding is_compared_as
-keeps_compared steps at g l r was is before after formed left right e k =
-    and_from (is_well_formed_context g) _ formed
-    (and_from (is_well_formed_shape (kinds_of g) [] l && is_well_formed_shape (kinds_of g) [] r) _
-    (and_from (is_well_formed_shape (kinds_of g) [] l) (is_well_formed_shape (kinds_of g) [] r) left right)
-    (all_told (length g) at (comparison steps g l r) was is before after e k))
+keeps_compared steps at base g l r was is before after formed on left right e k =
+    let older = older_formed on.passed base (subst IsWellFormedContext on.is formed) in
+    and_from (is_well_formed_context base) _ older
+    (and_from (is_well_formed_shape (kinds_of base) [] l && is_well_formed_shape (kinds_of base) [] r) _
+    (and_from (is_well_formed_shape (kinds_of base) [] l) (is_well_formed_shape (kinds_of base) [] r) left right)
+    (ap is_told (sym (told_again base (comes_again (length base) after) (comes_again_tests (length base) after) on.passed steps l r older left right)
+    ∙ ap (λ x. told (comes_again (length base) after) (comparison steps x l r)) (sym on.is))
+    ∙ all_told (length base) at (comparison steps g l r) was is before after e k))
 
 -- what is remembered stays so where something is put behind the log
 later : (oldest : ℕ) (log : List Placed) (p : Placed) (c : Comparison) → keeps_nothing oldest log c ≡ true

@@ -1,17 +1,12 @@
 -- What is settled in a context is so in each one on top of it.
-use Rattle.std.proofs.Common.{◌≡◌, ℕ, suc, ◌+◌, Bool, true, false, cond, Option, Some, None, List, [], ◌∷◌, ◌++◌, length}
-use Rattle.std.proofs.Common.{refl, sym, ap, ◌∙◌, subst, arith, length-append}
-use Rattle.std.specs.Prelude.{is_none}
-use Rattle.std.specs.Option.{unwrap_or}
+use Rattle.std.proofs.Common.{◌≡◌, ℕ, Bool, true, false, cond, List, [], ◌∷◌, ◌++◌}
+use Rattle.std.proofs.Common.{refl, sym, ap, ◌∙◌, subst}
 use Rattle.std.proofs.lemmas.Bool.{or_right}
-use Rattle.std.proofs.lemmas.List.{length-map}
 use Rattle.cc_base.specs.declared.place.Place.{Place}
 use Rattle.cc_capture.specs.declared.var.Elem.{Elem}
 use Rattle.cc_capture.specs.Sets.{Set, empty, is_subset}
-use Rattle.cc_core.specs.declared.context.Bind.{Bind as DeclaredBind}
 use Rattle.cc_core.specs.Contexts.{Bind, TermEntry, TypeEntry, Context}
 use Rattle.cc_core.specs.Reading.{read_set}
-use Rattle.cc_core.specs.TermViews.{bind_of, context_of}
 use Rattle.cc_core.specs.WellFormed.{kinds_of, IsWellFormedSet}
 use Rattle.cc_core.proofs.CapturedKinds.{empty_kinded}
 use Rattle.cc_core.proofs.KindFacts.{IsKindedSet-test}
@@ -86,23 +81,3 @@ none_known g = record {
 
 pub known_as : (g : Context) (l r l' r' : Set) → l' ≡ l → r' ≡ r → IsKnown g l r → IsKnown g l' r'
 known_as g l r l' r' p q k = subst (λ x. IsKnown g x r') (sym p) (subst (λ x. IsKnown g l x) (sym q) k)
-
--- what is learned in the context in which the comparison began
-no_more : (passed base : Context) → length (passed ++ base) ≡ length base → passed ++ base ≡ base
-no_more [] base e = refl
-no_more (b ∷ passed) base e =
-    let longer : suc (length passed + length base) ≡ length base = ap suc (sym (length-append passed base)) ∙ e in
-    absurd (omega (arith, longer))
-
-pub learned : (base here : List DeclaredBind) (lr rr : Option Set) (l r : Set)
-    → StandsOn (context_of base) (context_of here) → length here ≡ length base → is_none lr ≡ true → is_none rr ≡ true
-    → IsWellFormedSet (context_of here) (unwrap_or lr l) → IsWellFormedSet (context_of here) (unwrap_or rr r)
-    → is_demand_settled (demanded (context_of here) (unwrap_or lr l) (unwrap_or rr r)) ≡ true
-    → IsKnown (context_of base) l r
-learned base here (Some x) rr l r s e p q low up settled = cc
-learned base here None (Some x) l r s e p q low up settled = cc
-learned base here None None l r s e p q low up settled =
-    let long : length (s.passed ++ context_of base) ≡ length (context_of base) =
-    ap length (sym s.is) ∙ length-map here bind_of ∙ e ∙ sym (length-map base bind_of) in
-    let same : context_of here ≡ context_of base = s.is ∙ no_more s.passed (context_of base) long in
-    subst (λ g. IsKnown g l r) same (record { lower = low; upper = up; settled = settled })

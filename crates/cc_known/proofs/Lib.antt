@@ -18,6 +18,7 @@ pub mod KnownSets
 pub mod LostDemands
 pub mod MeasuredShapes
 pub mod NeedlessLater
+pub mod OldestEntries
 pub mod RememberedPairs
 pub mod RepeatedDemands
 pub mod SettledTests

@@ -329,7 +329,7 @@ fn is_well_formed(ctx: &Ctx, bind: &Bind) -> bool
 }
 
 // The same entry. Its shape is shared.
-fn copy_entry(bind: &Bind) -> Result<Bind, AllocError>
+pub(crate) fn copy_entry(bind: &Bind) -> Result<Bind, AllocError>
     ensures { IfOk result (λ b. bind_of b ≡ bind_of bind.now) }
 {
     match bind {

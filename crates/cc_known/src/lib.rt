@@ -3,6 +3,7 @@
 #![tactic(auto)]
 
 pub mod again_laws;
+pub mod bases;
 pub mod compared;
 pub mod ended;
 pub mod fillable;

@@ -1,12 +1,13 @@
 //! The steps of inference that ask something.
 
-ghost use Rattle.std.specs.Prelude.{◌≡◌, ◌-◌, IfOk};
+ghost use Rattle.std.specs.Prelude.{◌≡◌, ◌-◌, true, IfOk};
 ghost use Rattle.cc_core.specs.TermViews.{shape_of, type_of, context_of};
 ghost use Rattle.cc_core.specs.WellFormed.{IsWellFormedContext, IsWellFormedShape, IsWellFormedType};
 ghost use Rattle.cc_checking.specs.Comparison.{comparison};
 ghost use Rattle.cc_checking.specs.Inference as plain;
 ghost use Rattle.cc_subty.specs.Demands.{asked_of};
-ghost use Rattle.cc_known.specs.ComparedPairs.{IsKept};
+ghost use Rattle.cc_known.specs.ComparedPairs.{is_compared_as, IsKept};
+ghost use Rattle.cc_known.specs.KeptWalks.{StandsOn};
 ghost use Rattle.cc_known.specs.Logs.{Meets, after};
 ghost use Rattle.cc_type.specs.Comparing.{most_steps};
 ghost use Rattle.cc_type.specs.Rows.{comparing};
@@ -18,7 +19,9 @@ use cc_base::code::Code;
 use cc_base::place::Place;
 use cc_core::same::same_shape;
 use cc_core::sizes::shape_size;
+use cc_core::wellformed::wf_shape;
 use cc_core::{Ctx, Shape, Ty};
+use cc_known::bases::{named_by, oldest};
 use cc_known::known::Known;
 use cc_known::stop::{Stop, refused};
 use std::alloc::{AllocError, Global};
@@ -26,10 +29,39 @@ use std::alloc::{AllocError, Global};
 // Of smaller shapes it is not remembered that they were compared.
 const SMALL: u64 = 64;
 
-// Whether going over the shape again takes more than to see that the entries of the context are the same.
-fn is_worth(ctx: &Ctx, shape: &Shape) -> bool {
-    let size = shape_size(shape);
-    size >= SMALL && size >= u64::from(ctx.len() / 2)
+// Whether going over a shape of this size again takes more than to see that so many entries are the same.
+fn is_worth(size: u64, entries: u32) -> bool {
+    size >= SMALL && size >= u64::from(entries / 2)
+}
+
+// The context in which the comparison of the two shapes begins: with no newer entries than it goes by, where it is worth
+// while to remember it.
+fn base_of(alloc: Global, ctx: &Ctx, left: &Shape, right: &Shape) -> Result<Ctx, AllocError>
+    ensures { IfOk result (λ base. StandsOn (context_of base) (context_of ctx.now)) }
+{
+    let size = shape_size(right);
+    if size < SMALL {
+        return ctx.clone();
+    }
+    let named = named_by(left, right);
+    if is_worth(size, named) {
+        return oldest(alloc, ctx, named);
+    }
+    ctx.clone()
+}
+
+// Remembers that nothing has to be kept of the two shapes when they come again, where they are shapes of the base.
+fn remember(base: &Ctx, left: &Shape, right: &Shape, log: &mut Log) -> Result<(), AllocError>
+    requires { IsWellFormedShape (context_of base.now) (shape_of left.now) → IsWellFormedShape (context_of base.now) (shape_of right.now) → is_compared_as most_steps (asked_of log.old.demands) (context_of base.now) (shape_of left.now) (shape_of right.now) ≡ true }
+    ensures { log.new.demands ≡ log.old.demands }
+{
+    if !is_worth(shape_size(right), base.len()) {
+        return Ok(());
+    }
+    if wf_shape(base, left) && wf_shape(base, right) {
+        return log.remember_compared(base, left, right);
+    }
+    Ok(())
 }
 
 // Goes over the two shapes, and remembers where nothing of them has to be kept when they come again.
@@ -46,7 +78,8 @@ fn gone_over(
     requires right { IsWellFormedShape (context_of ctx.now) (shape_of right.now) }
     ensures { IfOk result (λ m. IsKept at (comparison most_steps (context_of ctx.now) (shape_of left.now) (shape_of right.now)) m (asked_of log.old.demands) (asked_of log.new.demands)) }
 {
-    log.known = Known::new(alloc, ctx.clone()?);
+    let base = base_of(alloc, ctx, left, right)?;
+    log.known = Known::new(alloc, base.clone()?);
     log.settled = true;
     let matched = keep_shapes(alloc, ctx, left, right, at, log, u32::MAX, false)?;
     if !matched {
@@ -56,10 +89,7 @@ fn gone_over(
     if !all {
         return Ok(true);
     }
-    if !is_worth(ctx, right) {
-        return Ok(true);
-    }
-    log.remember_compared(ctx, left, right)?;
+    remember(&base, left, right, log)?;
     Ok(true)
 }
 

@@ -49,8 +49,8 @@ fn chosen<'a>(became: &'a Option<CapSet>, set: &'a CapSet) -> &'a CapSet
     }
 }
 
-// Keeps in mind that the left set is below the right one, where they stand as they are read and the context is that in
-// which the comparison began.
+// Keeps in mind that the left set is below the right one, where they stand as they are read, in the context in which the
+// comparison began.
 fn learn_read(
     ctx: &Ctx,
     left: &CapSet,
@@ -59,15 +59,20 @@ fn learn_read(
     right_read: &Option<CapSet>,
     log: &mut Log,
 ) -> Result<(), AllocError>
-    requires left { IsWellFormedSet (context_of ctx.now) (unwrap_or left_read.now left.now) }
-    requires right { IsWellFormedSet (context_of ctx.now) (unwrap_or right_read.now right.now) }
+    requires context { IsWellFormedContext (context_of ctx.now) }
     requires settled { is_demand_settled (demanded (context_of ctx.now) (unwrap_or left_read.now left.now) (unwrap_or right_read.now right.now)) ≡ true }
     requires base { StandsOn (context_of log.old.known.base) (context_of ctx.now) }
     ensures demands { log.new.demands ≡ log.old.demands }
     ensures base { log.new.known.base ≡ log.old.known.base }
     ensures still { log.new.settled ≡ log.old.settled }
 {
-    if left_read.is_none() && right_read.is_none() && ctx.len() == log.known.base.len() {
+    if left_read.is_some() {
+        return Ok(());
+    }
+    if right_read.is_some() {
+        return Ok(());
+    }
+    if wf_set(&log.known.base, left) && wf_set(&log.known.base, right) {
         let left = left.clone()?;
         let right = right.clone()?;
         log.known.learn(left, right);
