@@ -147,17 +147,23 @@ def in_turn(sets, outer, inner=20):
     return text + 'Unit'
 
 
-def kept(count, omitted, vals, sets, outer):
+def kept(count, omitted, vals, sets, outer, call='f(y)'):
     """So many calls of a function, whose argument has types with these sets, which are to be below that of a device.
     They are kept, since they lead to the omitted sets of the parameters of these names."""
     parameters = ''.join('fun(%s:((x:Int)->Unit)^?)=>' % name for name in omitted)
     types = in_turn(['{out}'], outer), in_turn(sets, outer)
-    return 'def m=%s%sfun(f:(y:%s)->Int)=>fun(y:%s)=>%s\n' % (parameters, vals, *types, tree_of('f(y)', count))
+    return 'def m=%s%sfun(f:(y:%s)->Int)=>fun(y:%s)=>%s\n' % (parameters, vals, *types, tree_of(call, count))
 
 
 def kept_through_closures(count):
     vals = ''.join('val p%d=fun(x:Int)=>h(x);' % at for at in range(40))
     return kept(count, ['h'], vals, ['{p%d}' % at for at in range(40)], 32)
+
+
+def kept_within_functions(count):
+    """The same, each within a function of its own."""
+    vals = ''.join('val p%d=fun(x:Int)=>h(x);' % at for at in range(40))
+    return kept(count, ['h'], vals, ['{p%d}' % at for at in range(40)], 32, 'fun(z:Int)=>f(y)')
 
 
 def kept_behind_closures(count):
@@ -349,6 +355,7 @@ TEXTS = [
     ('types below each other by 50 closures', settled_through_closures, 4000, 1, LARGE),
     ('comparisons of a variable with 288 shapes', comparisons_of_a_variable, 2800, 1, COMPARED),
     ('kept comparisons of 40 closures', kept_through_closures, 3600, 1, KEPT),
+    ('the same, each within a function', kept_within_functions, 1800, 1, KEPT),
     ('kept comparisons behind 12 closures each', kept_behind_closures, 3600, 1, KEPT),
     ('kept comparisons of 60 omitted sets', kept_of_omitted, 4800, 1, KEPT),
     ('the same of 70, four times in what is given', kept_through_an_application, 4800, 1, KEPT),
