@@ -3,13 +3,13 @@ use Rattle.std.proofs.Common.{◌≡◌, ℕ, ◌<◌, true, List, [], ◌∷◌
 use Rattle.std.proofs.Common.{◌∙◌, sym, subst, refl, inl, inr, arith}
 use Rattle.std.proofs.lemmas.Bool.{cases_eq, cases_lt}
 use Rattle.std.proofs.lemmas.Map.Entries.{length-keys_of}
-use Rattle.std.proofs.lemmas.Option.{same_Some, slice_get_within}
+use Rattle.std.proofs.lemmas.Option.{slice_get_within}
 use Rattle.std.specs.Cmp.{tied_itself}
 use Rattle.std.specs.List.{slice_get}
 use Rattle.std.specs.List.Sorted.{IsStrictlySortedBy}
 use Rattle.std.specs.Map.{keys_of}
 use Rattle.std.specs.Option.{is_some}
-use Rattle.std.specs.Prelude.{zero, suc}
+use Rattle.std.specs.Prelude.{suc}
 use Rattle.std.specs.declared.cmp.Ordering.TheVariants.{Less, Equal, Greater}
 use Rattle.cc_base.specs.declared.device.DeviceDecl.{DeviceDecl}
 use Rattle.cc_base.specs.Names.{compare_names}
@@ -26,22 +26,14 @@ use Rattle.cc_judge.specs.declared.plans.Plan.{Plan}
 use Rattle.cc_judge.specs.declared.plans.Plan.TheVariants.{Keep}
 use Rattle.cc_judge.specs.Carrying.{AreReady}
 use Rattle.cc_judge.specs.Judgements.{Judgement, IsJudged, AreJudged, judgement_in, judgements}
-use Rattle.cc_judge.specs.Kept.{judged_on, judgements_from}
+use Rattle.cc_judge.specs.Kept.{judgements_from}
 use Rattle.cc_judge.specs.Places.{entry_at, name_at}
 use Rattle.cc_judge.specs.Plans.{plan_at, IsRight, AreRight, AreAllPlanned, planned}
 use Rattle.cc_judge.proofs.CarryLemmas.{judgements_length}
 use Rattle.cc_judge.proofs.Entries.{key_of, less_keys}
 use Rattle.cc_judge.proofs.Lists.{read_at}
+use Rattle.cc_judge.proofs.JudgedBefore.{key_at_judgement}
 use Rattle.cc_judge.proofs.TextPlaces.{text_of_place}
-
--- the name of the judgement at a place
-key_at_judgement : (verdicts : List (List ℕ × DeclaredVerdict)) (grounds : List Grounds) (at : ℕ) (one : Judgement)
-    → slice_get (judgements_from verdicts grounds) at ≡ Some one → slice_get (keys_of verdicts) at ≡ Some one.name
-key_at_judgement [] grounds at one stands = cc
-key_at_judgement (entry ∷ entries) [] at one stands = cc
-key_at_judgement (entry ∷ entries) (first ∷ rest) zero one stands =
-    ap Some (ap (λ j. j.name) (same_Some (judged_on entry first) one stands))
-key_at_judgement (entry ∷ entries) (first ∷ rest) (suc at) one stands = key_at_judgement entries rest at one stands
 
 -- where names stand in order, so do their places
 rising_places : {X : Type 0} (entries : List (List ℕ × X)) → IsStrictlySortedBy compare_names (keys_of entries)

@@ -5,6 +5,7 @@ pub mod TextPlaces
 pub mod Graphs
 pub mod PlaceSchedules
 pub mod StaleCounts
+pub mod JudgedBefore
 pub mod RightPlans
 pub mod CarryLemmas
 pub mod AllPlanned

@@ -1,16 +1,10 @@
 -- What the plans for single modules come to.
-use Rattle.std.proofs.Common.{◌≡◌, ℕ, ◌<◌, true, false, ◌&&◌, List, [], ◌∷◌, length, map, Option}
-use Rattle.std.proofs.Common.{Some, None, ap, ◌∙◌, sym, subst, refl, inl, inr, get_or}
-use Rattle.std.proofs.lemmas.Bool.{or_parts, or_from, and_parts, and_left, and_right}
-use Rattle.std.proofs.lemmas.Cmp.{nat_list_eq_equiv}
-use Rattle.std.proofs.lemmas.Map.Keys.{IsDistinct-head, IsDistinct-tail}
-use Rattle.std.proofs.lemmas.Option.{same_Some, slice_get_cases, slice_get-map}
-use Rattle.std.specs.Cmp.Lexicographic.{bytes_decides}
-use Rattle.std.specs.List.{AllByRecursion, IsDistinct, list_any, slice_get}
+use Rattle.std.proofs.Common.{◌≡◌, ℕ, ◌<◌, true, false, List, [], ◌∷◌, length, map, Option}
+use Rattle.std.proofs.Common.{Some, None, ap, ◌∙◌, sym, subst, refl, get_or, arith}
+use Rattle.std.proofs.lemmas.Option.{same_Some}
+use Rattle.std.specs.List.{AllByRecursion, slice_get}
 use Rattle.std.specs.Prelude.{zero, suc}
-use Rattle.std.specs.Map.{keys_of}
 use Rattle.std.specs.Option.{option_map, unwrap_or, is_some}
-use Rattle.std.specs.Str.{bytes_eq}
 use Rattle.cc_base.specs.declared.device.DeviceDecl.{DeviceDecl}
 use Rattle.cc_grammar.specs.Syntax.{ImportSyntax}
 use Rattle.cc_graph.specs.Graph.{reaches}
@@ -22,22 +16,19 @@ use Rattle.cc_verdicts.specs.Readings.{imports_of}
 use Rattle.cc_verdicts.proofs.ModuleVerdictLaws as one_text
 use Rattle.cc_verdicts.proofs.PresentLaws.{present_verdicts_exist, present_findings_fit}
 use Rattle.cc_module.specs.declared.judgement.ModuleVerdict.{ModuleVerdict as DeclaredVerdict}
-use Rattle.cc_module.specs.Findings.{finding_of}
 use Rattle.cc_module.specs.Judgements.{module_verdict_of}
 use Rattle.cc_judge.specs.declared.grounds.Grounds.{Grounds}
 use Rattle.cc_judge.specs.declared.plans.Plan.{Plan}
 use Rattle.cc_judge.specs.declared.plans.Plan.TheVariants.{Keep, Judge}
 use Rattle.cc_judge.specs.Found.{IsKnown, AreFoundFor}
-use Rattle.cc_judge.specs.Judgements.{Judgement, IsJudged, AreJudged, judgement_in, is_judgement_of, is_stale}
+use Rattle.cc_judge.specs.Judgements.{Judgement, IsJudged, AreJudged, judgement_in, is_stale}
 use Rattle.cc_judge.specs.Kept.{judged_on, judgements_from}
-use Rattle.cc_judge.specs.Places.{entry_at, name_at, text_at, IsAbsentKey}
+use Rattle.cc_judge.specs.Places.{entry_at, name_at, text_at}
 use Rattle.cc_judge.specs.Plans.{plan_judgement, plan_verdict, plan_at, IsPlanned, IsJudgedAt, IsPlanFor, IsRight}
-use Rattle.cc_judge.specs.Dependencies.{AreRead}
+use Rattle.cc_judge.specs.Dependencies.{AreRead, IsJudgedBefore, AreJudgedBefore}
 use Rattle.cc_judge.specs.Plans.{AreRight, ArePlans, AsksPlanned, IsRightPlan, is_stale_at}
 use Rattle.cc_judge.proofs.Graphs.{reading_of_place}
 use Rattle.std.proofs.lemmas.List.{get_or_default}
-use Rattle.cc_judge.specs.SameFindings.{same_findings}
-use Rattle.cc_judge.proofs.FindingTests.{same_findings_decides}
 use Rattle.cc_judge.proofs.TextPlaces.{text_of_place}
 
 -- a judgement at a place is judged
@@ -64,96 +55,6 @@ pub verdict_by_plan : (verdicts : List (List ℕ × DeclaredVerdict)) (grounds :
 verdict_by_plan verdicts grounds (Keep at) one planned = verdict_at verdicts grounds at one planned
 verdict_by_plan verdicts grounds (Judge name verdict others) one planned =
     ap Some (ap (λ j. j.verdict) (same_Some (judged_on (name, verdict) others) one planned))
-
-other_way : (a b : List ℕ) → bytes_eq a b ≡ false → bytes_eq b a ≡ false
-other_way a b apart = nat_list_eq_equiv.symm b a ∙ apart
-
--- where no name is that of the module, it is stale
-pub stale_absent : (verdicts : List (List ℕ × DeclaredVerdict)) (grounds : List Grounds) (name text : List ℕ)
-    (findings : List Finding) → IsAbsentKey (keys_of verdicts) name
-    → list_any (is_judgement_of name text findings) (judgements_from verdicts grounds) ≡ false
-stale_absent [] grounds name text findings absent = refl
-stale_absent (entry ∷ entries) [] name text findings absent = refl
-stale_absent (entry ∷ entries) (first ∷ rest) name text findings absent =
-    let parts = or_parts (bytes_eq name entry.0) (list_any (bytes_eq name) (keys_of entries)) absent in
-    let apart : bytes_eq entry.0 name ≡ false = other_way name entry.0 parts.0 in
-    rw apart (stale_absent entries rest name text findings parts.1)
-
-absent_from_apart : (keys : List (List ℕ)) (name : List ℕ) → AllByRecursion (λ y. bytes_eq name y ≡ false) keys
-    → IsAbsentKey keys name
-absent_from_apart [] name apart = refl
-absent_from_apart (key ∷ keys) name apart = rw apart.0 (absent_from_apart keys name apart.1)
-
-apart_at : (keys : List (List ℕ)) (first name : List ℕ) (at : ℕ) → AllByRecursion (λ y. bytes_eq first y ≡ false) keys
-    → slice_get keys at ≡ Some name → bytes_eq first name ≡ false
-apart_at [] first name at apart stands = cc
-apart_at (key ∷ keys) first name zero apart stands =
-    let P : List ℕ → Type 0 = λ y. bytes_eq first y ≡ false in subst P (same_Some key name stands) apart.0
-apart_at (key ∷ keys) first name (suc at) apart stands = apart_at keys first name at apart.1 stands
-
--- where the grounds of the module were others, it is stale
-pub stale_other : (verdicts : List (List ℕ × DeclaredVerdict)) (others : List Grounds) (at : ℕ) (one : Grounds)
-    (name text : List ℕ) (findings : List Finding) → IsDistinct bytes_eq (keys_of verdicts)
-    → slice_get (keys_of verdicts) at ≡ Some name → slice_get others at ≡ Some one
-    → (bytes_eq one.text text && same_findings (map finding_of one.findings) findings) ≡ false
-    → list_any (is_judgement_of name text findings) (judgements_from verdicts others) ≡ false
-stale_other [] others at one name text findings distinct named stands differ = refl
-stale_other (entry ∷ entries) [] at one name text findings distinct named stands differ = refl
-stale_other (entry ∷ entries) (first ∷ rest) zero one name text findings distinct named stands differ =
-    let is_name : entry.0 ≡ name = same_Some entry.0 name named in
-    let is_one : first ≡ one = same_Some first one stands in
-    let apart = IsDistinct-head bytes_eq entry.0 (keys_of entries) distinct in
-    let P : List ℕ → Type 0 = λ x. AllByRecursion (λ y. bytes_eq x y ≡ false) (keys_of entries) in
-    or_from (is_judgement_of name text findings (judged_on entry first))
-    (list_any (is_judgement_of name text findings) (judgements_from entries rest))
-    (and_right (bytes_eq entry.0 name) (bytes_eq first.text text && same_findings (map finding_of first.findings)
-    findings)
-    (ap (λ g. bytes_eq g.text text && same_findings (map finding_of g.findings) findings) is_one ∙ differ))
-    (stale_absent entries rest name text findings (absent_from_apart (keys_of entries) name (subst P is_name apart)))
-stale_other (entry ∷ entries) (first ∷ rest) (suc at) one name text findings distinct named stands differ =
-    or_from (is_judgement_of name text findings (judged_on entry first))
-    (list_any (is_judgement_of name text findings) (judgements_from entries rest))
-    (and_left (bytes_eq entry.0 name) (bytes_eq first.text text && same_findings (map finding_of first.findings)
-    findings)
-    (apart_at (keys_of entries) entry.0 name at (IsDistinct-head bytes_eq entry.0 (keys_of entries) distinct) named))
-    (stale_other entries rest at one name text findings (IsDistinct-tail bytes_eq entry.0 (keys_of entries) distinct)
-    named stands differ)
-
-pub judgement_at : (verdicts : List (List ℕ × DeclaredVerdict)) (grounds : List Grounds) (at : ℕ)
-    (entry : List ℕ × DeclaredVerdict) (one : Grounds) → slice_get verdicts at ≡ Some entry
-    → slice_get grounds at ≡ Some one
-    → slice_get (judgements_from verdicts grounds) at ≡ Some (judged_on entry one)
-judgement_at [] grounds at entry one stands on = cc
-judgement_at (first ∷ rest) [] at entry one stands on = cc
-judgement_at (first ∷ rest) (others ∷ more) zero entry one stands on =
-    ap Some
-    (ap (λ e. judged_on e others) (same_Some first entry stands) ∙ ap (judged_on entry) (same_Some others one on))
-judgement_at (first ∷ rest) (others ∷ more) (suc at) entry one stands on = judgement_at rest more at entry one stands on
-
--- where the grounds of the module were these, its judgement stands there
-pub kept_at : (verdicts : List (List ℕ × DeclaredVerdict)) (grounds : List Grounds) (at : ℕ) (one : Grounds)
-    (name text : List ℕ) (findings : List Finding) → slice_get (keys_of verdicts) at ≡ Some name
-    → slice_get grounds at ≡ Some one
-    → (bytes_eq one.text text && same_findings (map finding_of one.findings) findings) ≡ true
-    → IsJudgedAt (judgements_from verdicts grounds) name text findings at
-kept_at verdicts grounds at one name text findings named on same =
-    let parts = and_parts (bytes_eq one.text text) (same_findings (map finding_of one.findings) findings) same in
-    elim (slice_get_cases verdicts at).1 [
-      | inl (entry, below, found, is) ↦
-          record {
-            one = judged_on entry one;
-            stands = judgement_at verdicts grounds at entry one found on;
-            same_name =
-                same_Some entry.0 name
-                (sym (slice_get-map (λ e. e.0) verdicts at ∙ ap (option_map (λ e. e.0)) found) ∙ named);
-            same_text = (bytes_decides one.text text).0 parts.0;
-            same_findings = (same_findings_decides (map finding_of one.findings) findings).0 parts.1;
-          }
-      | inr (past, none) ↦
-          absurd
-          (let clash : None ≡ Some name =
-          sym (slice_get-map (λ e. e.0) verdicts at ∙ ap (option_map (λ e. e.0)) none) ∙ named in cc)
-    ]
 
 -- what is kept is a plan
 pub kept_plan : (devices : List DeviceDecl) (last : List Judgement) (name text : List ℕ) (findings : List Finding) (at : ℕ)
@@ -308,6 +209,18 @@ module _ (devices : List DeviceDecl) (texts : Texts) (differ : NamesOfDevicesDif
       ∙ ap (λ t. is_stale (judgements_from verdicts grounds) (name_at texts place) t found) at_text
       ∙ ap (is_stale (judgements_from verdicts grounds) (name_at texts place) (text_at texts place))
       (found_right texts verdicts grounds plans all (planned all are) place found asked found_zip)
+
+  pub made_judged : (judged : List (Option ℕ)) → AreJudgedBefore (judgements_from verdicts grounds) texts judged
+      → (before : Option ℕ) → before ≡ get_or judged place before
+      → IsJudgedBefore (judgements_from verdicts grounds) entry.0 reading before
+  made_judged judged are before is =
+      let is_before : before ≡ get_or judged place None = is ∙ get_or_default judged place before None
+      (omega (arith, within, are.count)) in
+      let P : List ℕ × List ℕ → Type 0 = λ e. IsJudgedBefore (judgements_from verdicts grounds) e.0 reading before in
+      let Q : List ℕ → Type 0 = λ t. IsJudgedBefore (judgements_from verdicts grounds) (name_at texts place) t before in
+      let R : Option ℕ → Type 0 = λ o. IsJudgedBefore (judgements_from verdicts grounds) (name_at texts place)
+      (text_at texts place) o in
+      subst P (sym at_entry) (subst Q (sym at_text) (subst R (sym is_before) (are.each place within)))
 
   pub made_right : (plan : Plan)
       → IsPlanFor devices (judgements_from verdicts grounds) entry.0 reading

@@ -1,5 +1,5 @@
 -- What the program finds of the imports of the present texts. It serves the code alone.
-use Rattle.std.specs.Prelude.{◌≡◌, ℕ, nat_eq, true, List, [], ◌∷◌, ◌++◌, map, slice_get}
+use Rattle.std.specs.Prelude.{◌≡◌, ℕ, ◌<◌, nat_eq, true, false, ◌&&◌, List, [], ◌∷◌, ◌++◌, length, map, slice_get, slice_index_or}
 use Rattle.std.specs.Prelude.{Option, Some, None}
 use Rattle.std.specs.BTreeMap.{insert_entry}
 use Rattle.std.specs.List.{AllByRecursion, list_any}
@@ -10,6 +10,8 @@ use Rattle.cc_base.specs.Names.{compare_names}
 use Rattle.cc_grammar.specs.Syntax.{ImportSyntax}
 use Rattle.cc_verdicts.specs.PresentTexts.{Texts, graph_of}
 use Rattle.cc_verdicts.specs.Readings.{imports_of}
+use Rattle.cc_judge.specs.Judgements.{Judgement}
+use Rattle.cc_judge.specs.Places.{name_at, text_at}
 use Rattle.cc_judge.specs.declared.dependencies.Dependencies.{Dependencies}
 
 -- the names of the modules that are imported from
@@ -69,7 +71,20 @@ pub record IsSchedule (texts : Texts) (places : List ℕ) : Type 0 where
   pub order : IsOrder (graph_of texts) names
   pub named : ArePlacesOf (keys_of texts) names ordered
 
-pub record AreDependencies (texts : Texts) (found : Dependencies) : Type 0 where
+-- the place is that of the last judgement of the module with this text; without one there is no such judgement
+abbrev pub IsJudgedBefore : List Judgement → List ℕ → List ℕ → Option ℕ → Type 0
+IsJudgedBefore last name text (Some at) =
+    (one : Judgement) × (slice_get last at ≡ Some one) × (one.name ≡ name) × (one.text ≡ text)
+IsJudgedBefore last name text None = list_any (λ one. bytes_eq one.name name && bytes_eq one.text text) last ≡ false
+
+-- the same of all present texts
+pub record AreJudgedBefore (last : List Judgement) (texts : Texts) (places : List (Option ℕ)) : Type 0 where
+  pub count : length places ≡ length texts
+  pub each : (place : ℕ) → place < length texts
+      → IsJudgedBefore last (name_at texts place) (text_at texts place) (slice_index_or places place None)
+
+pub record AreDependencies (last : List Judgement) (texts : Texts) (found : Dependencies) : Type 0 where
   pub read : AreRead texts found.readings.items
+  pub judged : AreJudgedBefore last texts found.judged.items
   pub graph : found.graph ≡ graph_of texts
   pub schedule : IsSchedule texts found.schedule.items

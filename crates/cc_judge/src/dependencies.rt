@@ -1,60 +1,115 @@
 //! What the present texts import, where that leads, and an order in which they can be judged.
 
-ghost use Rattle.std.specs.Prelude.{◌≡◌, [], map, option_map, IfOk, OnOk};
+ghost use Rattle.std.specs.Prelude.{◌≡◌, ℕ, List, [], map, option_map, slice_get, Some, IfOk, OnOk, MatchOption};
 ghost use Rattle.std.specs.BTreeMap.{insert_entry};
 ghost use Rattle.std.specs.List.Sorted.{IsStrictlySortedBy};
 ghost use Rattle.std.specs.Map.{keys_of};
 ghost use Rattle.cc_base.specs.Names.{compare_names};
 ghost use Rattle.cc_verdicts.specs.PresentTexts.{ArePresent, graph_of};
 ghost use Rattle.cc_parse.specs.Trees.{import_syntax, imports_syntax};
-ghost use Rattle.cc_judge.specs.Dependencies.{sources_of, inserted, readings_of, AreRead, with_unread, ListsUnread, PushesPlace, PushesNamed, IsSchedule, AreDependencies};
+ghost use Rattle.cc_judge.specs.Dependencies.{sources_of, inserted, readings_of, AreRead, with_unread, ListsUnread, PushesPlace, PushesNamed, IsSchedule, AreJudgedBefore, IsJudgedBefore, AreDependencies};
+ghost use Rattle.cc_judge.specs.Kept.{judgements_of};
+ghost use Rattle.cc_judge.specs.Places.{IsAbsentKey};
 
 use crate::grounds::SharedText;
 use crate::last::Last;
-use crate::names::{place_of_text, place_of_verdict};
+use crate::names::{place_near, place_of_text};
 use crate::reading::ReadText;
 use cc_base::literal::Import;
 use cc_base::name::Name;
 use cc_graph::imports::{ImportGraph, Imports};
 use std::alloc::{AllocError, Global};
 
-/// The present texts as they were read, with their imports; the import graph; and the places of all texts in an order in
-/// which they can be judged.
+/// The present texts as they were read, with their imports, and where each was judged last; the import graph; and the
+/// places of all texts in an order in which they can be judged.
 #[derive(Drop)]
 pub struct Dependencies {
     pub readings: Vec<ReadText>,
+    /// For each text the place of the last judgement of the module with this text, if there is one.
+    pub judged: Vec<Option<usize>>,
     pub graph: ImportGraph,
     pub schedule: Vec<usize>,
 }
 
-// The text, read: as it was read before, where that is the same text.
-fn read_again(alloc: Global, before: &ReadText, text: &SharedText) -> Result<ReadText, AllocError>
-    ensures { IfOk result (λ read. read ≡ text.now) }
+// The texts as they were read, and where each was judged last.
+#[derive(Drop)]
+struct Readings {
+    readings: Vec<ReadText>,
+    judged: Vec<Option<usize>>,
+}
+
+// The place of the last judgement, which is that of the module, if it is one with the text.
+fn judged_with(last: &Last, found: Option<usize>, text: &SharedText) -> Option<usize>
+    requires { IsStrictlySortedBy compare_names (keys_of last.now.verdicts.items) }
+    ensures { (name : List ℕ) → MatchOption found (IsAbsentKey (keys_of last.now.verdicts.items) name) (λ at. slice_get (keys_of last.now.verdicts.items) at ≡ Some name) → IsJudgedBefore (judgements_of last.now) name text.now result }
 {
-    if before.is_of(text) {
-        before.share()
-    } else {
-        ReadText::read(alloc, text)
+    match found {
+        Some(at) => match last.grounds.get(at) {
+            Some(grounds) => {
+                if grounds.text.is_of(text) {
+                    found
+                } else {
+                    None
+                }
+            }
+            None => None,
+        },
+        None => None,
     }
 }
 
-// The text of the module of the name, read: as it was read before, where the module was judged last with that text.
+// The text, read: as it was read before, where it was judged last.
 fn read_text(
     alloc: Global,
     last: &Last,
-    name: &Name,
+    judged: Option<usize>,
     text: &SharedText,
 ) -> Result<ReadText, AllocError>
-    requires { IsStrictlySortedBy compare_names (keys_of last.now.verdicts.items) }
+    requires { (name : List ℕ) × IsJudgedBefore (judgements_of last.now) name text.now judged }
     ensures { IfOk result (λ read. read ≡ text.now) }
 {
-    match place_of_verdict(last.verdicts.as_slice(), name) {
+    match judged {
         Some(at) => match last.grounds.get(at) {
-            Some(grounds) => read_again(alloc, &grounds.text, text),
+            Some(grounds) => grounds.text.share(),
             None => ReadText::read(alloc, text),
         },
         None => ReadText::read(alloc, text),
     }
+}
+
+// Where a verdict is sought next, when the last one was found there, or sought there.
+fn next_to(found: Option<usize>, near: usize) -> usize {
+    match found {
+        Some(at) => at.saturating_add(1),
+        None => near,
+    }
+}
+
+// The texts, read. Names stand in order, so that the verdict of the next one mostly comes next.
+fn read_present(
+    alloc: Global,
+    texts: &[(Name, SharedText)],
+    last: &Last,
+) -> Result<Readings, AllocError>
+    requires { IsStrictlySortedBy compare_names (keys_of last.now.verdicts.items) }
+    ensures read { IfOk result (λ r. AreRead texts.now r.readings.items) }
+    ensures judged { IfOk result (λ r. AreJudgedBefore (judgements_of last.now) texts.now r.judged.items) }
+{
+    let mut readings = Vec::with_capacity(alloc, texts.len())?;
+    let mut places = Vec::with_capacity(alloc, texts.len())?;
+    let mut near = 0;
+    for entry in texts {
+        let found = place_near(last.verdicts.as_slice(), near, &entry.0);
+        near = next_to(found, near);
+        let judged = judged_with(last, found, &entry.1);
+        let read = read_text(alloc, last, judged, &entry.1)?;
+        readings.push(read)?;
+        places.push(judged)?;
+    }
+    Ok(Readings {
+        readings,
+        judged: places,
+    })
 }
 
 /// The texts, read. What was judged last is not read again.
@@ -68,11 +123,11 @@ pub fn read_texts(
     requires { IsStrictlySortedBy compare_names (keys_of last.now.verdicts.items) }
     ensures { IfOk result (λ readings. AreRead texts.now readings.items) }
 {
-    let mut readings = Vec::with_capacity(alloc, texts.len())?;
-    for entry in texts {
-        let read = read_text(alloc, last, &entry.0, &entry.1)?;
-        readings.push(read)?;
-    }
+    let present = read_present(alloc, texts, last)?;
+    let Readings {
+        readings,
+        judged: _,
+    } = present;
     Ok(readings)
 }
 
@@ -224,13 +279,15 @@ pub fn find_dependencies(
 ) -> Result<Dependencies, AllocError>
     requires present { ArePresent texts.now }
     requires names { IsStrictlySortedBy compare_names (keys_of last.now.verdicts.items) }
-    ensures { IfOk result (AreDependencies texts.now) }
+    ensures { IfOk result (AreDependencies (judgements_of last.now) texts.now) }
 {
-    let readings = read_texts(alloc, texts, last)?;
+    let present = read_present(alloc, texts, last)?;
+    let Readings { readings, judged } = present;
     let graph = import_graph(alloc, texts, readings.as_slice())?;
     let schedule = schedule(alloc, texts, readings.as_slice(), &graph)?;
     Ok(Dependencies {
         readings,
+        judged,
         graph,
         schedule,
     })

@@ -163,7 +163,10 @@ pub(crate) fn findings(
     ensures { IfOk result (λ found. AreFoundFor texts.now last.now.verdicts.items plans.now name.now (map import_syntax imports.now) (map finding_of found.items)) }
 {
     let mut found = Vec::with_capacity(alloc, imports.len())?;
-    let mut known = name;
+    let Some(first) = imports.first() else {
+        return Ok(found);
+    };
+    let mut known = &first.module;
     let mut source = source_of(texts, graph, name, known);
     for import in imports {
         source = source_again(texts, graph, name, known, source, &import.module);

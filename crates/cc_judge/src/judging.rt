@@ -89,7 +89,7 @@ fn plan_new<L: Ledger>(
 ) -> Result<Plan, AllocError>
     requires differ { NamesOfDevicesDiffer devices.now }
     requires present { ArePresent texts.now }
-    requires found { AreDependencies texts.now dependencies.now }
+    requires found { AreDependencies (judgements_of last.now) texts.now dependencies.now }
     requires kept { IsKept devices.now last.now }
     requires plans { ArePlans devices.now texts.now (judgements_of last.now) plans.now }
     requires within { place < length texts.now }
@@ -108,7 +108,8 @@ fn plan_new<L: Ledger>(
         name,
         text.imports(),
     )?;
-    plan_module(alloc, devices, last, name, text, found, steps)
+    let judged = dependencies.judged[place];
+    plan_module(alloc, devices, last, name, text, judged, found, steps)
 }
 
 // Makes the plan for the place, if it has none yet.
@@ -124,7 +125,7 @@ fn plan_place<L: Ledger>(
 ) -> Result<(), AllocError>
     requires differ { NamesOfDevicesDiffer devices.now }
     requires present { ArePresent texts.now }
-    requires found { AreDependencies texts.now dependencies.now }
+    requires found { AreDependencies (judgements_of last.now) texts.now dependencies.now }
     requires kept { IsKept devices.now last.now }
     requires plans { ArePlans devices.now texts.now (judgements_of last.now) plans.old.items }
     requires count { length plans.old.items ≡ length texts.now }

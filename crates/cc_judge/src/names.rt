@@ -1,6 +1,6 @@
 //! Entries in order of name.
 
-ghost use Rattle.std.specs.Prelude.{◌≡◌, MatchOption, MatchResult, slice_get, Some};
+ghost use Rattle.std.specs.Prelude.{◌≡◌, MatchOption, MatchResult, slice_get, Some, true};
 ghost use Rattle.std.specs.List.Sorted.{IsStrictlySortedBy};
 ghost use Rattle.std.specs.Map.{keys_of};
 ghost use Rattle.cc_base.specs.Names.{compare_names};
@@ -32,4 +32,26 @@ pub fn place_of_verdict(verdicts: &[(Name, ModuleVerdict)], name: &Name) -> Opti
     ensures { MatchOption result (IsAbsentKey (keys_of verdicts.now) name.now) (λ at. slice_get (keys_of verdicts.now) at ≡ Some name.now) }
 {
     verdicts.binary_search_by(|entry| entry.0.cmp(name)).ok()
+}
+
+// Whether the verdict of the module of the name stands at the place.
+fn is_at(verdicts: &[(Name, ModuleVerdict)], at: usize, name: &Name) -> bool
+    ensures { result ≡ true → slice_get (keys_of verdicts.now) at ≡ Some name.now }
+{
+    match verdicts.get(at) {
+        Some(entry) => entry.0 == *name,
+        None => false,
+    }
+}
+
+/// The same, where it may be this place.
+pub fn place_near(verdicts: &[(Name, ModuleVerdict)], near: usize, name: &Name) -> Option<usize>
+    requires { IsStrictlySortedBy compare_names (keys_of verdicts.now) }
+    ensures { MatchOption result (IsAbsentKey (keys_of verdicts.now) name.now) (λ at. slice_get (keys_of verdicts.now) at ≡ Some name.now) }
+{
+    if is_at(verdicts, near, name) {
+        Some(near)
+    } else {
+        place_of_verdict(verdicts, name)
+    }
 }

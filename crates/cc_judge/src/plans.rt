@@ -1,21 +1,21 @@
 //! What is to become of each present module: its last verdict stays, or it has a new one.
 
-ghost use Rattle.std.specs.Prelude.{◌≡◌, ◌+◌, ◌≤◌, List, map, length, IfOk, MatchOption, IsTrue, option_map, if◌then◌else◌};
+ghost use Rattle.std.specs.Prelude.{◌≡◌, ◌+◌, ◌≤◌, ℕ, List, map, IfOk, MatchOption, IsTrue, option_map, if◌then◌else◌};
 ghost use Rattle.std.specs.List.Sorted.{IsStrictlySortedBy};
 ghost use Rattle.std.specs.Map.{keys_of};
 ghost use Rattle.cc_base.specs.Names.{compare_names};
 ghost use Rattle.cc_module.specs.Findings.{finding_of};
 ghost use Rattle.cc_module.specs.Judgements.{module_verdict_of};
 ghost use Rattle.cc_verdicts.specs.ModuleLaws.{NamesOfDevicesDiffer, AreFit};
+ghost use Rattle.cc_judge.specs.Dependencies.{IsJudgedBefore};
 ghost use Rattle.cc_judge.specs.Judgements.{Judgement, is_stale};
 ghost use Rattle.cc_judge.specs.Kept.{judgements_of, IsKept};
 ghost use Rattle.cc_judge.specs.Plans.{plan_verdict, IsPlanFor, IsJudgedAt};
 
 use crate::grounds::{Findings, Grounds};
 use crate::last::Last;
-use crate::names::place_of_verdict;
 use crate::reading::ReadText;
-use crate::same::are_grounds;
+use crate::same::same_findings;
 use cc_base::device::DeviceDecl;
 use cc_base::name::Name;
 use cc_base::steps::Steps;
@@ -46,22 +46,24 @@ pub(crate) fn plan_verdict<'a>(plan: &'a Plan, last: &'a Last) -> Option<&'a Mod
     }
 }
 
-// The place of the last verdict of the module, if it was judged with this text and these findings.
-fn kept_place(last: &Last, name: &Name, text: &ReadText, findings: &[Finding]) -> Option<usize>
-    requires names { IsStrictlySortedBy compare_names (keys_of last.now.verdicts.items) }
-    requires one_each { length last.now.grounds.items ≡ length last.now.verdicts.items }
-    ensures { MatchOption result
-        (IsTrue (is_stale (judgements_of last.now) name.now text.now (map finding_of findings.now)))
-        (IsJudgedAt (judgements_of last.now) name.now text.now (map finding_of findings.now)) }
+// The place of the last judgement of the module with its text, if that was with these findings.
+fn kept_place(last: &Last, judged: Option<usize>, findings: &[Finding]) -> Option<usize>
+    requires { IsStrictlySortedBy compare_names (keys_of last.now.verdicts.items) }
+    ensures { (name text : List ℕ) → IsJudgedBefore (judgements_of last.now) name text judged → MatchOption result
+        (IsTrue (is_stale (judgements_of last.now) name text (map finding_of findings.now)))
+        (IsJudgedAt (judgements_of last.now) name text (map finding_of findings.now)) }
 {
-    match place_of_verdict(last.verdicts.as_slice(), name) {
-        Some(at) => {
-            if are_grounds(&last.grounds[at], text, findings) {
-                Some(at)
-            } else {
-                None
+    match judged {
+        Some(at) => match last.grounds.get(at) {
+            Some(grounds) => {
+                if same_findings(grounds.findings.as_slice(), findings) {
+                    judged
+                } else {
+                    None
+                }
             }
-        }
+            None => None,
+        },
         None => None,
     }
 }
@@ -93,7 +95,8 @@ fn judge<L: Ledger>(
     ))
 }
 
-/// The plan for the module: its last verdict stays where it is not stale, and else it is judged.
+/// The plan for the module, where this is the place of its last judgement with its text: its last verdict stays where it is
+/// not stale, and else it is judged.
 ///
 /// Fails only for want of memory.
 pub(crate) fn plan_module<L: Ledger>(
@@ -102,16 +105,18 @@ pub(crate) fn plan_module<L: Ledger>(
     last: &Last,
     name: &Name,
     text: &ReadText,
+    judged: Option<usize>,
     findings: Vec<Finding>,
     steps: &mut Steps<L>,
 ) -> Result<Plan, AllocError>
     requires differ { NamesOfDevicesDiffer devices.now }
     requires fit { AreFit devices.now text.now (map finding_of findings.items) }
     requires kept { IsKept devices.now last.now }
+    requires judged { IsJudgedBefore (judgements_of last.now) name.now text.now judged }
     ensures ticks { steps.new ≤ steps.old + (if is_stale (judgements_of last.now) name.now text.now (map finding_of findings.items) then 1 else 0) }
     ensures plan { IfOk result (λ plan. IsPlanFor devices.now (judgements_of last.now) name.now text.now (map finding_of findings.items) plan) }
 {
-    match kept_place(last, name, text, findings.as_slice()) {
+    match kept_place(last, judged, findings.as_slice()) {
         Some(at) => Ok(Plan::Keep(at)),
         None => judge(alloc, devices, name, text, findings, steps),
     }

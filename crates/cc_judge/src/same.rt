@@ -59,10 +59,3 @@ pub(crate) fn same_findings(left: &[Finding], right: &[Finding]) -> bool
     }
     true
 }
-
-/// Whether the grounds are this text and these findings.
-pub(crate) fn are_grounds(grounds: &Grounds, text: &ReadText, findings: &[Finding]) -> bool
-    ensures { result ≡ (bytes_eq grounds.now.text text.now && plain.same_findings (map finding_of grounds.now.findings) (map finding_of findings.now)) }
-{
-    grounds.text.is(text) && same_findings(grounds.findings.as_slice(), findings)
-}

@@ -22,13 +22,20 @@ fn refusal_text(alloc: Global, diag: Diag) -> Result<String, AllocError>
     format!(in alloc; "{code} {place}")
 }
 
-// A verdict.
-fn verdict_text(alloc: Global, verdict: &ModuleVerdict) -> Result<String, AllocError>
-    ensures { IfOk result (λ text. string_bytes text ≡ plain.verdict_text (module_verdict_of verdict.now)) }
+// Adds what is said of a verdict.
+fn put_verdict_text(
+    alloc: Global,
+    out: &mut String,
+    verdict: &ModuleVerdict,
+) -> Result<(), AllocError>
+    ensures { OnOk result (string_bytes out.new ≡ string_bytes out.old ++ plain.verdict_text (module_verdict_of verdict.now)) }
 {
     match verdict.defs() {
-        Ok(_) => String::from_str(alloc, "ok"),
-        Err(diag) => refusal_text(alloc, diag),
+        Ok(_) => out.push_str("ok"),
+        Err(diag) => {
+            let text = refusal_text(alloc, diag)?;
+            out.push_str(text.as_str())
+        }
     }
 }
 
@@ -40,10 +47,11 @@ fn put_verdict(
 ) -> Result<(), AllocError>
     ensures { OnOk result (string_bytes out.new ≡ string_bytes out.old ++ plain.verdict_line (named_verdict one.now)) }
 {
-    let name = &one.0;
-    let verdict = verdict_text(alloc, &one.1)?;
-    let line = format!(in alloc; "  {name} {verdict}\n")?;
-    out.push_str(line.as_str())
+    out.push_str("  ")?;
+    out.push_str(one.0.as_str())?;
+    out.push_str(" ")?;
+    put_verdict_text(alloc, &mut *out, &one.1)?;
+    out.push_str("\n")
 }
 
 /// The reply to a command that checks the modules, which have these verdicts: a line for each, in their order. Fails

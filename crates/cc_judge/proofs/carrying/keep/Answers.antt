@@ -2,7 +2,7 @@ use Rattle.std.proofs.Common.{ap, ◌∙◌, sym, map, Some, take, length, ◌<�
 use Rattle.std.proofs.lemmas.List.{map_push, length-take-le}
 use Rattle.cc_judge.specs.Kept.{judged_on, judgements_from, judgements_of}
 use Rattle.cc_judge.proofs.CarryLemmas.{cut_at, judgements_take}
-use Rattle.cc_judge.proofs.RightPlans.{judgement_at}
+use Rattle.cc_judge.proofs.JudgedBefore.{judgement_at}
 use Rattle.cc_judge.proofs.carrying.keep.Goals as goal
 
 pub returns-clause-count : goal.returns-clause-count

@@ -14,13 +14,15 @@ returns-in-Some-clause-plan g c =
     let P : List Finding → Type 0 = λ fs. IsJudgedAt last c.args.name.now c.args.text.now (map finding_of fs)
     c.in-Some.at in
     kept_plan c.args.devices.now last c.args.name.now c.args.text.now (map finding_of c.args.findings.items)
-    c.in-Some.at c.requires.kept.judged (subst P c.as_slice.ensures.value c.in-Some.ensures)
+    c.in-Some.at c.requires.kept.judged
+    (subst P c.as_slice.ensures.value (c.in-Some.ensures c.args.name.now c.args.text.now c.requires.judged))
 
 pub returns-in-None-clause-ticks : goal.returns-in-None-clause-ticks
 returns-in-None-clause-ticks g c =
     let last = judgements_of c.args.last.now in
     let P : List Finding → Type 0 = λ fs. is_stale last c.args.name.now c.args.text.now (map finding_of fs) ≡ true in
-    let stale = subst P c.as_slice.ensures.value c.in-None.ensures in
+    let stale = subst P c.as_slice.ensures.value
+    (c.in-None.ensures c.args.name.now c.args.text.now c.requires.judged) in
     let Q : Bool → Type 0 = λ b. c.judge.new.steps ≤ c.args.steps.now + (if b then 1 else 0) in
     subst Q (sym stale) (omega (arith, c.judge.ensures.tick))
 
