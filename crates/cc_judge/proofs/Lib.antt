@@ -3,6 +3,7 @@ pub mod FindingTests
 pub mod Entries
 pub mod TextPlaces
 pub mod Graphs
+pub mod GraphAgain
 pub mod PlaceSchedules
 pub mod StaleCounts
 pub mod JudgedBefore

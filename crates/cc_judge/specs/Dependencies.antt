@@ -86,5 +86,5 @@ pub record AreJudgedBefore (last : List Judgement) (texts : Texts) (places : Lis
 pub record AreDependencies (last : List Judgement) (texts : Texts) (found : Dependencies) : Type 0 where
   pub read : AreRead texts found.readings.items
   pub judged : AreJudgedBefore last texts found.judged.items
-  pub graph : found.graph ≡ graph_of texts
+  pub graph : found.graph.value.graph ≡ graph_of texts
   pub schedule : IsSchedule texts found.schedule.items

@@ -4,6 +4,7 @@ pub mod SameFindings
 pub mod Kept
 pub mod Places
 pub mod Dependencies
+pub mod KnownGraphs
 pub mod Plans
 pub mod Found
 pub mod Carrying

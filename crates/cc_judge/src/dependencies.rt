@@ -12,6 +12,8 @@ ghost use Rattle.cc_judge.specs.Kept.{judgements_of};
 ghost use Rattle.cc_judge.specs.Places.{IsAbsentKey};
 
 use crate::grounds::SharedText;
+use crate::importing::KnownGraph;
+use crate::known_graph::graph_again;
 use crate::last::Last;
 use crate::names::{place_near, place_of_text};
 use crate::reading::ReadText;
@@ -19,6 +21,7 @@ use cc_base::literal::Import;
 use cc_base::name::Name;
 use cc_graph::imports::{ImportGraph, Imports};
 use std::alloc::{AllocError, Global};
+use std::rc::Rc;
 
 /// The present texts as they were read, with their imports, and where each was judged last; the import graph; and the
 /// places of all texts in an order in which they can be judged.
@@ -27,7 +30,7 @@ pub struct Dependencies {
     pub readings: Vec<ReadText>,
     /// For each text the place of the last judgement of the module with this text, if there is one.
     pub judged: Vec<Option<usize>>,
-    pub graph: ImportGraph,
+    pub graph: Rc<KnownGraph>,
     pub schedule: Vec<usize>,
 }
 
@@ -131,8 +134,8 @@ pub fn read_texts(
     Ok(readings)
 }
 
-// The names of the modules that are imported from.
-fn sources_of(alloc: Global, imports: &[Import]) -> Result<Vec<Name>, AllocError>
+/// The names of the modules that are imported from, in order. Fails only for want of memory.
+pub(crate) fn sources_of(alloc: Global, imports: &[Import]) -> Result<Vec<Name>, AllocError>
     ensures { IfOk result (λ names. names.items ≡ sources_of (map import_syntax imports.now)) }
 {
     let mut names = Vec::with_capacity(alloc, imports.len())?;
@@ -283,8 +286,8 @@ pub fn find_dependencies(
 {
     let present = read_present(alloc, texts, last)?;
     let Readings { readings, judged } = present;
-    let graph = import_graph(alloc, texts, readings.as_slice())?;
-    let schedule = schedule(alloc, texts, readings.as_slice(), &graph)?;
+    let graph = graph_again(alloc, texts, readings.as_slice(), &last.graph)?;
+    let schedule = schedule(alloc, texts, readings.as_slice(), &graph.graph)?;
     Ok(Dependencies {
         readings,
         judged,

@@ -58,7 +58,7 @@ fn findings_of(
     imports: &Option<Vec<Import>>,
 ) -> Result<Vec<Finding>, AllocError>
     requires present { ArePresent texts.now }
-    requires graph { dependencies.now.graph ≡ graph_of texts.now }
+    requires graph { dependencies.now.graph.value.graph ≡ graph_of texts.now }
     requires count { length plans.now ≡ length texts.now }
     ensures { IfOk result (λ found. AreFoundFor texts.now last.now.verdicts.items plans.now name.now (unwrap_or (option_map imports_syntax imports.now) []) (map finding_of found.items)) }
 {
@@ -66,7 +66,7 @@ fn findings_of(
         Some(imports) => findings(
             alloc,
             texts,
-            &dependencies.graph,
+            &dependencies.graph.graph,
             last,
             plans,
             name,
@@ -156,23 +156,24 @@ fn plan_all<L: Ledger>(
     alloc: Global,
     devices: &[DeviceDecl],
     texts: &[(Name, SharedText)],
+    dependencies: &Dependencies,
     last: &Last,
     steps: &mut Steps<L>,
 ) -> Result<Vec<Option<Plan>>, AllocError>
     requires differ { NamesOfDevicesDiffer devices.now }
     requires present { ArePresent texts.now }
+    requires found { AreDependencies (judgements_of last.now) texts.now dependencies.now }
     requires kept { IsKept devices.now last.now }
     ensures ticks { (verdicts : List ℕ → ModuleVerdict) → AreVerdicts devices.now texts.now verdicts → steps.new ≤ steps.old + stale_count (judgements_of last.now) texts.now verdicts }
     ensures plans { IfOk result (λ plans. AreAllPlanned devices.now texts.now (judgements_of last.now) plans.items) }
 {
-    let dependencies = find_dependencies(alloc, texts, last)?;
     let mut plans = no_plans(alloc, texts.len())?;
     for place in dependencies.schedule.iter() {
         plan_place(
             alloc,
             devices,
             texts,
-            &dependencies,
+            dependencies,
             last,
             &mut plans,
             *place,
@@ -201,10 +202,19 @@ pub fn judge_all<L: Ledger>(
     ensures kept { OnOk result (IsKept devices.now last.new) }
     ensures err { OnErr result (last.new ≡ last.old) }
 {
-    let plans = plan_all(alloc, devices, texts, &*last, steps)?;
+    let dependencies = find_dependencies(alloc, texts, &*last)?;
+    let plans = plan_all(alloc, devices, texts, &dependencies, &*last, steps)?;
+    let graph = Some(dependencies.graph.clone()?);
     let verdicts = Vec::with_capacity(alloc, plans.len())?;
     let grounds = Vec::with_capacity(alloc, plans.len())?;
-    let old = replace(&mut *last, Last { verdicts, grounds });
+    let old = replace(
+        &mut *last,
+        Last {
+            verdicts,
+            grounds,
+            graph,
+        },
+    );
     carry_out(old, plans, &mut *last);
     Ok(())
 }
