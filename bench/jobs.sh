@@ -5,9 +5,10 @@
 # among 200 and 100 modules of 5,000 bytes, and beside 60 and 30 modules that import 2,700 definitions of one each; the
 # first check of these; a row of 200 in which one module is edited so that its signature stays; and ordinary jobs: 256
 # modules of 5,000 bytes and of 15,000 bytes, 5,000 definitions, and 1,700 functions, each of which calls the one before
-# it. It fails where there is no program, where an answer is wrong, where the first check of the modules that import 2,700
-# definitions takes more than 150 ms, or 20 edits beside them, with that check, more than 600 ms. Where another program is
-# named that does the same, it is measured too, and it fails where an ordinary job takes more than twice as long as by that.
+# it. It fails where there is no program, where an answer is wrong, where an edit of one of 200 modules of 5,000 bytes with a
+# check takes more than 2 ms, the first check of the modules that import 2,700 definitions more than 150 ms, or 20 edits
+# beside them, with that check, more than 600 ms. Where another program is named that does the same, it is measured too, and
+# it fails where an ordinary job takes more than twice as long as by that.
 # Build the program first: cd crates/capc && rt run < stdin
 # Usage: bench/jobs.sh [PROGRAM [RUNS [OTHER]]]
 set -u
@@ -96,16 +97,18 @@ def importing(modules, edits):
     return 'capc 1\n' + texts + 'check\n' + ''.join(put('a', ['def a = %d' % i]) + 'check\n' for i in range(edits))
 
 
-def behind(words, job_of, modules, edits, last_of):
+def behind(words, job_of, modules, edits, last_of, most=None):
     """What an edit with a check costs, beyond the first check, for so many modules and for half of them."""
     costs = []
     for count in (modules, modules // 2):
         first, all_of = (measured(job_of(count, n), last_of(count))[0] for n in (0, edits))
         costs.append((all_of - first) / edits)
     print('%s: %.2f ms for %d, %.2f ms for half of them' % (words, costs[0], modules, costs[1]))
+    if most is not None:
+        bar(words, costs[0], most)
 
 
-behind('an edit of one among modules of 5,000 bytes, and a check', edited, 200, 40, lambda n: '  m%03d ok' % (n - 1))
+behind('an edit of one among modules of 5,000 bytes, and a check', edited, 200, 40, lambda n: '  m%03d ok' % (n - 1), 2)
 halves('modules that import 2,700 definitions', lambda n: importing(n, 0), 60, lambda n: '  n ok', 150)
 halves('the same with 20 edits of another module', lambda n: importing(n, 20), 60, lambda n: '  n ok', 600)
 behind('an edit of one beside modules that import 2,700 definitions, and a check', importing, 60, 20, lambda n: '  n ok')
