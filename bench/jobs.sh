@@ -3,12 +3,13 @@
 # with 256 modules that is read and checked, and the memory that this takes; a row of modules, each of which imports the
 # one before it, and the same for half of them; edits of one module with a check behind each, and half as many, also
 # among 200 and 100 modules of 5,000 bytes, and beside 60 and 30 modules that import 2,700 definitions of one each; the
-# first check of these; a row of 200 in which one module is edited so that its signature stays; and ordinary jobs: 256
-# modules of 5,000 bytes and of 15,000 bytes, 5,000 definitions, and 1,700 functions, each of which calls the one before
-# it. It fails where there is no program, where an answer is wrong, where an edit of one of 200 modules of 5,000 bytes with a
-# check takes more than 2 ms, the first check of the modules that import 2,700 definitions more than 150 ms, or 20 edits
-# beside them, with that check, more than 600 ms. Where another program is named that does the same, it is measured too, and
-# it fails where an ordinary job takes more than twice as long as by that.
+# first check of these; rows of 200 and 100 in which the first module is edited so that all signatures change, and of 200
+# in which one is edited so that its signature stays; and ordinary jobs: 256 modules of 5,000 bytes and of 15,000 bytes,
+# 5,000 definitions, and 1,700 functions, each of which calls the one before it. It fails where there is no program, where
+# an answer is wrong, where an edit of one of 200 modules of 5,000 bytes with a check takes more than 2 ms, the first check
+# of the modules that import 2,700 definitions more than 150 ms, or 20 edits beside them, with that check, more than 600
+# ms. Where another program is named that does the same, it is measured too, and it fails where an ordinary job takes more
+# than twice as long as by that.
 # Build the program first: cd crates/capc && rt run < stdin
 # Usage: bench/jobs.sh [PROGRAM [RUNS [OTHER]]]
 set -u
@@ -80,6 +81,14 @@ halves('edits of one module with a check behind each',
        lambda n: '  m009 ok')
 
 
+def flipped(modules, edits):
+    """Modules in a row, and edits of the first one, each of which changes the signatures of all."""
+    first = [put('m000', ['def f0 = fun (x: Int) => %s' % body]) for body in ('out.print(x)', 'val n = hits.tick(); out.print(n)')]
+    rest = ''.join(link(number) for number in range(1, modules))
+    return ('capc 1\ndevice out console\ndevice hits counter\n' + first[0] + rest + 'check\n'
+            + ''.join(first[(edit + 1) % 2] + 'check\n' for edit in range(edits)))
+
+
 def edited(modules, edits):
     """Modules of 5,000 bytes, each of which imports a definition of the one before it, and edits of the middle one."""
     def one(number, added):
@@ -108,6 +117,7 @@ def behind(words, job_of, modules, edits, last_of, most=None):
         bar(words, costs[0], most)
 
 
+behind('an edit that changes the signatures of a row of modules, and a check', flipped, 200, 40, lambda n: '  m%03d ok' % (n - 1))
 behind('an edit of one among modules of 5,000 bytes, and a check', edited, 200, 40, lambda n: '  m%03d ok' % (n - 1), 2)
 halves('modules that import 2,700 definitions', lambda n: importing(n, 0), 60, lambda n: '  n ok', 150)
 halves('the same with 20 edits of another module', lambda n: importing(n, 20), 60, lambda n: '  n ok', 600)

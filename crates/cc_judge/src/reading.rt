@@ -1,5 +1,5 @@
-//! Texts that were read: each is kept with what it imports, and until it is judged with its tree, so that it is not read
-//! again.
+//! Texts that were read: each is kept with what it imports. It has its tree until it is judged, and where it is judged
+//! again and again, so that it is not read each time.
 
 ghost use Rattle.std.specs.Prelude.{◌≡◌, ◌+◌, map, IfOk, option_map};
 ghost use Rattle.std.specs.Coded.{codes};
@@ -33,36 +33,48 @@ use std::marker::Model;
 use std::rc::Rc;
 use std::sync::ledger::Ledger;
 
-// A text that was not judged yet, with what it was read as.
+// A text with what it was read as, and whether that stays when the text is judged.
 #[derive(Drop)]
-struct Unjudged {
+struct Parsed {
     text: SharedText,
     reading: TextReading,
+    stays: bool,
     ghost is: { text_reading_of reading ≡ reading_of_text text } by { Prim.hlevel (codes, reading_code (record { base = base.the_row.coded; operator = operator.the_row.coded; operation = operation.the_row.coded; code = code.the_row.coded; place = place.the_row.coded })) },
 }
 
-// A text with its imports, if it is a module. What it was read as is there until it is judged.
+// A text with its imports, if it is a module. What it was read as is there until it is judged. Where it is judged once
+// more, that is read again, and stays: what the text imports from changes then, and is likely to change again.
 #[derive(Drop)]
 struct Reading {
     text: SharedText,
     imports: Option<Vec<Import>>,
-    unjudged: Cell<Option<Unjudged>>,
+    parsed: Cell<Option<Parsed>>,
     ghost are: { option_map imports_syntax imports ≡ imports_of text },
 }
 
 // The text with what it was read as.
-fn to_be_judged(text: &SharedText, reading: TextReading) -> Result<Unjudged, AllocError>
+fn parsed_as(text: &SharedText, reading: TextReading, stays: bool) -> Result<Parsed, AllocError>
     requires { text_reading_of reading ≡ reading_of_text text.now }
 {
     let text = text.share()?;
-    Ok(Unjudged { text, reading })
+    Ok(Parsed {
+        text,
+        reading,
+        stays,
+    })
+}
+
+// The text, read again, with what it is read as, which stays.
+fn parsed_again(alloc: Global, text: &SharedText) -> Result<Parsed, AllocError> {
+    let reading = read(alloc, text.as_bytes())?;
+    parsed_as(text, reading, true)
 }
 
 // The verdict of the text, which is not read again where it was read as this.
-fn check_unjudged<L: Ledger>(
+fn check_parsed<L: Ledger>(
     alloc: Global,
     text: &SharedText,
-    unjudged: &Unjudged,
+    parsed: &Parsed,
     devices: &[DeviceDecl],
     findings: &[Finding],
     steps: &mut Steps<L>,
@@ -74,11 +86,33 @@ fn check_unjudged<L: Ledger>(
     ensures sound { IfOk result (λ v. IsSoundIfAccepted devices.now (map finding_of findings.now) (module_verdict_of v)) }
 {
     let bytes = text.as_bytes();
-    if unjudged.text.is(text) {
-        check_read(alloc, bytes, &unjudged.reading, devices, findings, steps)
+    if parsed.text.is(text) {
+        check_read(alloc, bytes, &parsed.reading, devices, findings, steps)
     } else {
         check_module(alloc, bytes, devices, findings, steps)
     }
+}
+
+// The same, where what the text was read as is put back if it stays.
+fn check_by<L: Ledger>(
+    alloc: Global,
+    reading: &Reading,
+    parsed: Parsed,
+    devices: &[DeviceDecl],
+    findings: &[Finding],
+    steps: &mut Steps<L>,
+) -> Result<ModuleVerdict, AllocError>
+    requires names { NamesOfDevicesDiffer devices.now }
+    requires fit { AreFit devices.now reading.now.text (map finding_of findings.now) }
+    ensures tick { steps.new ≡ steps.old + 1 }
+    ensures verdict { IfOk result (λ v. HasModuleVerdict devices.now reading.now.text (map finding_of findings.now) (module_verdict_of v)) }
+    ensures sound { IfOk result (λ v. IsSoundIfAccepted devices.now (map finding_of findings.now) (module_verdict_of v)) }
+{
+    let verdict = check_parsed(alloc, &reading.text, &parsed, devices, findings, steps)?;
+    if parsed.stays {
+        reading.parsed.set(Some(parsed));
+    }
+    Ok(verdict)
 }
 
 /// A text that was read, shared, with its imports. Contracts see its bytes.
@@ -102,20 +136,21 @@ impl ReadText {
     {
         let reading = read(alloc, text.as_bytes())?;
         let imports = imports_read(alloc, &reading)?;
-        let unjudged = Cell::new(Some(to_be_judged(text, reading)?));
+        let parsed = Cell::new(Some(parsed_as(text, reading, false)?));
         let text = text.share()?;
         let reading = Rc::new(
             alloc,
             Reading {
                 text,
                 imports,
-                unjudged,
+                parsed,
             },
         )?;
         Ok(ReadText { reading })
     }
 
-    /// The verdict of the text, as `check_module` gives it. What the text was read as is given up then.
+    /// The verdict of the text, as `check_module` gives it. What the text was read as is given up then, unless the text
+    /// was judged before.
     pub(crate) fn check<L: Ledger>(
         &self,
         alloc: Global,
@@ -129,10 +164,15 @@ impl ReadText {
         ensures verdict { IfOk result (λ v. HasModuleVerdict devices.now self.now (map finding_of findings.now) (module_verdict_of v)) }
         ensures sound { IfOk result (λ v. IsSoundIfAccepted devices.now (map finding_of findings.now) (module_verdict_of v)) }
     {
-        let text = &self.reading.text;
-        match self.reading.unjudged.take() {
-            Some(unjudged) => check_unjudged(alloc, text, &unjudged, devices, findings, steps),
-            None => check_module(alloc, text.as_bytes(), devices, findings, steps),
+        match self.reading.parsed.take() {
+            Some(parsed) => check_by(alloc, &self.reading, parsed, devices, findings, steps),
+            None => match parsed_again(alloc, &self.reading.text) {
+                Ok(parsed) => check_by(alloc, &self.reading, parsed, devices, findings, steps),
+                Err(AllocError) => {
+                    steps.tick();
+                    Err(AllocError)
+                }
+            },
         }
     }
 
@@ -149,13 +189,6 @@ impl ReadText {
         ensures { result.now ≡ self.now }
     {
         self.reading.text.as_bytes()
-    }
-
-    /// Whether the two are one text.
-    pub fn is(&self, other: &ReadText) -> bool
-        ensures { result ≡ bytes_eq self.now other.now }
-    {
-        self.reading.text.is(&other.reading.text)
     }
 
     /// Whether the text is this one.
