@@ -1,10 +1,9 @@
 -- The import graph of the present texts, by the modules that a graph was made of.
 use Rattle.std.proofs.Common.{◌≡◌, ℕ, ◌+◌, ◌<◌, ◌≤◌, List, [], ◌∷◌, ◌++◌, length, get_or, map, take, drop}
-use Rattle.std.proofs.Common.{Option, Some, None, ap, ◌∙◌, sym, subst, append_assoc, append-nil, arith}
-use Rattle.std.proofs.lemmas.List.{take_more, map_more, take_all, drop_all, length-map}
+use Rattle.std.proofs.Common.{Some, ap, ◌∙◌, sym, append_assoc, append-nil, arith}
+use Rattle.std.proofs.lemmas.List.{take_more, map_more, take_all, drop_all, length-map, length-take-le, get_or-map}
 use Rattle.std.proofs.lemmas.Option.{slice_get_within}
 use Rattle.std.specs.List.{slice_get}
-use Rattle.std.specs.Option.{IfSome, SomeIff}
 use Rattle.cc_base.specs.declared.literal.Import.{Import}
 use Rattle.cc_graph.specs.Graph.{ImportMap}
 use Rattle.cc_parse.specs.Trees.{import_syntax}
@@ -28,6 +27,16 @@ source_more imports sources at one source in_imports in_sources is_one is_source
     ∙ ap (λ i. map (λ it. it.module) (take at imports) ++ i.module ∷ []) is_one
     ∙ sym (map_more (λ it. it.module) imports at one in_imports)
     ∙ sources_by_import (take (at + 1) imports)
+
+-- where all are the same, the one at a place is
+pub source_at : (imports : List Import) (sources : List (List ℕ)) (at : ℕ) (one : Import) (source : List ℕ)
+    → at < length imports → one ≡ get_or imports at one → source ≡ get_or sources at source
+    → sources ≡ sources_of (map import_syntax imports) → one.module ≡ source
+source_at imports sources at one source within is_one is_source same =
+    sym (is_source
+    ∙ ap (λ ss. get_or ss at source) (same ∙ sym (sources_by_import imports))
+    ∙ get_or-map (λ it. it.module) imports at one source within
+    ∙ ap (λ i. i.module) (sym is_one))
 
 -- the modules up to a place, and one more
 pub entry_taken : (entries : ImportMap) (at : ℕ) (one : List ℕ × List (List ℕ)) → slice_get entries at ≡ Some one
@@ -62,8 +71,11 @@ all_taken modules at is =
     let entry : Importing → List ℕ × List (List ℕ) = λ one. (one.name, one.sources.items) in
     take_all at (entries_of modules) (omega (arith, is, length-map modules entry))
 
--- a sum that fits is that sum
-pub sum_if_some : (sum : Option ℕ) (fits : Type 0) (is : ℕ) → SomeIff sum fits is → (P : ℕ → Type 0) → P is
-    → IfSome sum P
-sum_if_some None fits is none P holds = tt
-sum_if_some (Some x) fits is some P holds = subst P (sym some.1) holds
+-- where those up to a place are all modules, the place is behind the last one
+pub place_behind : (modules : List Importing) (at : ℕ) → at ≤ length modules
+    → take at (entries_of modules) ≡ entries_of modules → at ≡ length modules
+place_behind modules at fits all =
+    let entry : Importing → List ℕ × List (List ℕ) = λ one. (one.name, one.sources.items) in
+    let count = length-map modules entry in
+    let taken = length-take-le at (entries_of modules) (omega (arith, fits, count)) in
+    sym taken ∙ ap length all ∙ count

@@ -1,6 +1,6 @@
 //! What the present texts import, where that leads, and an order in which they can be judged.
 
-ghost use Rattle.std.specs.Prelude.{◌≡◌, ℕ, List, [], map, option_map, slice_get, Some, IfOk, OnOk, MatchOption};
+ghost use Rattle.std.specs.Prelude.{◌≡◌, ◌+◌, ◌-◌, ◌^◌, ℕ, min, List, [], map, option_map, slice_get, Some, IfOk, OnOk, MatchOption};
 ghost use Rattle.std.specs.BTreeMap.{insert_entry};
 ghost use Rattle.std.specs.List.Sorted.{IsStrictlySortedBy};
 ghost use Rattle.std.specs.Map.{keys_of};
@@ -81,7 +81,9 @@ fn read_text(
 }
 
 // Where a verdict is sought next, when the last one was found there, or sought there.
-fn next_to(found: Option<usize>, near: usize) -> usize {
+fn next_to(found: Option<usize>, near: usize) -> usize
+    ensures { MatchOption found (result ≡ near) (λ at. result ≡ min (at + 1) (2 ^ 64 - 1)) }
+{
     match found {
         Some(at) => at.saturating_add(1),
         None => near,

@@ -1,6 +1,6 @@
 //! The import graph of the present texts, which is made again only where other modules are present, or import from others.
 
-ghost use Rattle.std.specs.Prelude.{◌≡◌, ◌++◌, true, map, take, option_map, slice_get, Some, None, IfOk, OnOk, IfSome};
+ghost use Rattle.std.specs.Prelude.{◌≡◌, ◌≢◌, ◌↔◌, ◌≤◌, ◌++◌, true, length, map, take, option_map, slice_get, Some, None, IfOk, OnOk, IfSome, IfNone};
 ghost use Rattle.cc_graph.specs.Graph.{ImportMap};
 ghost use Rattle.cc_verdicts.specs.PresentTexts.{ArePresent, graph_of, with_module};
 ghost use Rattle.cc_parse.specs.Trees.{import_syntax, imports_syntax};
@@ -18,7 +18,7 @@ use std::rc::Rc;
 
 // Whether the imports are from the modules of these names.
 fn are_from(imports: &[Import], sources: &[Name]) -> bool
-    ensures { result ≡ true → sources.now ≡ sources_of (map import_syntax imports.now) }
+    ensures { (result ≡ true) ↔ (sources.now ≡ sources_of (map import_syntax imports.now)) }
 {
     if imports.len() != sources.len() {
         return false;
@@ -34,7 +34,7 @@ fn are_from(imports: &[Import], sources: &[Name]) -> bool
 
 // Whether the module at the place has this name and these imports.
 fn is_module(modules: &[Importing], at: usize, name: &Name, imports: &[Import]) -> bool
-    ensures { result ≡ true → slice_get (entries_of modules.now) at ≡ Some (name.now, sources_of (map import_syntax imports.now)) }
+    ensures { (result ≡ true) ↔ (slice_get (entries_of modules.now) at ≡ Some (name.now, sources_of (map import_syntax imports.now))) }
 {
     match modules.get(at) {
         Some(module) => module.name == *name && are_from(imports, module.sources.as_slice()),
@@ -42,19 +42,23 @@ fn is_module(modules: &[Importing], at: usize, name: &Name, imports: &[Import]) 
     }
 }
 
-// The place behind the module of this name, if the text is that one, or no module.
+// The place behind the module of this name, if the text is that one, or no module. Without one the text is a module that
+// does not stand there.
 fn place_past(
     modules: &[Importing],
     at: usize,
     name: &Name,
     reading: &Option<Vec<Import>>,
 ) -> Option<usize>
-    ensures { IfSome result (λ next. (rest : ImportMap) → take at (entries_of modules.now) ++ with_module name.now (option_map imports_syntax reading.now) rest ≡ take next (entries_of modules.now) ++ rest) }
+    requires { at ≤ length modules.now }
+    ensures within { IfSome result (λ next. next ≤ length modules.now) }
+    ensures past { IfSome result (λ next. (rest : ImportMap) → take at (entries_of modules.now) ++ with_module name.now (option_map imports_syntax reading.now) rest ≡ take next (entries_of modules.now) ++ rest) }
+    ensures other { IfNone result ((rest : ImportMap) → take at (entries_of modules.now) ++ with_module name.now (option_map imports_syntax reading.now) rest ≢ entries_of modules.now) }
 {
     match reading {
         Some(imports) => {
-            if is_module(modules, at, name, imports.as_slice()) {
-                at.checked_add(1)
+            if at < modules.len() && is_module(modules, at, name, imports.as_slice()) {
+                Some(at + 1)
             } else {
                 None
             }
@@ -66,7 +70,7 @@ fn place_past(
 // Whether the modules are those among the texts, with their imports.
 fn are_modules(modules: &[Importing], texts: &[(Name, SharedText)], readings: &[ReadText]) -> bool
     requires { AreRead texts.now readings.now }
-    ensures { result ≡ true → graph_of texts.now ≡ entries_of modules.now }
+    ensures { (result ≡ true) ↔ (graph_of texts.now ≡ entries_of modules.now) }
 {
     let mut at = 0;
     for place in 0..texts.len() {
@@ -136,7 +140,7 @@ fn make(
 // Whether the graph is that of the texts.
 fn is_of(known: &KnownGraph, texts: &[(Name, SharedText)], readings: &[ReadText]) -> bool
     requires { AreRead texts.now readings.now }
-    ensures { result ≡ true → known.now.graph ≡ graph_of texts.now }
+    ensures { (result ≡ true) ↔ (known.now.graph ≡ graph_of texts.now) }
 {
     are_modules(known.modules.as_slice(), texts, readings)
 }

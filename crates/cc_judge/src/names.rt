@@ -1,6 +1,6 @@
 //! Entries in order of name.
 
-ghost use Rattle.std.specs.Prelude.{◌≡◌, MatchOption, MatchResult, slice_get, Some, true};
+ghost use Rattle.std.specs.Prelude.{◌≡◌, ◌↔◌, MatchOption, MatchResult, slice_get, Some, true};
 ghost use Rattle.std.specs.List.Sorted.{IsStrictlySortedBy};
 ghost use Rattle.std.specs.Map.{keys_of};
 ghost use Rattle.cc_base.specs.Names.{compare_names};
@@ -36,7 +36,7 @@ pub fn place_of_verdict(verdicts: &[(Name, ModuleVerdict)], name: &Name) -> Opti
 
 // Whether the verdict of the module of the name stands at the place.
 fn is_at(verdicts: &[(Name, ModuleVerdict)], at: usize, name: &Name) -> bool
-    ensures { result ≡ true → slice_get (keys_of verdicts.now) at ≡ Some name.now }
+    ensures { (result ≡ true) ↔ (slice_get (keys_of verdicts.now) at ≡ Some name.now) }
 {
     match verdicts.get(at) {
         Some(entry) => entry.0 == *name,

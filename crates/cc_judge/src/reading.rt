@@ -1,7 +1,7 @@
 //! Texts that were read: each is kept with what it imports. It has its tree until it is judged, and where it is judged
 //! again and again, so that it is not read each time.
 
-ghost use Rattle.std.specs.Prelude.{◌≡◌, ◌+◌, map, IfOk, option_map};
+ghost use Rattle.std.specs.Prelude.{◌≡◌, ◌+◌, true, map, IfOk, option_map};
 ghost use Rattle.std.specs.Coded.{codes};
 ghost use Rattle.std.specs.Str.{bytes_eq};
 ghost use Rattle.cc_base.specs.contracts.code.Code as code;
@@ -55,6 +55,8 @@ struct Reading {
 // The text with what it was read as.
 fn parsed_as(text: &SharedText, reading: TextReading, stays: bool) -> Result<Parsed, AllocError>
     requires { text_reading_of reading ≡ reading_of_text text.now }
+    ensures text { IfOk result (λ parsed. parsed.text ≡ text.now) }
+    ensures stays { IfOk result (λ parsed. parsed.stays ≡ stays) }
 {
     let text = text.share()?;
     Ok(Parsed {
@@ -65,7 +67,10 @@ fn parsed_as(text: &SharedText, reading: TextReading, stays: bool) -> Result<Par
 }
 
 // The text, read again, with what it is read as, which stays.
-fn parsed_again(alloc: Global, text: &SharedText) -> Result<Parsed, AllocError> {
+fn parsed_again(alloc: Global, text: &SharedText) -> Result<Parsed, AllocError>
+    ensures text { IfOk result (λ parsed. parsed.text ≡ text.now) }
+    ensures stays { IfOk result (λ parsed. parsed.stays ≡ true) }
+{
     let reading = read(alloc, text.as_bytes())?;
     parsed_as(text, reading, true)
 }

@@ -7,5 +7,6 @@ abbrev pub invariant-loop-place : goal.invariant-loop-place
 invariant-loop-place l =
     record {
       within : l.place ≤ length l.texts;
+      fits : l.at ≤ length l.modules;
       same : graph_of l.texts ≡ take l.at (entries_of l.modules) ++ graph_of (drop l.place l.texts);
     }
