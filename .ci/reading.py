@@ -5,10 +5,12 @@ From the clauses of the function (`capc` of crates/cc_program/src/run.rt) each n
 this item each name again, and so on. What is reached are items of the files in specs/, and types and traits of the program
 that stand in clauses as what they are. What the library `std` defines is followed no further. A word of an item that is the
 name of another item of its file, or of one that the file uses, is taken for that one: so too much may be reached, and never
-too little. Two kinds of items are not followed, since nothing of them has to be believed. A lemma is a proof of what its
-statement says (nothing opens it, and its statement ends in an equation or in a fact). And a function that a law says to be a
-relation (DETERMINED) may be read as that relation: the items of the law are followed instead of those of the function. The
-same is done for the laws that docs/proved.md cites: functions with a contract and nothing else.
+too little. A `do` stands for the `>>=` and `>>` of its file. Two kinds of items are not followed, since nothing of them has to be
+believed. A lemma is a proof of what its statement says (nothing opens it, and its statement ends in an equation or in a fact). And
+a function that a law says to be a relation (DETERMINED) may be read as that relation: the items of the law are followed instead of
+those of the function. For this the law has to say of any arguments and of any value that the function gives it exactly where the
+relation holds of them, the relation must not lead to the function again, and the law alone has to be a clause of a function.
+All this is done for the laws, too, that docs/proved.md cites: functions with a contract and nothing else.
 
 Usage: .ci/reading.py           compares the list with docs/reading.md; ends with 1 where they differ, or where a file has to be
                                 believed that says that it serves code, proofs or laws
@@ -25,11 +27,14 @@ PAGE = os.path.join(TOP, "docs", "reading.md")
 CAPC = ("crates/cc_program/src/run.rt", "capc")
 CERTIFY = ("crates/certify/src/run.rt", "certify")
 NAME = r"[^\s(){}\[\],;.]+"
+NAME_OF_PATH = r"[^\s(){}\[\],;.:]+"
 # functions of which a law says, of each value, that they give it exactly where a relation holds of it: the function, the law
 # with the file that has both, and the file whose function has the law as its contract
 DETERMINED = {
     ("crates/cc_verdicts/specs/Readings.antt", "reading_of_text"): ("ATextHasOneReading", "crates/cc_verdicts/src/module_laws.rt"),
 }
+# what a `do` stands for
+OF_DO = ("◌>>=◌", "◌>>◌")
 OPENERS = r"(?:(?:pattern|opaque|abbrev|unfoldable|pub|data|record|mutual)\b ?)+"
 
 
@@ -39,13 +44,23 @@ def read(path):
 
 
 @functools.cache
+def is_crate(name):
+    return os.path.isdir(os.path.join(TOP, "crates", name))
+
+
+@functools.cache
+def exists(path):
+    return os.path.exists(os.path.join(TOP, path))
+
+
+@functools.cache
 def uses(text):
-    """The names that `use` lines bring in, each with its module and its own name; and the modules that have another name."""
+    """The names that `use` lines bring in, each with its module and its own name; and the modules, each by the name that it has."""
     names, modules = {}, {}
-    for line in re.finditer(r"^\s*(?:pub )?(?:ghost )?use ([\w.◌-]+?)(?:\.\{([^}]*)\}| as (\w+))?;?$", text, re.M):
+    for line in re.finditer(r"^\s*(?:pub )?(?:ghost )?use (\w+(?:\.[\w◌-]+)*)(?:\.\{([^}]*)\}| as (\w+))?;?$", text, re.M):
         module, listed, other = line.groups()
-        if other:
-            modules[other] = module
+        if not listed:
+            modules[other or module.rsplit(".", 1)[-1]] = module
         for one in (listed or "").split(","):
             words = one.split()
             if words:
@@ -61,15 +76,28 @@ def bare(text):
 
 @functools.cache
 def tokens(text):
-    """The names of the text, and those that stand behind another one and a dot."""
+    """The names of the text, and the paths: names with dots between them, or two colons, each as the list of its names."""
     text = bare(text)
-    dotted = set(re.findall(rf"(?<!{NAME[:-1]}\.])(\w+)\.({NAME})", text))
-    return set(re.findall(NAME, re.sub(r"[;,]", " ", text))), dotted
+    paths = {tuple(re.split(r"::|\.", path)) for path in re.findall(rf"(?<![\w.:])\w+(?:(?:\.|::){NAME_OF_PATH})+", text)}
+    return set(re.findall(NAME, text)), paths
 
 
+@functools.cache
 def parts(name):
     """What stands in a text where the name, which may have gaps for operands, is used."""
     return [part for part in name.split("◌") if part]
+
+
+def stands_in(name, plain):
+    """Whether the name may be meant by these names of a text: itself, or what stands between its gaps, perhaps joined to others."""
+    if "◌" not in name:
+        return name in plain
+    if "do" in plain and name in OF_DO:
+        return True
+    return name in plain or all(part in plain or any(part in token for token in plain) for part in parts(name))
+
+
+LIBRARIES = ("std", "core", "clap", "indexmap", "unicode_ident", "ucd_derived", "ucd_table")
 
 
 class Specs:
@@ -91,7 +119,7 @@ class Specs:
                     current.insert(0, behind.pop())
             else:
                 current.append(line)
-        self.items, self.own = {}, {}
+        self.items, self.own, self.lemmas = {}, {}, {}
         for block in blocks:
             item = "\n".join(block)
             for name, is_local in self.defined(block):
@@ -115,6 +143,11 @@ class Specs:
 
 
     def is_lemma(self, name):
+        if name not in self.lemmas:
+            self.lemmas[name] = self.found_lemma(name)
+        return self.lemmas[name]
+
+    def found_lemma(self, name):
         """Whether the item is a proof: it is no definition, and its statement ends in an equation or in a fact."""
         statement = re.match(rf"(?:--.*\n)*(?:pub )?{re.escape(name)} :((?:.*\n?)(?: +[^\n]*\n?)*)", self.items[name])
         end = re.split(r"→", statement.group(1))[-1] if statement else ""
@@ -130,15 +163,22 @@ class Program:
         self.names, self.modules = uses(text)
         self.rust = {}
         crate = path.split("/")[1]
-        for line in re.finditer(r"^use ([\w:]+)(?:::\{([^}]*)\})?;$", text, re.M):
-            module, listed = line.groups()
-            for one in (listed.split(",") if listed else [module.rsplit("::", 1)[1]]):
+        for line in re.finditer(r"^(pub )?use ([\w:]+?)(?:::\{([^}]*)\}|(?:::(\w+)( as \w+)?))?;$", text, re.M):
+            again, module, listed, one, other = line.groups()
+            for one in listed.split(",") if listed else [(one or module) + (other or "")]:
                 words = one.split()
                 if words:
-                    base = module if listed else module.rsplit("::", 1)[0]
-                    self.rust[words[-1]] = (re.sub("^crate", crate, base), words[0])
+                    base = module.split("::")
+                    # what is handed on of a module of the crate itself
+                    base = base if base[0] == "crate" or is_crate(base[0]) or not again else ["crate", *base]
+                    self.rust[words[-1]] = ("::".join([crate, *base[1:]] if base[0] == "crate" else base), words[0])
         self.items, self.clauses = {}, {}
-        for block in re.finditer(r"^(?:pub )?(struct|enum|trait) (\w+)(?:[^\n]*;$|.*?^\}$)|^(impl)(?:<[^\n]*>)? Model for (\w+).*?^\}$", text, re.M | re.S):
+        for block in re.finditer(
+            r"^(?:pub(?:\(\w+\))? )?(struct|enum|trait|type|const|static) (\w+)(?:[^\n]*[;}]$|.*?^[}\])].*?$)"
+            r"|^(impl)(?:<[^\n]*>)? Model for (\w+).*?^\}$",
+            text,
+            re.M | re.S,
+        ):
             name = block.group(2) or block.group(4)
             self.items[name] = self.items.get(name, "") + block.group(0) + "\n"
         for function in re.finditer(r"^pub fn (\w+)(?:(?!^pub fn).)*?(?:^\{$|^\{\}$)", text, re.M | re.S):
@@ -149,7 +189,8 @@ class Program:
                 # the types of the signature count where the clause speaks of what they are of
                 of_call = set(re.findall(r"(\w+):", clauses[0])) | {"result"}
                 speaks = of_call & set(re.findall(r"\w+", bare(clause).partition("{")[2]))
-                self.clauses[name, said.group(1) if said else ""] = (clauses[0] if speaks else "") + clause
+                unnamed = "requires" if clause.startswith("requires") else ""
+                self.clauses[name, said.group(1) if said else unnamed] = (clauses[0] if speaks else "") + clause
         self.laws = bool(self.clauses) and not re.search(r"^\s*\{$|\bfn\b.*\{$|\b(?:struct|enum)\b", text, re.M)
 
 
@@ -161,19 +202,93 @@ def said(text):
     return " ".join(sentences[: 2 if len(sentences[0]) < 40 else 1]).replace("|", "\\|")
 
 
+def walk(folder):
+    """The files of the program below a folder."""
+    for at, folders, names in os.walk(os.path.join(TOP, folder)):
+        for name in names:
+            if name.endswith(".rt"):
+                yield os.path.relpath(os.path.join(at, name), TOP)
+
+
+def binders(text):
+    """The names that stand in binders `(x y : A) (z : B) →` at the front of a statement, and what comes after these; no names where
+    it begins otherwise."""
+    found = []
+    rest = text.lstrip()
+    while rest.startswith("("):
+        depth, end = 0, 0
+        for end, character in enumerate(rest):
+            depth += (character == "(") - (character == ")")
+            if depth == 0:
+                break
+        names, colon, _ = rest[1:end].partition(" : ")
+        if not colon:
+            return [], text
+        found += names.split()
+        rest = rest[end + 1 :].lstrip()
+    return (found, rest[1:].strip()) if rest.startswith("→") else ([], text)
+
+
+def no_law_of(path, name, law, proved_in):
+    """What the law lacks to say what the function is: that it says of any arguments and any value that the function gives this value
+    exactly where a relation holds of them; that the relation does not lead to the function; and that a function without a condition
+    has the law, and nothing else, as a clause. Nothing where it lacks nothing."""
+    file = Reading().file(path)
+    if law not in file.items:
+        return "the file has no such law"
+    for operator in ("◌↔◌", "◌≡◌"):
+        if file.names.get(operator, ("",))[0] != "Rattle.std.specs.Prelude" or operator in file.items:
+            return f"{operator} is not the library's"
+    statement = re.search(rf"^{re.escape(law)} =(.*)", bare(file.items[law]), re.M | re.S)
+    names, body = binders(statement.group(1)) if statement else ([], "")
+    sides = [side.strip() for side in re.sub(r"\s+", " ", body).split("↔")]
+    if not names or len(sides) != 2 or len(set(names)) != len(names):
+        return "it is no equivalence for all values"
+    for relation, equation in (sides, sides[::-1]):
+        ends = [end.strip() for end in re.sub(r"^\((.*)\)$", r"\1", equation).split("≡")]
+        value = next((one for one in names if one in ends), None)
+        call = next((end.split() for end in ends if end.split()[:1] == [name]), None)
+        if len(ends) != 2 or not value or not call or sorted(call[1:]) != sorted(set(names) - {value}):
+            continue
+        if "→" in relation or not set(names) <= set(re.findall(NAME, relation)):
+            return "its relation does not hold of the arguments and the value"
+        reading = Reading({})
+        reading.follow_text(path, law, relation)
+        reading.go()
+        if stands_in(name, tokens(relation)[0]) or (path, name) in reading.reached:
+            return "its relation leads to the function"
+        return None if is_clause_of(path, law, proved_in) else f"no function of {proved_in} has it as a clause, alone and without a condition"
+    return "it does not say of any arguments and any value that the function gives it"
+
+
+def is_clause_of(path, law, proved_in):
+    """Whether a function has the law as a clause, alone, and no condition."""
+    program = Reading().file(proved_in)
+    module = "Rattle." + path[len("crates/") : -len(".antt")].replace("/", ".")
+    for (function, _), clause in program.clauses.items() if program else ():
+        said = re.fullmatch(r"ensures (?:\w+ )?\{ (?:(\w+)\.)?(\w+) \}", " ".join(bare(clause).split()).removesuffix(" {}"))
+        if said and not any(one == function and re.search(r"^\s*requires\b", text, re.M) for (one, _), text in program.clauses.items()):
+            before, behind = said.groups()
+            known = (program.modules.get(before), behind) if before else program.names.get(behind)
+            if known == (module, law):
+                return True
+    return False
+
+
 class Reading:
-    """What is reached from the clauses: for each item by which one it was reached first."""
+    """What is reached from the clauses: for each item by which one it was reached first; and the names of the library, by module."""
 
     files = {}
 
-    def __init__(self):
+    def __init__(self, determined=DETERMINED):
+        self.determined = determined
         self.reached = {}
+        self.library = {}
         self.waiting = []
 
     def file(self, path):
         if path not in self.files:
-            exists = os.path.exists(os.path.join(TOP, path))
-            self.files[path] = (Specs if path.endswith(".antt") else Program)(path) if exists else None
+            self.files[path] = (Specs if path.endswith(".antt") else Program)(path) if exists(path) else None
         return self.files[path]
 
     def reach(self, path, name, by):
@@ -187,10 +302,11 @@ class Reading:
     def reach_module(self, module, name, by, must=True):
         """The item of the name in a module as a `use` line names it; those of the library are not followed."""
         words = module.split(".")
-        if words[0] != "Rattle" or words[2] != "specs" or not os.path.isdir(os.path.join(TOP, "crates", words[1])):
+        if words[0] != "Rattle" or words[2:3] != ["specs"] or not is_crate(words[1]):
+            self.library.setdefault(module, set()).add(name)
             return
         folder = "crates/" + words[1]
-        if words[3] == "declared":
+        if words[3:4] == ["declared"]:
             self.reach_type(folder, words[4:], name, by)
             return
         path = folder + "/specs/" + "/".join(words[3:]) + ".antt"
@@ -203,39 +319,81 @@ class Reading:
             sys.exit(f"{by[0]}: no {name} in {module}")
 
     def reach_type(self, folder, words, name, by):
-        """The type or trait that a module of declared items is of."""
+        """The type, trait or constant that a module of declared items is of."""
+        if words == ["TheConstants"]:
+            for path in sorted(walk(folder + "/src")):
+                if name in self.file(path).items:
+                    self.reach(path, name, by)
+            return
         words = [word for word in words if word != "TheVariants"]
         for last in range(len(words), 0, -1):
             path = folder + "/src/" + "/".join(words[:last]) + ".rt"
-            if os.path.exists(os.path.join(TOP, path)):
+            if exists(path):
                 self.reach(path, words[last] if last < len(words) else name, by)
                 return
-        self.reach(folder + "/src/lib.rt", words[0], by)
+        self.reach(folder + "/src/lib.rt", words[0] if words else name, by)
 
     def reach_rust(self, module, name, by):
         words = module.split("::")
-        folder = "crates/" + words[0]
-        if os.path.isdir(os.path.join(TOP, folder)):
-            stem = folder + "/src/" + ("/".join(words[1:]) or "lib")
-            path = stem + ".rt" if os.path.exists(os.path.join(TOP, stem + ".rt")) else stem + "/mod.rt"
-            file = self.file(path)
-            if file and name in file.items:
-                self.reach(path, name, by)
-            elif file and name in file.rust:
-                self.reach_rust(*file.rust[name], by)
-            elif file:
-                found = re.search(rf"^pub use ([\w:]+)::(?:{name}|\{{[^}}]*\b{name}\b[^}}]*\}});", read(path), re.M)
-                if found:
-                    self.reach_rust(words[0] + "::" + re.sub("^crate::", "", found.group(1)), name, by)
+        if not is_crate(words[0]):
+            if words[0] in LIBRARIES:
+                self.library.setdefault(module, set()).add(name)
+            return
+        stem = "crates/" + words[0] + "/src/" + ("/".join(words[1:]) or "lib")
+        file = self.file(stem + ".rt" if exists(stem + ".rt") else stem + "/mod.rt")
+        if file and name in file.items:
+            self.reach(file.path, name, by)
+        elif file and name in file.rust:
+            self.reach_rust(*file.rust[name], by)
+
+    def reach_path(self, file, modules, words, by):
+        """What a path stands for: from the top (`Rattle.cc_base.specs.Names.IsName`), from a module that the file has under a name
+        of its own, or as Rust has it (`crate::status::Status::Clean`)."""
+        if words[0] in modules:
+            words = (*modules[words[0]].split("."), *words[1:])
+        if words[0] == "Rattle":
+            if len(words) > 3 and not is_crate(words[1]):
+                self.reach_module(".".join(words[:-1]), words[-1], by)
+            elif words[3:4] == ("declared",):
+                if len(words) > 5:
+                    self.reach_module(".".join(words[:-1]), words[-1], by)
+            else:
+                for last in range(len(words) - 1, 3, -1):
+                    if exists(f"crates/{words[1]}/specs/{'/'.join(words[3:last])}.antt"):
+                        self.reach_module(".".join(words[:last]), words[last], by, False)
+                        return
+            return
+        if not file.path.endswith(".rt"):
+            return
+        own = file.path.split("/")
+        own = (own[1], *[word for word in re.sub(r"(?:/?mod|^lib)?\.rt$", "", "/".join(own[3:])).split("/") if word])
+        while words[0] in ("self", "super"):
+            if words[0] == "super":
+                own = own[:-1]
+            words = words[1:] if words[1] in ("self", "super") else ("", *words[1:])
+        if words[0] in ("crate", ""):
+            words = (*(own if words[0] == "" else own[:1]), *words[1:])
+        elif words[0] in file.rust:
+            module, name = file.rust[words[0]]
+            words = (*module.split("::"), name, *words[1:])
+        for last in range(len(words) - 1, 0, -1):
+            stem = "/".join(("crates", words[0], "src", *(words[1:last] or ("lib",))))
+            if exists(stem + ".rt") or exists(stem + "/mod.rt"):
+                self.reach_rust("::".join(words[:last]), words[last], by)
+                return
+        if words[0] in LIBRARIES:
+            last = next((at for at, word in enumerate(words) if word[0].isupper()), len(words) - 1)
+            self.reach_rust("::".join(words[:last]), words[last], by)
 
     def follow(self, path, name):
         file = self.file(path)
         if file is None or name not in file.items:
             sys.exit(f"{self.reached[path, name][0]}: no {name} in {path}")
-        if (path, name) in DETERMINED:
-            law, proved_in = DETERMINED[path, name]
-            if "↔" not in file.items[law] or not any(law in clause for clause in self.file(proved_in).clauses.values()):
-                sys.exit(f"{path}: {law} does not say what {name} is, or {proved_in} has it in no contract")
+        if (path, name) in self.determined:
+            law, proved_in = self.determined[path, name]
+            wrong = no_law_of(path, name, law, proved_in)
+            if wrong:
+                sys.exit(f"{path}: {law} does not say what {name} is: {wrong}")
             self.reach(path, law, (path, name))
             return
         self.follow_text(path, name, file.items[name])
@@ -244,17 +402,16 @@ class Reading:
         """Follows the names of an item, or of a clause."""
         file, by = self.file(path), (path, name)
         inner = uses(item)
-        plain, dotted = tokens(item)
+        plain, paths = tokens(item)
         for names in (file.names, inner[0]):
             for known, (module, own) in names.items():
-                if all(any(part == token or (len(known) > len(part) and part in token) for token in plain) for part in parts(known)):
+                if stands_in(known, plain) or (own in OF_DO and "do" in plain):
                     self.reach_module(module, own, by)
-        for before, behind in dotted:
-            if before in file.modules:
-                self.reach_module(file.modules[before], behind, by, False)
+        for one in sorted(paths):
+            self.reach_path(file, {**file.modules, **inner[1]}, one, by)
         if path.endswith(".antt"):
             for known in file.own:
-                if known != name and all(part in plain for part in parts(known)):
+                if known != name and stands_in(known, plain):
                     self.reach(path, known, by)
         else:
             for token in sorted(set(re.findall(r"\w+", bare(item)))):
@@ -279,10 +436,15 @@ class Reading:
                 found.setdefault(path, set()).add(name)
         return {path: sorted(found[path]) for path in sorted(found)}
 
+    def lines_of_types(self):
+        """How many lines the types and traits have that were reached."""
+        return sum(map(self.lines_reached, self.types()))
+
     def lines_reached(self, path):
-        """How many lines the items have that were reached in the file, with their comments."""
+        """How many lines the items have that were reached in the file, with their comments; not those of a function that is read as
+        the relation of a law."""
         file = self.file(path)
-        items = {file.items[name] for at, name in self.reached if at == path}
+        items = {file.items[name] for at, name in self.reached if at == path and (path, name) not in self.determined}
         return sum(1 for item in items for line in item.split("\n") if line.strip())
 
 
@@ -351,6 +513,25 @@ def counted(reading, paths):
     return f"{len(paths)} files of {lines:,} lines, of which {sum(map(reading.lines_reached, paths)):,} are reached"
 
 
+def told(count, one, many):
+    return f"{count} {one if count == 1 else many}"
+
+
+def of_library(readings):
+    """The names of the library that the readings reached, by module."""
+    found = {}
+    for reading in readings:
+        for module, names in reading.library.items():
+            found.setdefault(module, set()).update(names)
+    return {module: sorted(found[module]) for module in sorted(found)}
+
+
+def count_of_names(reading):
+    return (
+        f"{told(sum(map(len, reading.library.values())), 'name', 'names')} of {told(len(reading.library), 'module', 'modules')}"
+    )
+
+
 def page():
     """The readings of the two contracts and of the laws, and the text of the page."""
     sound, call = of_clauses(*CAPC, {"sound"}), of_clauses(*CAPC, {"words", "call"})
@@ -369,7 +550,10 @@ def page():
 
         return of_file
 
-    types = {path: sorted(set(names) | set(certify.types().get(path, []))) for path, names in {**certify.types(), **capc.types()}.items()}
+    both = Reading()
+    both.reached = {**certify.reached, **capc.reached}
+    types, library = both.types(), of_library((capc, certify))
+    count_of_types = {name: sum(map(len, reading.types().values())) for name, reading in (("capc", capc), ("certify", certify))}
     out = [
         "# What has to be believed",
         "",
@@ -399,11 +583,23 @@ def page():
         "## Types of the program",
         "",
         "These stand in the definitions above as what they are: a type with its variants and fields, or as its `impl Model` says, and a "
-        "trait with its clauses.",
+        f"trait with its clauses. The contract of `capc` rests on {count_of_types['capc']} of them, of {capc.lines_of_types()} lines "
+        f"(its clause `sound` on {sum(map(len, sound.types().values()))}, of {sound.lines_of_types()} lines), that of `certify` on "
+        f"{count_of_types['certify']}, of {certify.lines_of_types()} lines. Blank lines are not counted.",
         "",
-        "| File | Types and traits |",
-        "|---|---|",
-        *(f"| `{path}` | {', '.join(f'`{name}`' for name in types[path])} |" for path in sorted(types)),
+        "| File | Lines | Types and traits |",
+        "|---|---|---|",
+        *(f"| `{path}` | {both.lines_reached(path)} | {', '.join(f'`{name}`' for name in types[path])} |" for path in sorted(types)),
+        "",
+        "## Names of the library",
+        "",
+        "These are the kit's, of its standard library and of its crates, and are followed no further: `rt lemma` with the whole "
+        f"name of one shows its definition. The contract of `capc` rests on {count_of_names(capc)} (its clause `sound` on {count_of_names(sound)}), that "
+        f"of `certify` on {count_of_names(certify)}. Modules with `::` are those of types and traits that the program's own ones name.",
+        "",
+        "| Module | Names | Which |",
+        "|---|---|---|",
+        *(f"| `{module}` | {len(names)} | {', '.join(f'`{name}`' for name in names)} |".replace("||", "\\|\\|") for module, names in library.items()),
         "",
         "## Other laws",
         "",
@@ -444,4 +640,5 @@ def main():
         sys.exit(0 if is_written and not misplaced(readings[:2]) else 1)
 
 
-main()
+if __name__ == "__main__":
+    main()
