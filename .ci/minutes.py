@@ -120,7 +120,7 @@ def table():
         seconds = [sum(kept[crate][at] for crate in of) for at in range(len(KINDS))]
         return f"| {name} | {' | '.join(f'{one / 60:.1f}' for one in [*seconds, sum(seconds)])} |"
 
-    lines = ["| Crate | Proof | Tests of its own | Edits | Together |", "|---|---|---|---|---|"]
+    lines = ["| Crate | Proof | Tests of its own | Mutants | Together |", "|---|---|---|---|---|"]
     lines += [row(f"`{crate}`", [crate]) for crate in rows if crate not in few]
     lines += [row(f"{len(few)} crates with less than {LEAST} together each", few)] if few else []
     lines += [row("All of these", rows)]
