@@ -1,11 +1,13 @@
 #!/usr/bin/env python3
-"""Checks the examples of docs/language.md with the built program.
+"""Checks the examples of docs/language.md and of docs/codes.md with the built program.
 
 Each block of indented lines that begins with `def` or `import` is a module that has to be accepted; each row of a table
-`| CODE | .. | `TEXT` .. | LINE:COL |` is a module that has to be refused so. Beside the modules stand the devices
-`out console`, `in file 1 2` and `hits counter`.
-Usage: .ci/documents.py PROGRAM ..
-Prints a line for each example that is answered otherwise, and ends with 1 where there is one.
+`| CODE | .. | `TEXT` .. | LINE:COL |`, or with one more cell, is a module that has to be refused so; and each row
+`| CODE | .. | `COMMAND` .. | .. |` a command that has to be. Beside the modules stand the devices `out console`,
+`in file 1 2` and `hits counter`. In docs/codes.md each code of a module has such a row but E18.
+Usage: .ci/documents.py [--test] PROGRAM ..
+Prints a line for each example that is answered otherwise, and ends with 1 where there is one. With --test each row of
+docs/codes.md is bent, by another code and by another place, and has to be found.
 """
 import os
 import re
@@ -14,7 +16,9 @@ import sys
 
 TOP = os.path.dirname(os.path.dirname(os.path.abspath(__file__)))
 DEVICES = b"device out console\ndevice in file 1 2\ndevice hits counter\n"
-ROW = re.compile(r"^\| (E\d\d |)\|.*?\| `([^`]+)`(.*?) \| (\d+:\d+) \|$")
+PAGES = ("docs/language.md", "docs/codes.md")
+ROW = re.compile(r"^\| (E\d\d |)\|.*?\| `([^`]+)`(.*?) \| (\d+:\d+) \|(?: [^|]* \|)?$")
+COMMAND = re.compile(r"^\| (E3\d) \| .*? \| `([a-z]+ [^`]+)`([^|]*) \| [^|]* \|$")
 
 
 def put(name, text):
@@ -31,11 +35,34 @@ def verdicts(program, modules):
     return dict(line[2:].split(" ", 1) for line in lines if line.startswith("  "))
 
 
-def examples(path):
-    """The modules of a page, each with the line where it stands and the verdict that it has to have."""
+def refusal(program, command, text):
+    """The code with which the command is refused, beside the module `m` of the text."""
+    job = b"capc 1\n" + DEVICES + (put(b"m", text) if text is not None else b"") + command + b"\n"
+    run = subprocess.run([program], input=job, capture_output=True, timeout=120)
+    lines = run.stdout.decode().splitlines()
+    return lines[-1].partition(" refused ")[2] if lines else run.stderr.decode().strip()
+
+
+def read(page):
+    with open(os.path.join(TOP, page), encoding="utf-8") as file:
+        return file.read()
+
+
+def commands(text):
+    """The commands of a page's text, each with the line where it stands, the module `m` beside it and its code."""
+    for number, line in enumerate(text.splitlines(), 1):
+        row = COMMAND.match(line)
+        if row:
+            code, command, words = row.groups()
+            beside = re.search(r"where `m` is `([^`]+)`", words)
+            yield number, command.encode(), beside.group(1).encode() if beside else None, code
+
+
+def examples(text):
+    """The modules of a page's text, each with the line where it stands and the verdict that it has to have."""
     block = []
     code = ""
-    for number, line in enumerate(open(path, encoding="utf-8").read().splitlines() + [""], 1):
+    for number, line in enumerate(text.splitlines() + [""], 1):
         if line.startswith("    ") and (block or re.match(r"    (def|import) ", line)):
             block.append(line[4:])
             continue
@@ -61,21 +88,64 @@ def examples(path):
             yield number, others + [(name, module)], code + " " + place
 
 
+def wrong(program, text, only=None):
+    """How many examples the text has, and the lines of those that are answered otherwise, with the answers; those of one line alone
+    where it is named."""
+    count, found = 0, []
+    for line, modules, wanted in examples(text):
+        if only not in (None, line):
+            continue
+        count += 1
+        answer = verdicts(program, modules).get(modules[-1][0].decode())
+        if answer != wanted:
+            found.append((line, f"{answer}, not {wanted}"))
+    for line, command, beside, wanted in commands(text):
+        if only not in (None, line):
+            continue
+        count += 1
+        answer = refusal(program, command, beside)
+        if answer != wanted:
+            found.append((line, f"{answer}, not {wanted}"))
+    return count, found
+
+
+def bent(text):
+    """The text with one row bent, for each row with an example, and the line of it."""
+    lines = text.split("\n")
+    for number, line in enumerate(lines, 1):
+        ways = [re.sub(r"^\| E\d\d ", "| E29 ", line)]
+        if ROW.match(line):
+            ways.append(re.sub(r" \| (\d+):(\d+) \|", lambda place: f" | {place.group(1)}:{int(place.group(2)) + 1} |", line))
+        elif not COMMAND.match(line):
+            continue
+        for way in ways if line.startswith("| E") else []:
+            yield number, "\n".join([*lines[: number - 1], way if ROW.match(line) else way.replace("| E29 ", "| E38 "), *lines[number:]])
+
+
 def main():
-    failed = 0
-    for program in sys.argv[1:]:
-        count = 0
-        for line, modules, wanted in examples(os.path.join(TOP, "docs", "language.md")):
-            count += 1
-            name = modules[-1][0].decode()
-            answer = verdicts(program, modules).get(name)
-            if answer != wanted:
-                failed += 1
-                print(f"docs/language.md:{line}: {answer}, not {wanted}")
-        if count == 0:
-            failed += 1
-            print("docs/language.md: no example was found")
-    sys.exit(1 if failed else 0)
+    failures = []
+    programs = [one for one in sys.argv[1:] if one != "--test"]
+    for program in programs:
+        for page in PAGES:
+            count, found = wrong(program, read(page))
+            failures += [f"{page}:{line}: {words}" for line, words in found]
+            if count == 0:
+                failures.append(f"{page}: no example was found")
+    codes = read("docs/codes.md")
+    shown = {verdict.split()[0] for _, _, verdict in examples(codes)} | {code for _, _, _, code in commands(codes)}
+    lacking = {f"E{number:02}" for number in range(1, 20)} - {"E18"} - shown
+    failures += [f"docs/codes.md: no example of {code}" for code in sorted(lacking)]
+    if "--test" in sys.argv:
+        tried = 0
+        for number, text in bent(codes):
+            tried += 1
+            if not wrong(programs[0], text, number)[1]:
+                failures.append(f"docs/codes.md:{number}: a row that is bent is not found")
+        if tried < 40:
+            failures.append(f"docs/codes.md: only {tried} rows could be bent")
+    for failure in failures:
+        print(failure)
+    sys.exit(1 if failures or not programs else 0)
 
 
 main()

@@ -9,6 +9,7 @@
   docs/architecture.md under its layer.
 - In the tables of docs/developing.md each name of a file stands in its crate's folder.
 - In a row of docs/rules.md that has one link to a file, the names between backticks before it stand in that file.
+- docs/codes.md has a row for each code of the program, and no others, and names each message of both programs.
 - Each clause and function that docs/proved.md and README.md name in a row stands in a file or crate that the row names.
 Usage: .ci/pages.py
 Prints a line for each place that is wrong, and ends with 1 where there is one.
@@ -194,6 +195,20 @@ def check_clauses(page):
                 fail(page, number, f"no {name} in {', '.join(crates_in(line))}")
 
 
+def check_codes():
+    """docs/codes.md has a row for each code, with its cause and what to do next, and the messages of both programs."""
+    page = "docs/codes.md"
+    text = read(page)
+    codes = re.findall(r"^    (E\d\d),$", read("crates/cc_base/src/code.rt"), re.M)
+    rows = re.findall(r"^\| (E\d\d) \| [^|]+ \|.* \| [^|]+ \|$", text, re.M)
+    if sorted(rows) != sorted(codes):
+        fail(page, 1, f"its codes are not those of crates/cc_base/src/code.rt: {' '.join(sorted(set(rows) ^ set(codes)))}")
+    for crate in ("cc_program", "certify"):
+        for message in re.findall(r'"(\w+: [^"{]*)', read(f"crates/{crate}/src/status.rt")):
+            if f"`{message}" not in text:
+                fail(page, 1, f"no message {message}")
+
+
 def main():
     for page in PAGES:
         check_links_and_paths(page)
@@ -202,6 +217,7 @@ def main():
     check_shown()
     check_tables()
     check_crates()
+    check_codes()
     check_clauses("docs/proved.md")
     check_clauses("README.md")
     for failure in failures:
