@@ -1,6 +1,6 @@
 #!/usr/bin/env bash
 # Runs the built programs on the examples of the pages, and on what needs a shell: streams that are closed, that cannot be
-# read or that take nothing, standard input that is not to be read, and the deepest types on a small stack. All other
+# read or that take nothing, or not all, or that do not wait, standard input that is not to be read, and the deepest types on a small stack. All other
 # jobs, certificates and command lines stand in tests/.
 # It prints a line for each failure and a closing line where there is one, and nothing where all is as it must be.
 # Usage: .ci/programs.sh [PROGRAM ..]; with no program, those that `rt ci` leaves, and those that judge certificates.
@@ -70,6 +70,31 @@ closed() {
     : > "$work/out"
 }
 
+# short WORD ..: runs it on standard input where its output is a file that takes 1,024 bytes and no more
+short() {
+    (ulimit -f 1 && trap '' XFSZ && exec timeout 120 "$program" "$@") > "$work/out" 2> "$work/err"
+    echo $? > "$work/status"
+}
+
+# restless STREAM: runs it where this stream, `stdin` or `stdout`, is a pipe that does not wait and has, or takes, nothing
+restless() {
+    python3 -c '
+import os, subprocess, sys
+program, stream, work = sys.argv[1:]
+ends = dict(zip(("stdin", "stdout"), os.pipe()))
+for end in ends.values():
+    os.set_blocking(end, False)
+try:
+    while stream == "stdout":
+        os.write(ends["stdout"], b" " * 4096)
+except BlockingIOError:
+    pass
+streams = {"stdin": sys.stdin, "stdout": open(work + "/out", "wb"), "stderr": open(work + "/err", "wb")}
+streams[stream] = ends[stream]
+print(subprocess.run([program], timeout=120, **streams).returncode)
+' "$program" "$1" "$work" > "$work/status"
+}
+
 # low WORD ..: runs it on standard input with a stack of 512 KB
 low() {
     (ulimit -s 512 && exec timeout 120 "$program" "$@") > "$work/out" 2> "$work/err"
@@ -110,6 +135,13 @@ for program; do
     expect 'no standard output' 4 '' 'capc: write fault\n'
     full --workload 2 < /
     expect 'a summary that cannot be written' 4 '' 'capc: write fault\n'
+    # A prefix of the replies that ends with whole lines: nothing but the status tells that it is one.
+    short < <(printf 'capc 1\n' && printf 'put abcdefghijk 0\n%.0s' $(seq 65))
+    expect 'replies that are cut at a line feed' 4 "$(printf 'put abcdefghijk\\n%.0s' $(seq 64))" 'capc: write fault\n'
+    restless stdin < /dev/null
+    expect 'a standard input that does not wait' 3 '' 'capc: read fault\n'
+    restless stdout < "$jobs/accepted.job"
+    expect 'a standard output that does not wait' 4 '' 'capc: write fault\n'
     # Nothing is written of a job without commands, and so no write fails.
     full < <(printf 'capc 1\n')
     expect 'no reply where none could be written' 0 '' ''
@@ -135,6 +167,10 @@ for program in ${judges[@]+"${judges[@]}"}; do
     expect 'a read of a certificate that fails' 2 '' 'certify: read fault\n'
     run <&-
     expect 'no standard input' 2 '' 'certify: read fault\n'
+    restless stdin < /dev/null
+    expect 'a standard input that does not wait' 2 '' 'certify: read fault\n'
+    restless stdout < "$jobs/identity.cert"
+    expect 'a standard output that does not wait' 2 '' 'certify: write fault\n'
     full < "$jobs/identity.cert"
     expect 'an answer that cannot be written' 2 '' 'certify: write fault\n'
     closed < "$jobs/identity.cert"
