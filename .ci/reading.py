@@ -55,16 +55,17 @@ def exists(path):
 
 @functools.cache
 def uses(text):
-    """The names that `use` lines bring in, each with its module and its own name; and the modules, each by the name that it has."""
+    """The names that `use` lines bring in, each with its modules and its own names there; and the modules, by the names that they
+    have. In different blocks of a text a name may come from different modules: all of them are taken to be meant."""
     names, modules = {}, {}
-    for line in re.finditer(r"^\s*(?:pub )?(?:ghost )?use (\w+(?:\.[\w◌-]+)*)(?:\.\{([^}]*)\}| as (\w+))?;?$", text, re.M):
+    for line in re.finditer(r"(?:^|;)[ \t]*(?:pub )?(?:ghost )?use (\w+(?:\.[\w◌-]+)*)(?:\.\{([^}]*)\}| as (\w+))?", text, re.M):
         module, listed, other = line.groups()
         if not listed:
-            modules[other or module.rsplit(".", 1)[-1]] = module
+            modules.setdefault(other or module.rsplit(".", 1)[-1], set()).add(module)
         for one in (listed or "").split(","):
             words = one.split()
             if words:
-                names[words[-1]] = (module, words[0])
+                names.setdefault(words[-1], set()).add((module, words[0]))
     return names, modules
 
 
@@ -163,7 +164,7 @@ class Program:
         self.names, self.modules = uses(text)
         self.rust = {}
         crate = path.split("/")[1]
-        for line in re.finditer(r"^(pub )?use ([\w:]+?)(?:::\{([^}]*)\}|(?:::(\w+)( as \w+)?))?;$", text, re.M):
+        for line in re.finditer(r"^(pub(?:\(\w+\))? )?use ([\w:]+?)(?:::\{([^}]*)\}|(?:::(\w+)( as \w+)?))?;", text, re.M):
             again, module, listed, one, other = line.groups()
             for one in listed.split(",") if listed else [(one or module) + (other or "")]:
                 words = one.split()
@@ -171,7 +172,7 @@ class Program:
                     base = module.split("::")
                     # what is handed on of a module of the crate itself
                     base = base if base[0] == "crate" or is_crate(base[0]) or not again else ["crate", *base]
-                    self.rust[words[-1]] = ("::".join([crate, *base[1:]] if base[0] == "crate" else base), words[0])
+                    self.rust.setdefault(words[-1], set()).add(("::".join([crate, *base[1:]] if base[0] == "crate" else base), words[0]))
         self.items, self.clauses = {}, {}
         for block in re.finditer(
             r"^(?:pub(?:\(\w+\))? )?(struct|enum|trait|type|const|static) (\w+)(?:[^\n]*[;}]$|.*?^[}\])].*?$)"
@@ -237,7 +238,7 @@ def no_law_of(path, name, law, proved_in):
     if law not in file.items:
         return "the file has no such law"
     for operator in ("◌↔◌", "◌≡◌"):
-        if file.names.get(operator, ("",))[0] != "Rattle.std.specs.Prelude" or operator in file.items:
+        if file.names.get(operator) != {("Rattle.std.specs.Prelude", operator)} or operator in file.items:
             return f"{operator} is not the library's"
     statement = re.search(rf"^{re.escape(law)} =(.*)", bare(file.items[law]), re.M | re.S)
     names, body = binders(statement.group(1)) if statement else ([], "")
@@ -269,8 +270,8 @@ def is_clause_of(path, law, proved_in):
         said = re.fullmatch(r"ensures (?:\w+ )?\{ (?:(\w+)\.)?(\w+) \}", " ".join(bare(clause).split()).removesuffix(" {}"))
         if said and not any(one == function and re.search(r"^\s*requires\b", text, re.M) for (one, _), text in program.clauses.items()):
             before, behind = said.groups()
-            known = (program.modules.get(before), behind) if before else program.names.get(behind)
-            if known == (module, law):
+            known = {(one, behind) for one in program.modules.get(before, ())} if before else program.names.get(behind)
+            if known == {(module, law)}:
                 return True
     return False
 
@@ -314,7 +315,8 @@ class Reading:
         if specs and name in specs.items:
             self.reach(path, name, by)
         elif specs and name in specs.names:
-            self.reach_module(*specs.names[name], by, must)
+            for one in sorted(specs.names[name]):
+                self.reach_module(*one, by, must)
         elif must:
             sys.exit(f"{by[0]}: no {name} in {module}")
 
@@ -344,13 +346,12 @@ class Reading:
         if file and name in file.items:
             self.reach(file.path, name, by)
         elif file and name in file.rust:
-            self.reach_rust(*file.rust[name], by)
+            for one in sorted(file.rust[name]):
+                self.reach_rust(*one, by)
 
-    def reach_path(self, file, modules, words, by):
-        """What a path stands for: from the top (`Rattle.cc_base.specs.Names.IsName`), from a module that the file has under a name
-        of its own, or as Rust has it (`crate::status::Status::Clean`)."""
-        if words[0] in modules:
-            words = (*modules[words[0]].split("."), *words[1:])
+    def reach_path(self, file, words, by):
+        """What a path stands for: from the top (`Rattle.cc_base.specs.Names.IsName`), or as Rust has it
+        (`crate::status::Status::Clean`)."""
         if words[0] == "Rattle":
             if len(words) > 3 and not is_crate(words[1]):
                 self.reach_module(".".join(words[:-1]), words[-1], by)
@@ -374,8 +375,12 @@ class Reading:
         if words[0] in ("crate", ""):
             words = (*(own if words[0] == "" else own[:1]), *words[1:])
         elif words[0] in file.rust:
-            module, name = file.rust[words[0]]
-            words = (*module.split("::"), name, *words[1:])
+            for module, name in sorted(file.rust[words[0]]):
+                self.reach_rust_path((*module.split("::"), name, *words[1:]), by)
+            return
+        self.reach_rust_path(words, by)
+
+    def reach_rust_path(self, words, by):
         for last in range(len(words) - 1, 0, -1):
             stem = "/".join(("crates", words[0], "src", *(words[1:last] or ("lib",))))
             if exists(stem + ".rt") or exists(stem + "/mod.rt"):
@@ -404,11 +409,14 @@ class Reading:
         inner = uses(item)
         plain, paths = tokens(item)
         for names in (file.names, inner[0]):
-            for known, (module, own) in names.items():
-                if stands_in(known, plain) or (own in OF_DO and "do" in plain):
-                    self.reach_module(module, own, by)
-        for one in sorted(paths):
-            self.reach_path(file, {**file.modules, **inner[1]}, one, by)
+            for known, meant in names.items():
+                for module, own in sorted(meant):
+                    if stands_in(known, plain) or (own in OF_DO and "do" in plain):
+                        self.reach_module(module, own, by)
+        for words in sorted(paths):
+            modules = file.modules.get(words[0], set()) | inner[1].get(words[0], set())
+            for front in [module.split(".") for module in sorted(modules)] or [words[:1]]:
+                self.reach_path(file, (*front, *words[1:]), by)
         if path.endswith(".antt"):
             for known in file.own:
                 if known != name and stands_in(known, plain):
@@ -417,8 +425,9 @@ class Reading:
             for token in sorted(set(re.findall(r"\w+", bare(item)))):
                 if token in file.items and token != name:
                     self.reach(path, token, by)
-                elif token in file.rust:
-                    self.reach_rust(*file.rust[token], by)
+                else:
+                    for one in sorted(file.rust.get(token, ())):
+                        self.reach_rust(*one, by)
 
     def go(self):
         while self.waiting:

@@ -86,7 +86,7 @@ def test_what_do_stands_for(copy):
     """Each operator that a `do` may stand for, in a file of its own and bent by a line."""
     before = of_capc()
     used = {path for path, name in before.reached if path.endswith(".antt") and re.search(r"\bdo\b|>>", reading.bare(before.file(path).items[name]))}
-    from_modules = {module for path in used for operator, (module, own) in before.file(path).names.items() if own in reading.OF_DO}
+    from_modules = {module for path in used for meant in before.file(path).names.values() for module, own in meant if own in reading.OF_DO}
     moved = []
     for path in sorted(before.specs()):
         text = copy.read(path)
@@ -199,6 +199,15 @@ def test_paths(copy):
         copy.write(reading.CAPC[0], run.replace(bad, bad.replace("Asked.Nothing", named)))
         check(is_listed(reading.of_clauses(*reading.CAPC, {"words"}), own), f"what a clause names thus is not listed: {named}")
         copy.restore()
+    # a name that a block of its own takes from another module
+    own = "crates/cc_program/specs/Moved.antt"
+    copy.write(own, "-- moved\n\nabbrev pub nothing : ℕ\nnothing = 0\n")
+    copy.write("crates/cc_program/specs/Other.antt", "-- other\n\nabbrev pub nothing : ℕ\nnothing = 1\n")
+    block = "\nimpl Other {\n    ghost use Rattle.cc_program.specs.Other.{nothing};\n}\n"
+    use = "ghost use Rattle.cc_program.specs.Moved.{nothing}; // what is moved\n"
+    copy.write(reading.CAPC[0], use + run.replace(bad, bad.replace("Asked.Nothing", "nothing")) + block)
+    check(is_listed(reading.of_clauses(*reading.CAPC, {"words"}), own), "a name is not followed that another block has from elsewhere")
+    copy.restore()
     # the type whose variant a clause names where only its function's crate is imported by it
     copy.change(reading.CAPC[0], "use cc_arguments::words::{Asked, asked_by};", "use cc_arguments::words::asked_by;")
     copy.change(reading.CAPC[0], "Asked.Nothing }", "cc_arguments::words::Asked.Nothing }")
