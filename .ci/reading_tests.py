@@ -186,7 +186,7 @@ def test_paths(copy):
     copy.restore()
 
     run = copy.read(reading.CAPC[0])
-    bad = "AsksFor (map string_bytes words.now) Asked.Nothing"
+    bad = "Asked.Nothing }"
     check(bad in run, "there is no such clause as is changed")
     clauses = {
         "Rattle.cc_program.specs.declared.moved.Moved.TheVariants.First": "crates/cc_program/src/moved.rt",
@@ -196,7 +196,7 @@ def test_paths(copy):
     }
     for named, own in clauses.items():
         copy.write(own, "pub enum Moved {\n    First,\n}\n" if own.endswith(".rt") else "-- moved\n\nabbrev pub nothing : ℕ\nnothing = 0\n")
-        copy.write(reading.CAPC[0], run.replace(bad, bad.replace("Asked.Nothing", named)))
+        copy.write(reading.CAPC[0], run.replace(bad, named + " }"))
         check(is_listed(reading.of_clauses(*reading.CAPC, {"words"}), own), f"what a clause names thus is not listed: {named}")
         copy.restore()
     # a name that a block of its own takes from another module
@@ -205,12 +205,12 @@ def test_paths(copy):
     copy.write("crates/cc_program/specs/Other.antt", "-- other\n\nabbrev pub nothing : ℕ\nnothing = 1\n")
     block = "\nimpl Other {\n    ghost use Rattle.cc_program.specs.Other.{nothing};\n}\n"
     use = "ghost use Rattle.cc_program.specs.Moved.{nothing}; // what is moved\n"
-    copy.write(reading.CAPC[0], use + run.replace(bad, bad.replace("Asked.Nothing", "nothing")) + block)
+    copy.write(reading.CAPC[0], use + run.replace(bad, "nothing }") + block)
     check(is_listed(reading.of_clauses(*reading.CAPC, {"words"}), own), "a name is not followed that another block has from elsewhere")
     copy.restore()
     # the type whose variant a clause names where only its function's crate is imported by it
-    copy.change(reading.CAPC[0], "use cc_arguments::words::{Asked, asked_by};", "use cc_arguments::words::asked_by;")
-    copy.change(reading.CAPC[0], "Asked.Nothing }", "cc_arguments::words::Asked.Nothing }")
+    copy.change(reading.CAPC[0], "use cc_arguments::words::{Asked, ", "use cc_arguments::words::{")
+    copy.change(reading.CAPC[0], bad, "cc_arguments::words::Asked.Nothing }")
     check(is_listed(reading.of_clauses(*reading.CAPC, {"words"}), "crates/cc_arguments/src/words.rt"), "Asked.Nothing is not followed")
     copy.restore()
 
