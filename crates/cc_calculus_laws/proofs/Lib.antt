@@ -1,1 +1,5 @@
 mod CapturedOccurrences
+mod DirectedDefinitions
+mod FilledMatches
+mod FoundDirected
+mod FoundWhereDirected

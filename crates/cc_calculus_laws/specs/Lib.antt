@@ -1,2 +1,4 @@
+pub mod DirectedLaws
+pub mod DirectedTypes
 pub mod Occurring
 pub mod OccurringLaws
