@@ -3,3 +3,4 @@ mod DirectedDefinitions
 mod FilledMatches
 mod FoundDirected
 mod FoundWhereDirected
+mod LeastAvoiding

@@ -3,4 +3,5 @@
 #![tactic(auto)]
 
 pub mod directed_laws;
+pub mod least_laws;
 pub mod occurring_laws;
