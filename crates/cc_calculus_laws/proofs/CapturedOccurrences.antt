@@ -1,5 +1,5 @@
 -- What a term captures is what occurs in it outside boxes.
-use Rattle.std.proofs.Common.{◌≡◌, ◌↔◌, ◌⊎◌, ℕ, zero, suc, Bool, true, false, cond, not, ◌&&◌, Option, Some, None, refl, sym, ap, ◌∙◌, subst, inl, inr}
+use Rattle.std.proofs.Common.{◌≡◌, ◌↔◌, ◌⊎◌, ℕ, zero, suc, Bool, true, false, cond, not, ◌&&◌, Some, None, refl, sym, ap, subst, inl, inr}
 use Rattle.std.proofs.lemmas.Bool.{both_ways}
 use Rattle.cc_capture.specs.declared.var.Var.{Var}
 use Rattle.cc_capture.specs.declared.var.Var.TheVariants.{Bound, Free}
@@ -9,7 +9,7 @@ use Rattle.cc_capture.specs.Sets.{Set, Member, contains, empty, union}
 use Rattle.cc_capture.proofs.Membership.{Member-flat_image, Member-union, Member-empty}
 use Rattle.cc_core.specs.Shapes.{Shape}
 use Rattle.cc_core.specs.Terms.{Note, Term, VariableTerm, LiteralTerm, FunctionTerm, TypeFunctionTerm, BoxTerm, Application, TypeApplication, Unboxing, Let, Primitive, Conditional, Repetition, Operation, Boundary, Leave}
-use Rattle.cc_core.specs.Captured.{is_value, outside, without_binder, variable_set, optional_set, optional_variable_set, is_unused_value, captured_variables}
+use Rattle.cc_core.specs.Captured.{is_value, outside, without_binder, variable_set, optional_set, is_unused_value, captured_variables}
 use Rattle.cc_core.proofs.Moving.{Member-single, Member-single_itself}
 use Rattle.cc_calculus_laws.specs.Occurring.{under_binder, IsOperand, IsBody, of_function, of_type_function, of_let, of_boundary, IsBranch, positive, negative, IsValue, literal, function, type_function, box, OccursOutsideBoxes, as_operand, in_opening_set, in_body, in_branch, in_right_side}
 

@@ -3,25 +3,22 @@ use Rattle.std.proofs.Common.{◌≡◌, ◌↔◌, ℕ, suc, ◌+◌, ◌≤◌
 use Rattle.cc_base.specs.declared.code.Code.{Code}
 use Rattle.cc_base.specs.declared.code.Code.TheVariants.{E17}
 use Rattle.cc_base.specs.declared.place.Place.{Place}
-use Rattle.cc_capture.specs.Sets.{Set}
-use Rattle.cc_core.specs.Shapes.{Shape, CapturingType, capturing}
-use Rattle.cc_core.specs.Terms.{Note, Absent, Written, Own, Term}
+use Rattle.cc_core.specs.Shapes.{CapturingType, capturing}
+use Rattle.cc_core.specs.Terms.{Note, Absent, Written, Own}
 use Rattle.cc_core.specs.Contexts.{Context, entry_of}
-use Rattle.cc_core.specs.Substitution.{filled_type}
 use Rattle.cc_core.specs.Occurrences.{MeetsInNote, without_holes}
 use Rattle.cc_core.specs.Holes.{HolesAreOfParameters}
 use Rattle.cc_core.specs.Places.{spots}
 use Rattle.cc_core.specs.WellFormed.{TermKind, kinds_of, is_well_formed_term, IsWellFormedNote}
 use Rattle.cc_core.proofs.KindFacts.{IsKindedType, IsKindedTerm, IsKindedNote-from, IsKindedTerm-from}
 use Rattle.cc_core.proofs.SubcapturingContexts.{IsKindedContext, IsKindedContext-from, IsKinded-added, IsKindedSet-added}
-use Rattle.cc_checking.specs.Comparison.{demanded, Matches, type_comparison}
+use Rattle.cc_checking.specs.Comparison.{type_comparison}
 use Rattle.cc_checking.specs.Outcomes.{Asked, Placed, Found, found_or}
 use Rattle.cc_checking.specs.Fillings.{Filling, AllServed, IsOverGlobals}
-use Rattle.cc_checking.specs.Inference.{Result, result, named_by, limited}
-use Rattle.cc_checking.specs.Verdicts.{Definition, Checking, checking, signature_of, signature_under, plain_checked, recursive_checked, checked, Accepted, Verdict, IsAccepted, IsRefused, HasVerdict, HasAlgorithmicType}
-use Rattle.cc_checking_laws.specs.FillingLaws.{AreGlobals}
+use Rattle.cc_checking.specs.Inference.{limited}
+use Rattle.cc_checking.specs.Verdicts.{Definition, Checking, checking, signature_under, plain_checked, recursive_checked, checked, Accepted, Verdict, IsAccepted, IsRefused, HasVerdict, HasAlgorithmicType}
 use Rattle.cc_checking_laws.specs.CheckingLaws.{Fits}
-use Rattle.cc_checking_laws.proofs.Findings.{Notes, below_all}
+use Rattle.cc_checking_laws.proofs.Findings.{below_all}
 use Rattle.cc_checking_laws.proofs.FoundFindings.{asked_of, Came, then_came, finds_came, below_came, noted_came, avoided_came}
 use Rattle.cc_checking_laws.proofs.ReachedFindings.{then_reaches}
 use Rattle.cc_checking_laws.proofs.ReadingKinds.{outermost}
@@ -35,10 +32,10 @@ use Rattle.cc_checking_laws.proofs.Signatures.{signed}
 use Rattle.cc_checking_laws.proofs.CheckedDefinitions.{accepted_parts}
 use Rattle.cc_checking_laws.proofs.AlikeSignatures.{refused_has_no_type}
 use Rattle.cc_checking_laws.proofs.VerdictsExist.{has_verdict}
-use Rattle.cc_calculus_laws.specs.DirectedTypes.{IsNamedWith, HasDirectedType, TypeIsBelow, HasDirectedDefinition, not_recursive, recursive}
+use Rattle.cc_calculus_laws.specs.DirectedTypes.{HasDirectedDefinition, not_recursive, recursive}
 use Rattle.cc_calculus_laws.proofs.FilledMatches.{types_match}
 use Rattle.cc_calculus_laws.proofs.FoundDirected.{named_with, directed}
-use Rattle.cc_calculus_laws.proofs.FoundWhereDirected.{finds_reached, compared_reached, types_later, notes_later, serves_alone, Comes, comes, finding, named_notes}
+use Rattle.cc_calculus_laws.proofs.FoundWhereDirected.{finds_reached, compared_reached, types_later, notes_later, serves_alone, comes, finding, named_notes}
 
 all_served : (f : Filling) (list : List Placed) → Serves f (asked_of list) → AllServed f list
 all_served f [] s = tt

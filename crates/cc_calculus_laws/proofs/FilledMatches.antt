@@ -1,5 +1,5 @@
 -- Where the filled sides are below each other, the comparison matches, and the filling serves what it demands.
-use Rattle.std.proofs.Common.{◌≡◌, ◌⊎◌, ℕ, zero, suc, Bool, true, false, cond, List, [], ◌∷◌, ◌++◌, length, Option, Some, None, refl, sym, ap, ◌∙◌, subst, inl, inr, arith}
+use Rattle.std.proofs.Common.{◌≡◌, ◌⊎◌, ℕ, zero, suc, true, false, cond, List, [], ◌∷◌, ◌++◌, length, Option, Some, None, refl, sym, ap, ◌∙◌, subst, inl, inr, arith}
 use Rattle.std.specs.Option.{option_map}
 use Rattle.std.proofs.lemmas.Bool.{both_ways}
 use Rattle.cc_base.specs.declared.literal.Base.{Base}
@@ -21,9 +21,9 @@ use Rattle.cc_core.proofs.Sorts.{SetSort, ShapeSort}
 use Rattle.cc_core.proofs.SubcapturingContexts.{IsKindedContext}
 use Rattle.cc_core.proofs.SubcapturingLemmas.{subcaptures_reflexive}
 use Rattle.cc_checking.proofs.ShapeEquality.{same_shape-itself}
-use Rattle.cc_checking.specs.Comparison.{Demand, demanded, Comparison, Unfinished, Mismatch, Matches, and_then, Comparing, types_compared, bound_in, bound_compared, function_compared, type_function_compared, box_compared, is_any, by_form, comparison, HasDemands, TypesHaveDemands}
+use Rattle.cc_checking.specs.Comparison.{Demand, demanded, Comparison, Unfinished, Mismatch, Matches, and_then, Comparing, types_compared, bound_in, bound_compared, type_function_compared, is_any, by_form, comparison, HasDemands, TypesHaveDemands}
 use Rattle.cc_checking.specs.Fillings.{Filling, filled_entry, filled_context, IsOverGlobals}
-use Rattle.cc_checking.specs.Weights.{IsEnough, enough_steps}
+use Rattle.cc_checking.specs.Weights.{enough_steps}
 use Rattle.cc_typing_laws.proofs.DirectSubtyping.{SubtypesDirectly, alike, under_any, through_bound, functions, type_functions, boxes, direct_from}
 use Rattle.cc_typing_laws.proofs.Endings.{comparison_enough}
 use Rattle.cc_typing_laws.proofs.FormedContexts.{IsKindedContext-test}
@@ -63,7 +63,7 @@ bases_same alike = refl
 exits_same : {g : Context} {u u' : Shape} → SubtypesDirectly g (ExitShape u) (ExitShape u') → u ≡ u'
 exits_same alike = refl
 
-functions_below : {g : Context} {t t' u u' : Shape} {c c' e e' : Set} → SubtypesDirectly g (FunctionShape t c u e) (FunctionShape t' c' u' e')
+pub functions_below : {g : Context} {t t' u u' : Shape} {c c' e e' : Set} → SubtypesDirectly g (FunctionShape t c u e) (FunctionShape t' c' u' e')
     → SubcapturesSet g c' c × SubtypesDirectly g t' t × SubcapturesSet (TermEntry t' c' ∷ g) (opened_set (length g) e) (opened_set (length g) e')
     × SubtypesDirectly (TermEntry t' c' ∷ g) (opened (length g) u) (opened (length g) u')
 functions_below {g = g} {t = t} {c = c} {e = e} alike = (subcaptures_reflexive g c, alike, subcaptures_reflexive (TermEntry t c ∷ g) (opened_set (length g) e), alike)

@@ -1,21 +1,20 @@
 -- What inference finds, under a filling that serves all that it asks, is a directed type.
-use Rattle.std.proofs.Common.{◌≡◌, ℕ, ◌≤◌, Bool, true, false, cond, List, [], ◌∷◌, ◌++◌, Some, None, refl, sym, ap, ◌∙◌, subst, arith}
+use Rattle.std.proofs.Common.{◌≡◌, ℕ, ◌≤◌, Bool, true, false, cond, List, [], ◌∷◌, ◌++◌, refl, sym, ap, ◌∙◌, subst, arith}
 use Rattle.std.specs.Prelude.{nat_le}
 use Rattle.std.proofs.lemmas.Bool.Decides.{nat_tests}
 use Rattle.cc_base.specs.declared.code.Code.TheVariants.{E18}
-use Rattle.cc_base.specs.declared.literal.Base.TheVariants as bases
 use Rattle.cc_base.specs.declared.place.Place.{Place}
 use Rattle.cc_capture.specs.declared.var.Var.{Var}
 use Rattle.cc_capture.specs.Sets.{Set, empty}
-use Rattle.cc_core.specs.Shapes.{Shape, BaseShape, FunctionShape, CapturingType, capturing}
+use Rattle.cc_core.specs.Shapes.{Shape, CapturingType, capturing}
 use Rattle.cc_core.specs.Terms.{Note, Absent, Written, Own, Term, VariableTerm, LiteralTerm, FunctionTerm, TypeFunctionTerm, BoxTerm, Application, TypeApplication, Unboxing, Let, Primitive, Conditional, Repetition, Operation, Boundary, Leave}
 use Rattle.cc_core.specs.Contexts.{Context}
 use Rattle.cc_core.specs.Sizes.{type_size}
-use Rattle.cc_core.specs.Places.{Places, spots, first_part, second_part}
+use Rattle.cc_core.specs.Places.{Places, first_part, second_part}
 use Rattle.cc_checking.specs.Comparison.{Demand, comparison, HasDemands}
-use Rattle.cc_checking.specs.Outcomes.{Asked, Placed, Outcome, Refused, finds}
+use Rattle.cc_checking.specs.Outcomes.{Asked, Outcome, Refused, finds}
 use Rattle.cc_checking.specs.Fillings.{Filling, IsOverGlobals}
-use Rattle.cc_checking.specs.Inference.{Result, Ways, in_context, set_in, shape_in, type_in, against, operand, Named, part_below, part_against, tested, sized, exit_entry, inferred, limited}
+use Rattle.cc_checking.specs.Inference.{Result, in_context, shape_in, type_in, against, operand, Named, part_below, part_against, tested, sized, exit_entry, inferred, limited}
 use Rattle.cc_checking_laws.proofs.Findings.{Has, its_type, below_all, Operand, Notes, notes-absent, notes-written, notes-own, Finds, finds-variable, finds-literal, finds-function, finds-type_function, finds-box, finds-application, finds-type_application, finds-unboxing, finds-unboxing_own, finds-let, finds-primitive, finds-choice, finds-choice_own, finds-repetition, finds-operation, finds-operation_alone, finds-boundary, finds-exit}
 use Rattle.cc_checking_laws.proofs.FoundFindings.{Came, then_came, finds_came, sized_came, variable_came, compared_came, joined, below_came, noted_came, avoided_came, found_finds}
 use Rattle.cc_checking_laws.proofs.FilledSubtyping.{Serves, serves_parts, shapes_below, types_below}

@@ -1,5 +1,5 @@
 -- A directed type is found by inference, and the filling serves all that it asks.
-use Rattle.std.proofs.Common.{◌≡◌, ℕ, zero, suc, ◌+◌, ◌≤◌, Bool, true, false, cond, List, [], ◌∷◌, ◌++◌, length, Option, Some, None, refl, sym, ap, ◌∙◌, subst, inl, inr, arith}
+use Rattle.std.proofs.Common.{◌≡◌, ℕ, zero, ◌+◌, ◌≤◌, Bool, true, false, cond, List, [], ◌∷◌, ◌++◌, length, Some, None, refl, sym, ap, ◌∙◌, subst, inl, inr, arith}
 use Rattle.std.specs.Prelude.{map, nat_eq, nat_le}
 use Rattle.std.proofs.lemmas.Bool.Decides.{nat_tests}
 use Rattle.cc_base.specs.declared.code.Code.TheVariants.{E17, E18}
@@ -8,10 +8,10 @@ use Rattle.cc_base.specs.declared.place.Place.{Place}
 use Rattle.cc_capture.specs.declared.var.Var.{Var}
 use Rattle.cc_capture.specs.declared.var.Var.TheVariants.{Bound, Free}
 use Rattle.cc_capture.specs.declared.var.Elem.TheVariants.{Cap}
-use Rattle.cc_capture.specs.Sets.{Set, Member, empty, union}
+use Rattle.cc_capture.specs.Sets.{Set, empty}
 use Rattle.cc_capture.proofs.Membership.{Member-empty}
 use Rattle.cc_core.specs.Shapes.{Shape, BaseShape, AnyShape, TypeVariable, FunctionShape, TypeFunctionShape, BoxShape, ExitShape, CapturingType, capturing}
-use Rattle.cc_core.specs.Terms.{Note, Absent, Written, Own, Term, VariableTerm, LiteralTerm, FunctionTerm, TypeFunctionTerm, BoxTerm, Application, TypeApplication, Unboxing, Let, Primitive, Conditional, Repetition, Operation, Boundary, Leave}
+use Rattle.cc_core.specs.Terms.{Note, Written, Own, Term, VariableTerm, LiteralTerm, FunctionTerm, TypeFunctionTerm, BoxTerm, Application, TypeApplication, Unboxing, Let, Primitive, Conditional, Repetition, Operation, Boundary, Leave}
 use Rattle.cc_core.specs.Contexts.{Bind, TermEntry, TypeEntry, Context, entry_of}
 use Rattle.cc_core.specs.Substitution.{single, moving}
 use Rattle.cc_core.specs.Reading.{read_variable}
@@ -25,24 +25,24 @@ use Rattle.cc_core.proofs.CapturedKinds.{empty_kinded}
 use Rattle.cc_core.proofs.KindFacts.{IsKinded, IsKindedType, IsKindedNote, IsKindedTerm}
 use Rattle.cc_core.proofs.KindRespecting.{single_kinded}
 use Rattle.cc_core.proofs.Moving.{Member-single}
-use Rattle.cc_core.proofs.Sorts.{SetSort, ShapeSort, TypeSort}
+use Rattle.cc_core.proofs.Sorts.{ShapeSort, TypeSort}
 use Rattle.cc_core.proofs.SubcapturingContexts.{IsKindedContext, IsKinded-added}
 use Rattle.cc_checking.specs.Comparison.{Demand, demanded, Comparison, Matches, comparison, type_comparison, HasDemands, TypesHaveDemands}
 use Rattle.cc_checking.specs.Exposing.{followed, exposed}
 use Rattle.cc_checking.specs.Avoidance.{Positive, avoided_type}
 use Rattle.cc_checking.specs.Outcomes.{Asked, Outcome, Refused, Found, finds, found_or}
 use Rattle.cc_checking.specs.Fillings.{Filling, IsOverGlobals}
-use Rattle.cc_checking.specs.Inference.{Result, result, in_context, set_in, shape_in, type_in, compared_at, operand, Named, named_by, noted, part_below, part_against, tested, sized, function_found, type_function_found, choice_found, exit_entry, inferred, unlimited, limited, demand_at, variable_type, entry_type}
+use Rattle.cc_checking.specs.Inference.{Result, result, in_context, set_in, shape_in, type_in, compared_at, operand, Named, named_by, noted, part_below, part_against, sized, function_found, type_function_found, choice_found, exit_entry, inferred, unlimited, limited, demand_at, variable_type, entry_type}
 use Rattle.cc_typing_laws.proofs.ComparisonLemmas.{Keeps, keeps_then, comparison_keeps}
 use Rattle.cc_checking_laws.proofs.Findings.{Has, its_type, below_all, Operand, Notes, notes-absent, notes-written, notes-own, Finds, finds-variable, finds-literal, finds-box, finds-application, finds-type_application, finds-unboxing, finds-unboxing_own, finds-primitive, finds-repetition, finds-operation, finds-operation_alone, finds-exit}
-use Rattle.cc_checking_laws.proofs.FoundFindings.{asked_of, asked_of-demands, Came, sized_came, append_none, found_finds}
+use Rattle.cc_checking_laws.proofs.FoundFindings.{asked_of-demands, Came, sized_came, append_none, found_finds}
 use Rattle.cc_checking_laws.proofs.ReachedFindings.{then_reaches, reaches}
 use Rattle.cc_checking_laws.proofs.ReadingKinds.{Inside, deeper, read_kinded}
 use Rattle.cc_checking_laws.proofs.FoundTypes.{has_exposed, has_kinded, variable_set_kinded, notes_kinded, regular}
 use Rattle.cc_checking_laws.proofs.FilledSubtyping.{Serves}
-use Rattle.cc_checking_laws.proofs.Tameness.{Closed, Tame, closed_tame, closed_from, LeavesHoles-moving, act_set_closed, act_set_alone, act_closed, TameEntry, TameContext, tame_entry}
+use Rattle.cc_checking_laws.proofs.Tameness.{Closed, Tame, closed_tame, closed_from, LeavesHoles-moving, act_set_alone, act_closed, TameEntry, TameContext, tame_entry}
 use Rattle.cc_checking_laws.proofs.TameFindings.{notes_tame, tame}
-use Rattle.cc_calculus_laws.specs.DirectedTypes.{ShapeIsBelow, TypeIsBelow, HasShape, own_type, HasHead, IsOfType, IsOfShape, IsNamedWith, nothing_written, type_written, set_omitted, HasDirectedType, by_form, HasTypeByForm, of_variable, of_literal, of_function, of_type_function, of_box, of_application, of_type_application, of_unboxing, of_unboxing_alone, of_let, of_primitive, of_choice, of_choice_alone, of_repetition, of_operation, of_operation_alone, of_boundary, of_exit}
+use Rattle.cc_calculus_laws.specs.DirectedTypes.{TypeIsBelow, HasShape, own_type, IsOfShape, IsNamedWith, nothing_written, type_written, set_omitted, HasDirectedType, by_form, HasTypeByForm, of_variable, of_literal, of_function, of_type_function, of_box, of_application, of_type_application, of_unboxing, of_unboxing_alone, of_let, of_primitive, of_choice, of_choice_alone, of_repetition, of_operation, of_operation_alone, of_boundary, of_exit}
 use Rattle.cc_calculus_laws.proofs.FilledMatches.{shapes_match, types_match}
 use Rattle.cc_calculus_laws.proofs.FoundDirected.{IsLeaf}
 

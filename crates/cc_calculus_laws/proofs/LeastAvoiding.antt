@@ -1,5 +1,5 @@
 -- Avoiding is least: first in the context with the position, then without it.
-use Rattle.std.proofs.Common.{◌≡◌, ◌⊎◌, ℕ, zero, suc, ◌<◌, Bool, true, false, cond, ◌||◌, List, [], ◌∷◌, length, Some, None, refl, sym, ap, ◌∙◌, subst, inl, inr, arith}
+use Rattle.std.proofs.Common.{◌≡◌, ◌⊎◌, ℕ, suc, ◌<◌, Bool, true, false, cond, ◌||◌, [], ◌∷◌, length, Some, refl, sym, ap, ◌∙◌, subst, inl, inr, arith}
 use Rattle.std.specs.Prelude.{nat_eq}
 use Rattle.std.specs.Option.{option_map}
 use Rattle.std.proofs.lemmas.Bool.{both_ways, eqb-true}
@@ -14,16 +14,16 @@ use Rattle.cc_core.specs.Contexts.{Bind, TermEntry, TypeEntry, Context, lookup}
 use Rattle.cc_core.specs.Traversal.{act, act_set}
 use Rattle.cc_core.specs.Substitution.{opened, opened_set, opening, overridden}
 use Rattle.cc_core.specs.Occurrences.{Meets, MeetsInSet, without, bound_within}
-use Rattle.cc_core.specs.WellFormed.{TermKind, TypeKind, kind_of, kinds_of, IsWellFormedContext, IsWellFormedType}
+use Rattle.cc_core.specs.WellFormed.{TypeKind, kinds_of, IsWellFormedContext, IsWellFormedType}
 use Rattle.cc_core.specs.Subcapturing.{Subcaptures, element, variable, SubcapturesSet}
 use Rattle.cc_core.specs.Subtyping.{Subtypes, SubtypesType, reflexive}
-use Rattle.cc_core.proofs.KindFacts.{IsKinded, IsKindedSet, IsKindedType, IsKindedType-from, IsKindedSet-test}
+use Rattle.cc_core.proofs.KindFacts.{IsKinded, IsKindedSet, IsKindedType-from, IsKindedSet-test}
 use Rattle.cc_core.proofs.Lookups.{lookup-newest, lookup-older, lookup-below, lookup-cases}
 use Rattle.cc_core.proofs.Renaming.{overridden-below}
-use Rattle.cc_core.proofs.SubcapturingContexts.{IsKindedContext, IsKindedContext-from, entry_kinded, IsKinded-added, IsKindedSet-added}
+use Rattle.cc_core.proofs.SubcapturingContexts.{IsKindedContext, IsKindedContext-from, entry_kinded, IsKinded-added}
 use Rattle.cc_core.proofs.SubcapturingLemmas.{subcaptures_reflexive, subcaptures_shorter}
-use Rattle.cc_checking.specs.Avoidance.{Sign, Positive, Negative, opposite, has_position, is_position, is_free_in, is_free_in_type, avoided_set, avoided, avoided_type}
-use Rattle.cc_typing_laws.specs.ContextMaps.{IsContextMap, mapped, mapped_set}
+use Rattle.cc_checking.specs.Avoidance.{Sign, Positive, Negative, opposite, has_position, is_position, is_free_in, avoided_set, avoided, avoided_type}
+use Rattle.cc_typing_laws.specs.ContextMaps.{mapped}
 use Rattle.cc_typing_laws.specs.ContextMapLaws.{itself}
 use Rattle.cc_typing_laws.proofs.Avoiding.{both_some, map_some, unless_some, not_true, is_free_in-opened, avoided_set-opened, avoided-opened, avoided_type_parts}
 use Rattle.cc_typing_laws.proofs.AvoidingPlaces.{nothing_to_avoid, scope_left}
@@ -261,7 +261,7 @@ module _ (n : ℕ) where
     set_down k r c none below e m = element_down (below e m) k (not_it e r none m)
 
     -- where it is not free, nothing is avoided
-    same_set : (sign : Sign) (c : Set) → has_position n c ≡ false → avoided_set sign n d c ≡ c
+    pub same_set : (sign : Sign) (c : Set) → has_position n c ≡ false → avoided_set sign n d c ≡ c
     same_set Positive c e = ap (λ t. cond t (union (remove at c) d) c) e
     same_set Negative c e =
         same_members (remove at c) c (λ y m. ((Member-remove y at c).0 m).1) (λ y m. (Member-remove y at c).1 (not_it y c e m, m))

@@ -4,3 +4,4 @@ mod FilledMatches
 mod FoundDirected
 mod FoundWhereDirected
 mod LeastAvoiding
+mod NotLeast

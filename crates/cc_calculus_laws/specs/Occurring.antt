@@ -1,5 +1,5 @@
 -- Which elements occur in a term outside boxes: as operands, or in a set under which a box is opened.
-use Rattle.std.specs.Prelude.{◌≡◌, ◌⊎◌, zero, suc, Option, Some}
+use Rattle.std.specs.Prelude.{◌≡◌, ◌⊎◌, zero, suc, Some}
 use Rattle.cc_base.specs.Literals.{Literal}
 use Rattle.cc_capture.specs.declared.var.Var.{Var}
 use Rattle.cc_capture.specs.declared.var.Var.TheVariants.{Bound, Free}
@@ -7,9 +7,9 @@ use Rattle.cc_capture.specs.declared.var.Elem.{Elem}
 use Rattle.cc_capture.specs.declared.var.Elem.TheVariants.{Var as Variable, Cap, Hole}
 use Rattle.cc_capture.specs.Sets.{Set, Member}
 use Rattle.cc_core.specs.Shapes.{Shape}
-use Rattle.cc_core.specs.Terms.{Note, Term, VariableTerm, LiteralTerm, FunctionTerm, TypeFunctionTerm, BoxTerm, Application}
-use Rattle.cc_core.specs.Terms.{TypeApplication, Unboxing, Let, Primitive, Conditional, Repetition, Operation, Boundary}
-use Rattle.cc_core.specs.Terms.{Leave}
+use Rattle.cc_core.specs.Terms.{Note, Term, VariableTerm, LiteralTerm, FunctionTerm, TypeFunctionTerm, BoxTerm}
+use Rattle.cc_core.specs.Terms.{Application, TypeApplication, Unboxing, Let, Primitive, Conditional, Repetition}
+use Rattle.cc_core.specs.Terms.{Operation, Boundary, Leave}
 
 -- an element as it stands under one more binder
 abbrev pub under_binder : Elem → Elem

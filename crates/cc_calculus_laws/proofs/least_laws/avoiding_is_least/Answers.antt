@@ -1,4 +1,5 @@
 use Rattle.cc_calculus_laws.proofs.LeastAvoiding.{least_supertype, greatest_subtype}
+use Rattle.cc_calculus_laws.proofs.NotLeast.{not_least}
 use Rattle.cc_calculus_laws.proofs.least_laws.avoiding_is_least.Goals as goal
 
 pub returns : goal.returns
@@ -6,4 +7,5 @@ returns c =
     record {
       positive = least_supertype;
       negative = greatest_subtype;
+      not_on_both_sides = not_least;
     }
