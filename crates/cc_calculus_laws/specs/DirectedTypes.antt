@@ -178,7 +178,7 @@ mutual
         → HasTypeByForm filling root context (Conditional (Own shape) test positive negative)
         (Conditional (Written shape (written_in root context (union one.set two.set))) test positive' negative')
         (capturing (shape_in context shape) (union one.set two.set))
-    -- the count is a number, and the function takes numbers to unit values and captures nothing else
+    -- the count is a number, and the function takes pure numbers to pure unit values, whatever it captures
     of_repetition : {context : Context} {count function : Var}
         → IsOfShape filling context count (BaseShape bases.Int)
         → IsOfShape filling context function
