@@ -32,7 +32,7 @@ use Rattle.cc_typing_laws.proofs.ContextMapping.{mapped_subtypes}
 use Rattle.cc_typing_laws.proofs.DirectSubtyping.{SubtypesDirectly, alike, under_any, through_bound, functions, type_functions, boxes, Narrows, narrows_newest, narrows_set, direct_narrows, direct_from, direct_to}
 use Rattle.cc_typing_laws.proofs.FormedContexts.{IsKindedContext-test}
 use Rattle.cc_typing_laws.proofs.InternalConversions.{fresh_in, fresh_in_set, closed_in_set}
-use Rattle.cc_calculus_laws.specs.LeastAvoidance.{IsOnOneSide, NamesOnOneSide}
+use Rattle.cc_calculus_laws.specs.LeastAvoidance.{LosesNothingIn, LosesNothing, IsOnOneSide, NamesOnOneSide}
 
 or_false : (a b : Bool) → (a || b) ≡ false → (a ≡ false) × (b ≡ false)
 or_false true b e = cc
@@ -78,11 +78,29 @@ module _ (n : ℕ) where
   free_set_opened : (m : ℕ) → (m ≡ n → ⊥) → (c : Set) → has_position n c ≡ false → has_position n (opened_set m c) ≡ false
   free_set_opened m apart c h = set_opened m apart 0 c ∙ h
 
-  one_side_opened : (sign : Sign) (m : ℕ) → (m ≡ n → ⊥) → (depth : ℕ) (c : Set) (u : Shape) (e : Set) → IsOnOneSide sign n c (capturing u e)
-      → IsOnOneSide sign n (act_set (opening m) depth c) (capturing (act (opening m) (suc depth) u) (act_set (opening m) (suc depth) e))
+  loses_in_opened : (sign : Sign) (m : ℕ) → (m ≡ n → ⊥) → (depth : ℕ) (c : Set) → LosesNothingIn sign n c → LosesNothingIn sign n (act_set (opening m) depth c)
+  loses_in_opened Positive m apart depth c o = tt
+  loses_in_opened Negative m apart depth c o = set_opened m apart depth c ∙ o
+
+  loses_opened : (sign : Sign) (m : ℕ) → (m ≡ n → ⊥) → (depth : ℕ) (s : Shape) → LosesNothing sign n s → LosesNothing sign n (act (opening m) depth s)
+  loses_opened sign m apart depth (BaseShape b) o = tt
+  loses_opened sign m apart depth AnyShape o = tt
+  loses_opened sign m apart depth (TypeVariable v) o = tt
+  loses_opened sign m apart depth (FunctionShape t c u e) o = (
+    loses_opened (opposite sign) m apart depth t o.0,
+    loses_in_opened (opposite sign) m apart depth c o.1,
+    loses_opened sign m apart (suc depth) u o.2,
+    loses_in_opened sign m apart (suc depth) e o.3,
+  )
+  loses_opened sign m apart depth (TypeFunctionShape b u e) o = (loses_opened sign m apart (suc depth) u o.0, loses_in_opened sign m apart (suc depth) e o.1)
+  loses_opened sign m apart depth (BoxShape t c) o = (loses_opened sign m apart depth t o.0, loses_in_opened sign m apart depth c o.1)
+  loses_opened sign m apart depth (ExitShape t) o = tt
+
+  one_side_opened : (sign : Sign) (m : ℕ) → (m ≡ n → ⊥) → (depth : ℕ) (c : Set) (u : Shape) (e : Set) → IsOnOneSide sign n c u e
+      → IsOnOneSide sign n (act_set (opening m) depth c) (act (opening m) (suc depth) u) (act_set (opening m) (suc depth) e)
   one_side_opened Positive m apart depth c u e o = tt
   one_side_opened Negative m apart depth c u e (inl none) = inl (set_opened m apart depth c ∙ none)
-  one_side_opened Negative m apart depth c u e (inr none) = inr ((λ i. is_free_in-opened m n apart (suc depth) u i || set_opened m apart (suc depth) e i) ∙ none)
+  one_side_opened Negative m apart depth c u e (inr none) = inr (loses_opened Negative m apart (suc depth) u none.0, loses_in_opened Negative m apart (suc depth) e none.1)
 
   side_opened : (sign : Sign) (m : ℕ) → (m ≡ n → ⊥) → (depth : ℕ) (s : Shape) → NamesOnOneSide sign n s → NamesOnOneSide sign n (act (opening m) depth s)
   side_opened sign m apart depth (BaseShape b) o = tt
@@ -233,25 +251,6 @@ module _ (n : ℕ) where
           bounds = λ p x there. elim (lookup-cases b g p (TypeEntry x) there) as (λ _. is_free_in n x ≡ false) [ inl here ↦ subst EntryFree here.1 free | inr old ↦ k.bounds p x old ];
         }
 
-    -- what the position is below, its set is below
-    set_below : {g : Context} {e : Elem} {r : Set} → Subcaptures g e r → Clean g → e ≡ at → has_position n r ≡ false → (y : Elem) → Member y d → Subcaptures g y r
-    set_below (element {e = e} {set = r} m) k same none y l = absurd (not_it e r none m same)
-    set_below {g} (variable {position = p} {shape = s} {declared = c} {set = r} there each) k same none y l =
-        let is : p ≡ n = cc in
-        let own : c ≡ d = entries_same s k.own c d (sym (subst (λ q. lookup g q ≡ Some (TermEntry s c)) is there) ∙ k.there) in
-        each y (subst (Member y) (sym own) l)
-
-    set_up : {g : Context} → Clean g → (c r : Set) → has_position n r ≡ false → SubcapturesSet g c r → SubcapturesSet g (avoided_set Positive n d c) r
-    set_up {g} k c r none below =
-        elim (has_position n c) as (λ t. has_position n c ≡ t → SubcapturesSet g (cond t (union (remove at c) d) c) r) [
-          | true ↦ λ is y m.
-              elim ((Member-union y (remove at c) d).0 m) as (λ _. Subcaptures g y r) [
-                | inl l ↦ below y ((Member-remove y at c).0 l).1
-                | inr l ↦ set_below (below at is) k refl none y l
-              ]
-          | false ↦ λ is. below
-        ] refl
-
     element_down : {g : Context} {e : Elem} {c : Set} → Subcaptures g e c → Clean g → (e ≡ at → ⊥) → Subcaptures g e (remove at c)
     element_down (element {e = e} {set = c} m) k other = element ((Member-remove e at c).1 (other, m))
     element_down (variable {position = p} {shape = s} {declared = c} there each) k other =
@@ -289,36 +288,58 @@ module _ (n : ℕ) where
           | false ↦ λ is m. inl m
         ] refl
 
-    -- a parameter whose set is avoided
-    follows_up : {g : Context} → Clean g → (t t' : Shape) (c : Set) → Follows (TermEntry t c ∷ g) (TermEntry t' (avoided_set Positive n d c) ∷ g)
-    follows_up {g} k t t' c =
-        let b : Bind = TermEntry t c in
-        let b' : Bind = TermEntry t' (avoided_set Positive n d c) in
-        let inside = clean_inside k in
+    -- where it follows, what is below stays so as the set grows
+    grown_set : {g h : Context} → Follows g h → (c r : Set) → has_position n r ≡ false → SubcapturesSet g c r → SubcapturesSet h (avoided_set Positive n d c) r
+    grown_set {g} {h} f c r none below =
+        elim (has_position n c) as (λ t. has_position n c ≡ t → SubcapturesSet h (cond t (union (remove at c) d) c) r) [
+          | true ↦ λ is y m.
+              elim ((Member-union y (remove at c) d).0 m) as (λ _. Subcaptures h y r) [
+                | inl l ↦ let p = (Member-remove y at c).0 l in (follow_element (below y p.1) f none).0 p.0
+                | inr l ↦ (follow_element (below at is) f none).1 refl y l
+              ]
+          | false ↦ λ is. follow_sets f c r is none below
+        ] refl
+
+    clean_follows : {g : Context} → Clean g → Follows g g
+    clean_follows {g} k =
         record {
           same_length = refl;
+          inside = clean_inside k;
+          position = λ s c there. entries_same s k.own c d (sym there ∙ k.there);
+          bounds = λ p b there. (there, k.bounds p b there);
+          declared = λ p s c other there. (s, c, there, k.sets p s c other there, λ y m. inl m);
+        }
+
+    -- a parameter whose set grows
+    follows_grown : {g h : Context} → Follows g h → (t t' : Shape) (c : Set) → Follows (TermEntry t c ∷ g) (TermEntry t' (avoided_set Positive n d c) ∷ h)
+    follows_grown {g} {h} f t t' c =
+        let b : Bind = TermEntry t c in
+        let b' : Bind = TermEntry t' (avoided_set Positive n d c) in
+        let inside = f.inside in
+        record {
+          same_length = ap suc f.same_length;
           inside = omega arith;
           position = λ s x there.
               elim (lookup-cases b g n (TermEntry s x) there) as (λ _. x ≡ d) [
                 | inl here ↦ let is = here.0 in absurd (omega arith)
-                | inr old ↦ entries_same s k.own x d (sym old ∙ k.there)
+                | inr old ↦ f.position s x old
               ];
           bounds = λ p x there.
-              elim (lookup-cases b g p (TypeEntry x) there) as (λ _. (lookup (b' ∷ g) p ≡ Some (TypeEntry x)) × (is_free_in n x ≡ false)) [
+              elim (lookup-cases b g p (TypeEntry x) there) as (λ _. (lookup (b' ∷ h) p ≡ Some (TypeEntry x)) × (is_free_in n x ≡ false)) [
                 | inl here ↦ let clash : TermEntry t c ≡ TypeEntry x = here.1 in cc
-                | inr old ↦ (lookup-older b' g p (TypeEntry x) old, k.bounds p x old)
+                | inr old ↦ let found = f.bounds p x old in (lookup-older b' h p (TypeEntry x) found.0, found.1)
               ];
           declared = λ p s x other there.
-              elim (lookup-cases b g p (TermEntry s x) there) as (λ _. (s' : Shape) × (c' : Set) × (lookup (b' ∷ g) p ≡ Some (TermEntry s' c')) × (has_position n c' ≡ false)
+              elim (lookup-cases b g p (TermEntry s x) there) as (λ _. (s' : Shape) × (c' : Set) × (lookup (b' ∷ h) p ≡ Some (TermEntry s' c')) × (has_position n c' ≡ false)
               × ((y : Elem) → Member y c' → Member y x ⊎ (Member at x × Member y d))) [
                 | inl here ↦ (
                   t',
                   avoided_set Positive n d c,
-                  ap (lookup (b' ∷ g)) here.0 ∙ lookup-newest b' g,
+                  ap (lookup (b' ∷ h)) (here.0 ∙ f.same_length) ∙ lookup-newest b' h,
                   gone_up c,
                   λ y m. subst (λ z. Member y z ⊎ (Member at z × Member y d)) (term_same t s c x here.1) (member_up c y m),
                 )
-                | inr old ↦ (s, x, lookup-older b' g p (TermEntry s x) old, k.sets p s x other old, λ y m. inl m)
+                | inr old ↦ let found = f.declared p s x other old in (found.0, found.1, lookup-older b' h p (TermEntry found.0 found.1) found.2, found.3, found.4)
               ];
         }
 
@@ -329,8 +350,102 @@ module _ (n : ℕ) where
       abbrev Down : Context → Shape → Shape → Type 0
       Down g l r = (r' : Shape) → avoided Negative n d r ≡ Some r' → is_free_in n l ≡ false → NamesOnOneSide Negative n r → SubtypesDirectly g l r'
 
+      -- where it follows, and no set loses it
+      abbrev GrowsUp : Context → Shape → Shape → Type 0
+      GrowsUp h l r = (l' : Shape) → avoided Positive n d l ≡ Some l' → is_free_in n r ≡ false → LosesNothing Positive n l → SubtypesDirectly h l' r
+
+      abbrev GrowsDown : Context → Shape → Shape → Type 0
+      GrowsDown h l r = (r' : Shape) → avoided Negative n d r ≡ Some r' → is_free_in n l ≡ false → LosesNothing Negative n r → SubtypesDirectly h l r'
+
+      grow : {g h : Context} {l r : Shape} → SubtypesDirectly g l r → Follows g h → GrowsUp h l r × GrowsDown h l r
+      grow {h = h} (alike {shape = s}) f = (
+        λ l' e nr o. subst (λ z. SubtypesDirectly h z s) (some_same s l' (sym (same_shape Positive s nr) ∙ e)) alike,
+        λ r' e nl o. subst (λ z. SubtypesDirectly h s z) (some_same s r' (sym (same_shape Negative s nl) ∙ e)) alike,
+      )
+      grow {h = h} (under_any {shape = s}) f = (λ l' e nr o. under_any, λ r' e nl o. let is : AnyShape ≡ r' = cc in subst (SubtypesDirectly h s) is under_any)
+      grow {h = h} {r = r} (through_bound {position = p} {bound = b} there rest) f = (
+        λ l' e nr o.
+            let is : TypeVariable (Free p) ≡ l' = cc in
+            let found = f.bounds p b there in
+            subst (λ z. SubtypesDirectly h z r) is (through_bound found.0 (follow rest f found.1 nr)),
+        λ r' e nl o. let found = f.bounds p b there in through_bound found.0 ((grow rest f).1 r' e found.1 o),
+      )
+      grow {g} {h} (functions {takes = t} {takes' = t'} {gives = u} {gives' = u'} {c = c} {c' = c'} {e = e} {e' = e'} sets takes results body) f = (
+        λ l' eq nr o.
+            let parts = both_some (avoided Negative n d t) (avoided Positive n d u) (λ a b. FunctionShape a (avoided_set Negative n d c) b (avoided_set Positive n d e)) l' eq in
+            let fr = function_free t' c' u' e' nr in
+            let m = length g in
+            let apart = other_length f in
+            let under = follows_under (TermEntry t' c') fr.1 f in
+            let same : c ≡ remove at c = sym (same_set Negative c o.1) in
+            subst (λ z. SubtypesDirectly h z (FunctionShape t' c' u' e')) (sym parts.4)
+            (functions (subst (SubcapturesSet h c') same (follow_sets f c' c fr.1 o.1 sets)) ((grow takes f).1 parts.0 parts.2 fr.0 o.0)
+            (subst (λ j. SubcapturesSet (TermEntry t' c' ∷ h) (opened_set j (avoided_set Positive n d e)) (opened_set j e')) f.same_length
+            (subst (λ z. SubcapturesSet (TermEntry t' c' ∷ h) z (opened_set m e')) (avoided_set-opened m n apart d closed Positive 0 e)
+            (grown_set under (opened_set m e) (opened_set m e') (free_set_opened m apart e' fr.3) results)))
+            (subst (λ j. SubtypesDirectly (TermEntry t' c' ∷ h) (opened j parts.1) (opened j u')) f.same_length
+            ((grow body under).0 (opened m parts.1) (avoided-opened m n apart d closed Positive 0 u parts.1 parts.3) (free_opened m apart u' fr.2) (loses_opened Positive m apart 0 u o.2)))),
+        λ r' eq nl o.
+            let parts = both_some (avoided Positive n d t') (avoided Negative n d u') (λ a b. FunctionShape a (avoided_set Positive n d c') b (avoided_set Negative n d e')) r' eq in
+            let fl = function_free t c u e nl in
+            let m = length g in
+            let apart = other_length f in
+            let under = follows_grown f t' parts.0 c' in
+            let c₁ : Set = avoided_set Positive n d c' in
+            let same : e' ≡ remove at e' = sym (same_set Negative e' o.3) in
+            subst (SubtypesDirectly h (FunctionShape t c u e)) (sym parts.4)
+            (functions (grown_set f c' c fl.1 sets) ((grow takes f).0 parts.0 parts.2 fl.0 o.0)
+            (subst (λ j. SubcapturesSet (TermEntry parts.0 c₁ ∷ h) (opened_set j e) (opened_set j (remove at e'))) f.same_length
+            (subst (λ z. SubcapturesSet (TermEntry parts.0 c₁ ∷ h) (opened_set m e) (opened_set m z)) same
+            (follow_sets under (opened_set m e) (opened_set m e') (free_set_opened m apart e fl.3) (free_set_opened m apart e' o.3) results)))
+            (subst (λ j. SubtypesDirectly (TermEntry parts.0 c₁ ∷ h) (opened j u) (opened j parts.1)) f.same_length
+            ((grow body under).1 (opened m parts.1) (avoided-opened m n apart d closed Negative 0 u' parts.1 parts.3) (free_opened m apart u fl.2) (loses_opened Negative m apart 0 u' o.2)))),
+      )
+      grow {g} {h} (type_functions {bound = b} {gives = u} {gives' = u'} {e = e} {e' = e'} results body) f = (
+        λ l' eq nr o.
+            let free = unless_some (is_free_in n b) (option_map (λ z. TypeFunctionShape b z (avoided_set Positive n d e)) (avoided Positive n d u)) l' eq in
+            let parts = map_some (avoided Positive n d u) (λ z. TypeFunctionShape b z (avoided_set Positive n d e)) l' free.1 in
+            let fr = type_function_free b u' e' nr in
+            let m = length g in
+            let apart = other_length f in
+            let under = follows_under (TypeEntry b) free.0 f in
+            subst (λ z. SubtypesDirectly h z (TypeFunctionShape b u' e')) (sym parts.2)
+            (type_functions
+            (subst (λ j. SubcapturesSet (TypeEntry b ∷ h) (opened_set j (avoided_set Positive n d e)) (opened_set j e')) f.same_length
+            (subst (λ z. SubcapturesSet (TypeEntry b ∷ h) z (opened_set m e')) (avoided_set-opened m n apart d closed Positive 0 e)
+            (grown_set under (opened_set m e) (opened_set m e') (free_set_opened m apart e' fr.2) results)))
+            (subst (λ j. SubtypesDirectly (TypeEntry b ∷ h) (opened j parts.0) (opened j u')) f.same_length
+            ((grow body under).0 (opened m parts.0) (avoided-opened m n apart d closed Positive 0 u parts.0 parts.1) (free_opened m apart u' fr.1) (loses_opened Positive m apart 0 u o.0)))),
+        λ r' eq nl o.
+            let free = unless_some (is_free_in n b) (option_map (λ z. TypeFunctionShape b z (avoided_set Negative n d e')) (avoided Negative n d u')) r' eq in
+            let parts = map_some (avoided Negative n d u') (λ z. TypeFunctionShape b z (avoided_set Negative n d e')) r' free.1 in
+            let fl = type_function_free b u e nl in
+            let m = length g in
+            let apart = other_length f in
+            let under = follows_under (TypeEntry b) free.0 f in
+            let same : e' ≡ remove at e' = sym (same_set Negative e' o.1) in
+            subst (SubtypesDirectly h (TypeFunctionShape b u e)) (sym parts.2)
+            (type_functions
+            (subst (λ j. SubcapturesSet (TypeEntry b ∷ h) (opened_set j e) (opened_set j (remove at e'))) f.same_length
+            (subst (λ z. SubcapturesSet (TypeEntry b ∷ h) (opened_set m e) (opened_set m z)) same
+            (follow_sets under (opened_set m e) (opened_set m e') (free_set_opened m apart e fl.2) (free_set_opened m apart e' o.1) results)))
+            (subst (λ j. SubtypesDirectly (TypeEntry b ∷ h) (opened j u) (opened j parts.0)) f.same_length
+            ((grow body under).1 (opened m parts.0) (avoided-opened m n apart d closed Negative 0 u' parts.0 parts.1) (free_opened m apart u fl.1) (loses_opened Negative m apart 0 u' o.0)))),
+      )
+      grow {h = h} (boxes {content = t} {content' = t'} {c = c} {c' = c'} sets body) f = (
+        λ l' eq nr o.
+            let parts = map_some (avoided Positive n d t) (λ z. BoxShape z (avoided_set Positive n d c)) l' eq in
+            let fr = or_false (is_free_in n t') (has_position n c') nr in
+            subst (λ z. SubtypesDirectly h z (BoxShape t' c')) (sym parts.2) (boxes (grown_set f c c' fr.1 sets) ((grow body f).0 parts.0 parts.1 fr.0 o.0)),
+        λ r' eq nl o.
+            let parts = map_some (avoided Negative n d t') (λ z. BoxShape z (avoided_set Negative n d c')) r' eq in
+            let fl = or_false (is_free_in n t) (has_position n c) nl in
+            let same : c' ≡ remove at c' = sym (same_set Negative c' o.1) in
+            subst (SubtypesDirectly h (BoxShape t c)) (sym parts.2) (boxes (subst (SubcapturesSet h c) same (follow_sets f c c' fl.1 o.1 sets)) ((grow body f).1 parts.0 parts.1 fl.0 o.0)),
+      )
+
       -- what a function gives, at a negative place
-      gives_down : {g : Context} → Clean g → (t t₁ : Shape) (c : Set) (u u' u₁ : Shape) (e e' : Set) → IsOnOneSide Negative n c (capturing u' e')
+      gives_down : {g : Context} → Clean g → (t t₁ : Shape) (c : Set) (u u' u₁ : Shape) (e e' : Set) → IsOnOneSide Negative n c u' e'
           → has_position n e ≡ false → is_free_in n u ≡ false → avoided Negative n d u' ≡ Some u₁ → NamesOnOneSide Negative n u'
           → SubcapturesSet (TermEntry t c ∷ g) (opened_set (length g) e) (opened_set (length g) e')
           → SubtypesDirectly (TermEntry t c ∷ g) (opened (length g) u) (opened (length g) u')
@@ -352,14 +467,11 @@ module _ (n : ℕ) where
       gives_down {g} k t t₁ c u u' u₁ e e' (inr none) ne nu au side results body down =
           let m = length g in
           let apart = clean_apart k in
-          let p = or_false (is_free_in n u') (has_position n e') none in
-          let f = follows_up k t t₁ c in
-          let same : remove at e' ≡ e' = same_set Negative e' p.1 in
-          let same' : u' ≡ u₁ = some_same u' u₁ (sym (same_shape Negative u' p.0) ∙ au) in (
-            subst (λ z. SubcapturesSet (TermEntry t₁ (avoided_set Positive n d c) ∷ g) (opened_set m e) (opened_set m z)) (sym same)
-                (follow_sets f (opened_set m e) (opened_set m e') (free_set_opened m apart e ne) (free_set_opened m apart e' p.1) results),
-            subst (λ z. SubtypesDirectly (TermEntry t₁ (avoided_set Positive n d c) ∷ g) (opened m u) (opened m z)) same'
-                (follow body f (free_opened m apart u nu) (free_opened m apart u' p.0)),
+          let f = follows_grown (clean_follows k) t t₁ c in
+          let same : e' ≡ remove at e' = sym (same_set Negative e' none.1) in (
+            subst (λ z. SubcapturesSet (TermEntry t₁ (avoided_set Positive n d c) ∷ g) (opened_set m e) (opened_set m z)) same
+                (follow_sets f (opened_set m e) (opened_set m e') (free_set_opened m apart e ne) (free_set_opened m apart e' none.1) results),
+            (grow body f).1 (opened m u₁) (avoided-opened m n apart d closed Negative 0 u' u₁ au) (free_opened m apart u nu) (loses_opened Negative m apart 0 u' none.0),
           )
 
       least : {g : Context} {l r : Shape} → SubtypesDirectly g l r → Clean g → Up g l r × Down g l r
@@ -382,14 +494,14 @@ module _ (n : ℕ) where
             subst (λ z. SubtypesDirectly g z (FunctionShape t' c' u' e')) (sym parts.4)
             (functions (set_down k c' c fr.1 sets) ((least takes k).1 parts.0 parts.2 fr.0 o.0)
             (subst (λ z. SubcapturesSet (TermEntry t' c' ∷ g) z (opened_set m e')) (avoided_set-opened m n apart d closed Positive 0 e)
-            (set_up under (opened_set m e) (opened_set m e') (free_set_opened m apart e' fr.3) results))
+            (grown_set (clean_follows under) (opened_set m e) (opened_set m e') (free_set_opened m apart e' fr.3) results))
             ((least body under).0 (opened m parts.1) (avoided-opened m n apart d closed Positive 0 u parts.1 parts.3) (free_opened m apart u' fr.2) (side_opened Positive m apart 0 u o.1))),
         λ r' eq nl o.
             let parts = both_some (avoided Positive n d t') (avoided Negative n d u') (λ a b. FunctionShape a (avoided_set Positive n d c') b (avoided_set Negative n d e')) r' eq in
             let fl = function_free t c u e nl in
             let gives = gives_down k t' parts.0 c' u u' parts.1 e e' o.2 fl.3 fl.2 parts.3 o.1 results body (λ under. (least body under).1) in
             subst (SubtypesDirectly g (FunctionShape t c u e)) (sym parts.4)
-            (functions (set_up k c' c fl.1 sets) ((least takes k).0 parts.0 parts.2 fl.0 o.0) gives.0 gives.1),
+            (functions (grown_set (clean_follows k) c' c fl.1 sets) ((least takes k).0 parts.0 parts.2 fl.0 o.0) gives.0 gives.1),
       )
       least {g} (type_functions {bound = b} {gives = u} {gives' = u'} {e = e} {e' = e'} results body) k = (
         λ l' eq nr o.
@@ -402,7 +514,7 @@ module _ (n : ℕ) where
             subst (λ z. SubtypesDirectly g z (TypeFunctionShape b u' e')) (sym parts.2)
             (type_functions
             (subst (λ z. SubcapturesSet (TypeEntry b ∷ g) z (opened_set m e')) (avoided_set-opened m n apart d closed Positive 0 e)
-            (set_up under (opened_set m e) (opened_set m e') (free_set_opened m apart e' fr.2) results))
+            (grown_set (clean_follows under) (opened_set m e) (opened_set m e') (free_set_opened m apart e' fr.2) results))
             ((least body under).0 (opened m parts.0) (avoided-opened m n apart d closed Positive 0 u parts.0 parts.1) (free_opened m apart u' fr.1) (side_opened Positive m apart 0 u o))),
         λ r' eq nl o.
             let free = unless_some (is_free_in n b) (option_map (λ z. TypeFunctionShape b z (avoided_set Negative n d e')) (avoided Negative n d u')) r' eq in
@@ -421,7 +533,7 @@ module _ (n : ℕ) where
         λ l' eq nr o.
             let parts = map_some (avoided Positive n d t) (λ z. BoxShape z (avoided_set Positive n d c)) l' eq in
             let fr = or_false (is_free_in n t') (has_position n c') nr in
-            subst (λ z. SubtypesDirectly g z (BoxShape t' c')) (sym parts.2) (boxes (set_up k c c' fr.1 sets) ((least body k).0 parts.0 parts.1 fr.0 o)),
+            subst (λ z. SubtypesDirectly g z (BoxShape t' c')) (sym parts.2) (boxes (grown_set (clean_follows k) c c' fr.1 sets) ((least body k).0 parts.0 parts.1 fr.0 o)),
         λ r' eq nl o.
             let parts = map_some (avoided Negative n d t') (λ z. BoxShape z (avoided_set Negative n d c')) r' eq in
             let fl = or_false (is_free_in n t) (has_position n c) nl in
@@ -510,7 +622,7 @@ least_supertype g s d type result other formed ft fo side e below =
     let fr = scope_left g Positive s d type result (IsKindedSet-test (kinds_of g) [] d k.0.1) ft e in
     let kr = IsKindedType-from (kinds_of g) [] result fr in
     let sets : SubcapturesSet (TermEntry s d ∷ g) result.set other.set =
-    subst (λ z. SubcapturesSet (TermEntry s d ∷ g) z other.set) parts.1 (set_up n d gone (clean_here g s d k) type.set other.set (free_of g s d k other.set ko.1) below.0) in
+    subst (λ z. SubcapturesSet (TermEntry s d ∷ g) z other.set) parts.1 (grown_set n d gone (clean_follows n d gone (clean_here g s d k)) type.set other.set (free_of g s d k other.set ko.1) below.0) in
     let shapes = (least n d gone (closed_here g s d k) (direct_from below.1) (clean_here g s d k)).0 result.shape parts.0 (free_shape g s d k other.shape ko.0) side in (
       subcaptures_shorter g (TermEntry s d ∷ []) result.set other.set (IsKindedContext-test g k.1) (IsKindedSet-test (kinds_of g) [] result.set kr.1) sets,
       without_it g s d k result.shape other.shape kr.0 ko.0 shapes,
