@@ -1,5 +1,6 @@
 mod CapturedOccurrences
 mod DirectedDefinitions
+mod DirectedTyping
 mod FilledMatches
 mod FoundDirected
 mod FoundWhereDirected

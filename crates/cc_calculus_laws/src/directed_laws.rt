@@ -8,3 +8,8 @@ pub fn algorithmic_types_are_directed()
     ensures accepted { law.AcceptedWhereSomeFillingTypes }
     ensures refused { law.RefusedWhereNoFillingTypes }
 {}
+
+/// A directed type is one by the declarative rules.
+pub fn directed_types_are_types()
+    ensures typed { law.DirectedTypesAreTypes }
+{}
