@@ -191,3 +191,12 @@ closed_over s c t p = (
   λ m. occurs t (Variable (Free p)) (from_without (Variable (Free p)) (captured_variables t) m),
   λ o. to_without (Variable (Free p)) (captured_variables t) (captured o),
 )
+
+pub values_told : (t : Term) → (is_value t ≡ true) ↔ IsValue t
+values_told t = (a_value t, told)
+  where
+    told : {t : Term} → IsValue t → is_value t ≡ true
+    told literal = refl
+    told function = refl
+    told type_function = refl
+    told box = refl

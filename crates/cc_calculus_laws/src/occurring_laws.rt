@@ -5,4 +5,5 @@ ghost use Rattle.cc_calculus_laws.specs.OccurringLaws as law;
 pub fn captured_is_occurring()
     ensures captured { law.CapturedWhereItOccurs }
     ensures closed_over { law.ClosedOverWhereItOccurs }
+    ensures values { law.ValuesAreTold }
 {}

@@ -1,4 +1,4 @@
-use Rattle.cc_calculus_laws.proofs.CapturedOccurrences.{captured_where_it_occurs, closed_over}
+use Rattle.cc_calculus_laws.proofs.CapturedOccurrences.{captured_where_it_occurs, closed_over, values_told}
 use Rattle.cc_calculus_laws.proofs.occurring_laws.captured_is_occurring.Goals as goal
 
 pub returns : goal.returns
@@ -6,4 +6,5 @@ returns c =
     record {
       captured = captured_where_it_occurs;
       closed_over = closed_over;
+      values = values_told;
     }
