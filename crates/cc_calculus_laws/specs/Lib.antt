@@ -1,0 +1,5 @@
+pub mod DirectedLaws
+pub mod DirectedTypes
+pub mod LeastAvoidance
+pub mod Occurring
+pub mod OccurringLaws
