@@ -1,0 +1,3 @@
+mod WorkedHeights
+mod WorkedLineFacts
+mod WorkedNames

@@ -1,0 +1,3 @@
+pub mod HeightExamples
+pub mod LineFacts
+pub mod NameExamples

@@ -1,0 +1,7 @@
+//! Worked certificates, their parts, and canonical derivations by example. The functions do nothing; each has what it
+//! shows as its contract.
+#![tactic(auto)]
+
+pub mod height_examples;
+pub mod line_facts;
+pub mod name_examples;
