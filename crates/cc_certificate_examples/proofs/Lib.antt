@@ -1,3 +1,4 @@
+mod WorkedCanonical
 mod WorkedHeights
 mod WorkedLineFacts
 mod WorkedNames

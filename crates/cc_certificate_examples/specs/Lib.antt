@@ -1,3 +1,4 @@
+pub mod CanonicalExamples
 pub mod HeightExamples
 pub mod LineFacts
 pub mod NameExamples

@@ -2,6 +2,7 @@
 //! shows as its contract.
 #![tactic(auto)]
 
+pub mod canonical_examples;
 pub mod height_examples;
 pub mod line_facts;
 pub mod name_examples;
