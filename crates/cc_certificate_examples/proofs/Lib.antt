@@ -1,4 +1,10 @@
+mod ComputedAnswers
+mod ComputedLines
 mod WorkedCanonical
+mod WorkedComparisons
 mod WorkedHeights
 mod WorkedLineFacts
+mod WorkedLines
 mod WorkedNames
+mod WorkedPlaces
+mod WorkedTypings

@@ -70,7 +70,8 @@ abbrev pub Derives : Note → Term → CapturingType → List (List ℕ) → Typ
 Derives note filled signature nodes =
     node_lines names 0 0 (definition_derived canonical_shapes context note filled signature) ≡ nodes
 
--- A set is below another by each of its elements, in their order. An element is a member where it is one, and else goes by its declared set.
+-- A set is below another by each of its elements, in their order. An element is a member where it is one, and else
+-- goes by its declared set.
 pub record CanonicalSets : Type 0 where
   pub two_elements :
       Compares [] (capturing number both) (capturing number both) (
@@ -166,7 +167,8 @@ pub record CanonicalSets : Type 0 where
       codes "2 refl [] Int <: Int" ∷
       codes "3 capt [1 2] Int <: Int^{out, hits}" ∷ [])
 
--- Shapes that are one are below each other by themselves, also the greatest one; any other shape is below the greatest; and else the form of the left one decides.
+-- Shapes that are one are below each other by themselves, also the greatest one; any other shape is below the
+-- greatest; and else the form of the left one decides.
 pub record CanonicalShapes : Type 0 where
   pub one_shape :
       ComparesShapes [] number number (
@@ -365,7 +367,8 @@ pub record CanonicalDefinitions : Type 0 where
       codes "17 capt [15 16] ((_0: Unit) -> Unit)^{out, hits} <: ((_0: Unit) -> Unit)^{out, hits}" ∷
       codes "18 t-sub [12 17] : ((_0: Unit) -> Unit)^{out, hits}" ∷ [])
 
--- The body of a let is widened where avoiding its variable changes the type, and its right side where a type is written.
+-- The body of a let is widened where avoiding its variable changes the type, and its right side where a type is
+-- written.
 pub record CanonicalLets : Type 0 where
   pub that_keeps_its_type :
       Derives Absent (Let Absent one one) (capturing number empty) (
@@ -411,7 +414,8 @@ pub record CanonicalLets : Type 0 where
       codes "13 t-sub [6 12] : Any^{out}" ∷
       codes "14 t-let [5 13] : Any^{out}" ∷ [])
 
--- A head is widened where exposing changes its shape; an operand is widened to the shape that is wanted, and an argument to the type, also where they are the same.
+-- A head is widened where exposing changes its shape; an operand is widened to the shape that is wanted, and an
+-- argument to the type, also where they are the same.
 pub record CanonicalOperands : Type 0 where
   pub application :
       Derives Absent (FunctionTerm (FunctionShape number (position 2) number empty) empty (Application (Bound 0) (Free 2))) (capturing (FunctionShape (FunctionShape number (position 2) number empty) empty number empty) (position 2)) (
@@ -600,7 +604,8 @@ pub record CanonicalOperands : Type 0 where
       codes "10 t-abs [9] : (_1: _T0) -> Int" ∷
       codes "11 t-tabs [10] : [_T0 <: Counter] -> (_1: _T0) -> Int" ∷ [])
 
--- What is put into a box is not widened; what is opened is, and so are the body of a boundary and what it is left with.
+-- What is put into a box is not widened; what is opened is, and so are the body of a boundary and what it is left
+-- with.
 pub record CanonicalBoxesAndBoundaries : Type 0 where
   pub box :
       Derives Absent (BoxTerm (Free 2)) (capturing (BoxShape number (position 2)) empty) (

@@ -1,4 +1,9 @@
 pub mod CanonicalExamples
+pub mod CertificateTexts
+pub mod ComparisonCertificates
+pub mod FoundTexts
 pub mod HeightExamples
 pub mod LineFacts
 pub mod NameExamples
+pub mod PlacedCertificates
+pub mod TypingCertificates

@@ -3,6 +3,10 @@
 #![tactic(auto)]
 
 pub mod canonical_examples;
+pub mod certificate_texts;
+pub mod comparison_certificates;
 pub mod height_examples;
 pub mod line_facts;
 pub mod name_examples;
+pub mod placed_certificates;
+pub mod typing_certificates;
