@@ -1,7 +1,7 @@
 -- What is found of bytes as a certificate, by computation.
-use Rattle.std.proofs.Common.{◌≡◌, ℕ, zero, suc, Bool, true, false, List, [], ◌∷◌, ◌++◌, length, map, Option, Some, None, refl, sym, ap, subst, ◌∙◌, nat_eq}
+use Rattle.std.proofs.Common.{◌≡◌, ℕ, List, [], ◌∷◌, ◌++◌, length, map, Option, Some, None, refl, sym, ap, subst, ◌∙◌}
 use Rattle.std.specs.Option.{option_map, option_and_then}
-use Rattle.std.specs.Prelude.{take, drop, ◌-◌, if◌then◌else◌}
+use Rattle.std.specs.Prelude.{take, drop, ◌-◌}
 use Rattle.cc_core.specs.Shapes.{CapturingType}
 use Rattle.cc_core.specs.Terms.{Term}
 use Rattle.cc_core.specs.Contexts.{Context}
@@ -13,10 +13,10 @@ use Rattle.cc_derivation.specs.Broken.{broken, IsLeast}
 use Rattle.cc_derivation.specs.ValidityLaws.{RiseWithin}
 use Rattle.cc_derivation.proofs.BrokenNodes.{valid_typings}
 use Rattle.cc_derivation.proofs.RisingNumbers.{numbers_rise, first_is_least}
-use Rattle.cc_certificate_text.specs.Certificates.{CertificateNode, Line, Opens, Binds, States, Concludes, Stage, Start, Binding, Proving, IsWhole, behind_line, IsCertificate, IsBadLine}
+use Rattle.cc_certificate_text.specs.Certificates.{CertificateNode, Line, Opens, Binds, States, Concludes, Start, IsCertificate}
 use Rattle.cc_certificate_judging.specs.CertificateParts.{CertificateBind, bind_line, parts_lines, bound_context, bound_names}
 use Rattle.cc_certificate_judging.specs.Judging.{NodeTree, Grown, NodeTrees, NoTree, Tree, listed, read_tree, Judgement, IsValidAt, IsBadNode, IsJudged, IsAnswer}
-use Rattle.cc_certificate_judging.specs.Answers.{Found, ProvesType, HasBadLine, HasBadNode, IsProof, IsBroken, IsFound, found_text}
+use Rattle.cc_certificate_judging.specs.Answers.{Found, ProvesType, HasBadLine, HasBadNode, IsFound, found_text}
 use Rattle.cc_certificate_judging.proofs.FormedAnswers.{parts_have_type}
 use Rattle.cc_certificate_examples.specs.FoundTexts.{Says}
 use Rattle.cc_certificate_text.proofs.Certified.{come-nowhere}

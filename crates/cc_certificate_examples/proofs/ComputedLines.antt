@@ -12,10 +12,10 @@ use Rattle.cc_capture.specs.Rising.{placed}
 use Rattle.cc_capture.specs.Sets.{contains, same_set, image, flat_image, from_list, union, retain, remove, insert, empty}
 use Rattle.cc_capture.specs.Variables.{same_variable}
 use Rattle.cc_words.specs.Words.{name_of, number_of}
-use Rattle.cc_certificate_text.specs.Certificates.{Line, Stage, Start, Binding, Proving, IsWhole, behind_line, IsCertificate, IsBadLine}
+use Rattle.cc_certificate_text.specs.Certificates.{Line, Stage, Start, Binding, Proving, behind_line, IsCertificate, IsBadLine}
 use Rattle.cc_certificate_text.specs.Reading.{Found as Reads, Got, Wrong, begun, word_at, exact_at, number_at, same_number_at, local_of, variable_of, element_of, other_of, elements_of, set_of, some_set_at, set_at, base_at, type_variable_at, leaf_at, shape_rule_at, shape_over, captured_at, arrow_type_at, plain_type_at, type_over, shape_at, type_at, variable_at, note_at, term_rule_at, head_rule_at, operated_at, computed_at, headed_at, text_of, text_at, number_literal, literal_of, word_term_at, plain_term_at, term_over, term_at}
 use Rattle.cc_certificate_text.specs.LineReading.{first_over, first_at, set_claim_at, right_at, below_at, typing_claim_at, claim_at, rule_of, rule_at, numbers_of, numbers_at, ends_with, conclusion_at, numbered_node_at, node_at, name_at, bind_at, statement_at, line_at, next_line}
-use Rattle.cc_certificate_text.proofs.Certified.{Come, come-nowhere, come-read, bad-there, bad-end, whole-there}
+use Rattle.cc_certificate_text.proofs.Certified.{Come, come-read, bad-there, bad-end, whole-there}
 use Rattle.cc_certificate_text.proofs.LinesRead.{StageOk}
 
 -- LINES

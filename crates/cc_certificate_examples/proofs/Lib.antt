@@ -2,7 +2,9 @@ mod ComputedAnswers
 mod ComputedLines
 mod WorkedCanonical
 mod WorkedComparisons
+mod WorkedConditions
 mod WorkedHeights
+mod WorkedJudging
 mod WorkedLineFacts
 mod WorkedLines
 mod WorkedNames

@@ -46,6 +46,8 @@ canonical_shapes_by_form = record {
   type_variable_in_three_steps = refl;
   functions = refl;
   functions_in_a_function = refl;
+  functions_that_take_functions = refl;
+  type_functions_with_bounds_of_functions = refl;
   type_functions = refl;
   type_functions_of_two_bounds = refl;
   boxes = refl;
@@ -78,6 +80,8 @@ pub canonical_lets : example.CanonicalLets
 unfolding nodes_computing
 canonical_lets = record {
   that_keeps_its_type = refl;
+  of_a_function = refl;
+  in_which_a_function_stands = refl;
   that_avoids_its_variable = refl;
   of_its_own_type = refl;
   of_a_greater_type = refl;
@@ -97,6 +101,7 @@ canonical_operands = record {
   choice_of_a_greater_type = refl;
   repetition = refl;
   operation = refl;
+  printing_on_a_type_variable = refl;
   operation_alone = refl;
   operation_of_a_type_variable = refl;
 }

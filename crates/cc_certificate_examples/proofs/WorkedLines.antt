@@ -10,39 +10,17 @@ use Rattle.cc_certificate_examples.proofs.ComputedLines.{line_computing}
 pub first_lines : example.FirstLines
 unfolding line_computing
 first_lines = record {
-  no_form =
-      says 60 (codes "term 1\n1 t-lit [] : Int\n")
-      (codes "bad line 1") tt refl;
-  another_form =
-      says 60 (codes "cert 2\nterm 1\n1 t-lit [] : Int\n")
-      (codes "bad line 1") tt refl;
-  form_with_more =
-      says 60 (codes "cert 1 \nterm 1\n1 t-lit [] : Int\n")
-      (codes "bad line 1") tt refl;
-  form_twice =
-      says 60 (codes "cert 1\ncert 1\nterm 1\n1 t-lit [] : Int\n")
-      (codes "bad line 2") tt refl;
-  no_term =
-      says 60 (codes "cert 1\n1 t-lit [] : Int\n")
-      (codes "bad line 2") tt refl;
-  no_term_behind_binds =
-      says 60 (codes "cert 1\nbind x: Int\n1 t-var [] : Int^{x}\n")
-      (codes "bad line 3") tt refl;
-  term_twice =
-      says 60 (codes "cert 1\nterm 1\nterm 1\n1 t-lit [] : Int\n")
-      (codes "bad line 3") tt refl;
-  bind_behind_the_term =
-      says 60 (codes "cert 1\nterm 1\nbind x: Int\n1 t-lit [] : Int\n")
-      (codes "bad line 3") tt refl;
-  term_behind_nodes =
-      says 60 (codes "cert 1\nterm 1\n1 t-lit [] : Int\nterm 1\n")
-      (codes "bad line 4") tt refl;
-  form_alone =
-      says 60 (codes "cert 1\n")
-      (codes "bad line 2") tt refl;
-  binds_alone =
-      says 60 (codes "cert 1\nbind x: Int\n")
-      (codes "bad line 3") tt refl;
+  no_form = found_in 60 (codes "term 1\n1 t-lit [] : Int\n") (HasBadLine 1) tt refl;
+  another_form = found_in 60 (codes "cert 2\nterm 1\n1 t-lit [] : Int\n") (HasBadLine 1) tt refl;
+  form_with_more = found_in 60 (codes "cert 1 \nterm 1\n1 t-lit [] : Int\n") (HasBadLine 1) tt refl;
+  form_twice = found_in 60 (codes "cert 1\ncert 1\nterm 1\n1 t-lit [] : Int\n") (HasBadLine 2) tt refl;
+  no_term = found_in 60 (codes "cert 1\n1 t-lit [] : Int\n") (HasBadLine 2) tt refl;
+  no_term_behind_binds = found_in 60 (codes "cert 1\nbind x: Int\n1 t-var [] : Int^{x}\n") (HasBadLine 3) tt refl;
+  term_twice = found_in 60 (codes "cert 1\nterm 1\nterm 1\n1 t-lit [] : Int\n") (HasBadLine 3) tt refl;
+  bind_behind_the_term = found_in 60 (codes "cert 1\nterm 1\nbind x: Int\n1 t-lit [] : Int\n") (HasBadLine 3) tt refl;
+  term_behind_nodes = found_in 60 (codes "cert 1\nterm 1\n1 t-lit [] : Int\nterm 1\n") (HasBadLine 4) tt refl;
+  form_alone = found_in 60 (codes "cert 1\n") (HasBadLine 2) tt refl;
+  binds_alone = found_in 60 (codes "cert 1\nbind x: Int\n") (HasBadLine 3) tt refl;
 }
 
 pub bind_lines : example.BindLines
@@ -57,68 +35,34 @@ bind_lines = record {
   of_letters_beyond_ascii =
       says 60 (encode_utf8_all (codes "cert 1\nbind äß: Int\nterm äß\n1 t-var [] : Int^{äß}\n"))
       (encode_utf8_all (codes "valid Int^{äß}")) refl refl;
-  twice =
-      says 60 (codes "cert 1\nbind x: Int\nbind x: Int\nterm x\n1 t-var [] : Int^{x}\n")
-      (codes "bad line 3") tt refl;
-  twice_with_one_between =
-      says 60 (codes "cert 1\nbind x: Int\nbind y: Int\nbind x: Bool\nterm x\n1 t-var [] : Int^{x}\n")
-      (codes "bad line 4") tt refl;
+  twice = found_in 60 (codes "cert 1\nbind x: Int\nbind x: Int\nterm x\n1 t-var [] : Int^{x}\n") (HasBadLine 3) tt refl;
+  twice_with_one_between = found_in 60 (codes "cert 1\nbind x: Int\nbind y: Int\nbind x: Bool\nterm x\n1 t-var [] : Int^{x}\n") (HasBadLine 4) tt refl;
   of_a_word_of_certificates =
       says 60 (codes "cert 1\nbind let: Int\nterm 1\n1 t-lit [] : Int\n")
       (codes "valid Int") refl refl;
-  of_a_word_of_texts =
-      says 60 (codes "cert 1\nbind fun: Int\nterm 1\n1 t-lit [] : Int\n")
-      (codes "bad line 2") tt refl;
-  of_a_digit =
-      says 60 (codes "cert 1\nbind 1x: Int\nterm 1\n1 t-lit [] : Int\n")
-      (codes "bad line 2") tt refl;
-  of_a_local_variable =
-      says 60 (codes "cert 1\nbind _0: Int\nterm 1\n1 t-lit [] : Int\n")
-      (codes "bad line 2") tt refl;
-  of_nothing =
-      says 60 (codes "cert 1\nbind : Int\nterm 1\n1 t-lit [] : Int\n")
-      (codes "bad line 2") tt refl;
-  without_a_type =
-      says 60 (codes "cert 1\nbind x:\nterm 1\n1 t-lit [] : Int\n")
-      (codes "bad line 2") tt refl;
-  without_a_space =
-      says 60 (codes "cert 1\nbind x:Int\nterm 1\n1 t-lit [] : Int\n")
-      (codes "bad line 2") tt refl;
-  with_a_space_before_the_colon =
-      says 60 (codes "cert 1\nbind x : Int\nterm 1\n1 t-lit [] : Int\n")
-      (codes "bad line 2") tt refl;
-  with_two_spaces =
-      says 60 (codes "cert 1\nbind  x: Int\nterm 1\n1 t-lit [] : Int\n")
-      (codes "bad line 2") tt refl;
-  with_a_space_at_the_end =
-      says 60 (codes "cert 1\nbind x: Int \nterm 1\n1 t-lit [] : Int\n")
-      (codes "bad line 2") tt refl;
+  of_a_word_of_texts = found_in 60 (codes "cert 1\nbind fun: Int\nterm 1\n1 t-lit [] : Int\n") (HasBadLine 2) tt refl;
+  of_a_digit = found_in 60 (codes "cert 1\nbind 1x: Int\nterm 1\n1 t-lit [] : Int\n") (HasBadLine 2) tt refl;
+  of_a_local_variable = found_in 60 (codes "cert 1\nbind _0: Int\nterm 1\n1 t-lit [] : Int\n") (HasBadLine 2) tt refl;
+  of_nothing = found_in 60 (codes "cert 1\nbind : Int\nterm 1\n1 t-lit [] : Int\n") (HasBadLine 2) tt refl;
+  without_a_type = found_in 60 (codes "cert 1\nbind x:\nterm 1\n1 t-lit [] : Int\n") (HasBadLine 2) tt refl;
+  without_a_space = found_in 60 (codes "cert 1\nbind x:Int\nterm 1\n1 t-lit [] : Int\n") (HasBadLine 2) tt refl;
+  with_a_space_before_the_colon = found_in 60 (codes "cert 1\nbind x : Int\nterm 1\n1 t-lit [] : Int\n") (HasBadLine 2) tt refl;
+  with_two_spaces = found_in 60 (codes "cert 1\nbind  x: Int\nterm 1\n1 t-lit [] : Int\n") (HasBadLine 2) tt refl;
+  with_a_space_at_the_end = found_in 60 (codes "cert 1\nbind x: Int \nterm 1\n1 t-lit [] : Int\n") (HasBadLine 2) tt refl;
   with_an_older_one =
       says 60 (codes "cert 1\nbind x: Int\nbind y: Int^{x}\nterm y\n1 t-var [] : Int^{y}\n")
       (codes "valid Int^{y}") refl refl;
-  with_itself =
-      says 60 (codes "cert 1\nbind x: Int^{x}\nterm 1\n1 t-lit [] : Int\n")
-      (codes "bad line 2") tt refl;
-  with_a_newer_one =
-      says 60 (codes "cert 1\nbind y: Int^{x}\nbind x: Int\nterm 1\n1 t-lit [] : Int\n")
-      (codes "bad line 2") tt refl;
-  with_a_name_as_a_shape =
-      says 60 (codes "cert 1\nbind x: Int\nbind y: _T0\nterm 1\n1 t-lit [] : Int\n")
-      (codes "bad line 3") tt refl;
-  with_a_local_variable =
-      says 60 (codes "cert 1\nbind x: Int^{_0}\nterm 1\n1 t-lit [] : Int\n")
-      (codes "bad line 2") tt refl;
+  with_itself = found_in 60 (codes "cert 1\nbind x: Int^{x}\nterm 1\n1 t-lit [] : Int\n") (HasBadLine 2) tt refl;
+  with_a_newer_one = found_in 60 (codes "cert 1\nbind y: Int^{x}\nbind x: Int\nterm 1\n1 t-lit [] : Int\n") (HasBadLine 2) tt refl;
+  with_a_name_as_a_shape = found_in 60 (codes "cert 1\nbind x: Int\nbind y: _T0\nterm 1\n1 t-lit [] : Int\n") (HasBadLine 3) tt refl;
+  with_a_local_variable = found_in 60 (codes "cert 1\nbind x: Int^{_0}\nterm 1\n1 t-lit [] : Int\n") (HasBadLine 2) tt refl;
   with_binders =
       says 60 (
       codes "cert 1\nbind x: Int\nbind f: (_0: Int) -> (_1: Int) -> Int^{_0, _1}\nterm 1\n"
       ++ codes "1 t-lit [] : Int\n")
       (codes "valid Int") refl refl;
-  with_a_binder_of_another_number =
-      says 60 (codes "cert 1\nbind x: Int\nbind f: (_1: Int) -> Int\nterm 1\n1 t-lit [] : Int\n")
-      (codes "bad line 3") tt refl;
-  with_an_omitted_set =
-      says 60 (codes "cert 1\nbind x: Int^?\nterm 1\n1 t-lit [] : Int\n")
-      (codes "bad line 2") tt refl;
+  with_a_binder_of_another_number = found_in 60 (codes "cert 1\nbind x: Int\nbind f: (_1: Int) -> Int\nterm 1\n1 t-lit [] : Int\n") (HasBadLine 3) tt refl;
+  with_an_omitted_set = found_in 60 (codes "cert 1\nbind x: Int^?\nterm 1\n1 t-lit [] : Int\n") (HasBadLine 2) tt refl;
 }
 
 pub set_lines : example.SetLines
@@ -161,11 +105,9 @@ set_lines = record {
       codes "cert 1\nbind b: Box[Int]\nterm fun (_0: Int) => fun (_1: Int) => unbox {_0, _1} b\n"
       ++ codes "1 t-lit [] : Int\n")
       (codes "bad node 1") refl refl;
-  in_an_unboxing_in_the_other_order =
-      says 60 (
+  in_an_unboxing_in_the_other_order = found_in 60 (
       codes "cert 1\nbind b: Box[Int]\nterm fun (_0: Int) => fun (_1: Int) => unbox {_1, _0} b\n"
-      ++ codes "1 t-lit [] : Int\n")
-      (codes "bad line 3") tt refl;
+      ++ codes "1 t-lit [] : Int\n") (HasBadLine 3) tt refl;
 }
 
 pub term_lines : example.TermLines
@@ -174,6 +116,7 @@ term_lines = record {
   variable = found_in 60 (around_term (codes "x")) (HasBadNode 1) refl refl;
   of_no_name = found_in 60 (around_term (codes "y")) (HasBadLine 4) tt refl;
   local_variable_without_a_binder = found_in 60 (around_term (codes "_0")) (HasBadLine 4) tt refl;
+  local_variable_without_its_binder = found_in 60 (around_term (codes "fun (_0: Int) => _1")) (HasBadLine 4) tt refl;
   unit_value = found_in 60 (around_term (codes "unit")) (HasBadNode 1) refl refl;
   truths = found_in 60 (around_term (codes "let _0 = true in false")) (HasBadNode 1) refl refl;
   greatest_number = found_in 60 (around_term (codes "9223372036854775807")) (HasBadNode 1) refl refl;
@@ -287,6 +230,8 @@ type_lines = record {
   type_function = found_in 60 (around_type (codes "[_T0 <: Any] -> _T0")) (HasBadNode 1) refl refl;
   type_function_with_a_set = found_in 60 (around_type (codes "([_T0 <: Any] -> Int)^{x}")) (HasBadNode 1) refl refl;
   type_function_under_another = found_in 60 (around_type (codes "[_T0 <: Any] -> [_T1 <: _T0] -> Box[_T1]")) (HasBadNode 1) refl refl;
+  parameter_as_a_shape = found_in 60 (around_type (codes "(_0: Int) -> _T0")) (HasBadLine 3) tt refl;
+  type_parameter_in_a_set = found_in 60 (around_type (codes "[_T0 <: Any] -> Int^{_0}")) (HasBadLine 3) tt refl;
   type_function_without_a_bound = found_in 60 (around_type (codes "[_T0] -> Int")) (HasBadLine 3) tt refl;
   type_function_whose_bound_has_a_set = found_in 60 (around_type (codes "[_T0 <: Int^{x}] -> Int")) (HasBadLine 3) tt refl;
   type_variable_with_a_set = found_in 60 (around_type (codes "[_T0 <: Any] -> _T0^{x}")) (HasBadNode 1) refl refl;
@@ -303,48 +248,48 @@ pub node_lines : example.NodeLines
 unfolding line_computing
 node_lines = record {
   whole = says 60 (behind_term (codes "1 t-lit [] : Int\n")) (codes "valid Int") refl refl;
-  of_another_number = says 60 (behind_term (codes "2 t-lit [] : Int\n")) (codes "bad line 3") tt refl;
-  of_number_zero = says 60 (behind_term (codes "0 t-lit [] : Int\n")) (codes "bad line 3") tt refl;
-  of_no_number = says 60 (behind_term (codes "t-lit [] : Int\n")) (codes "bad line 3") tt refl;
-  of_no_rule = says 60 (behind_term (codes "1 t-int [] : Int\n")) (codes "bad line 3") tt refl;
-  of_a_longer_rule = says 60 (behind_term (codes "1 t-lits [] : Int\n")) (codes "bad line 3") tt refl;
-  without_a_space = says 60 (behind_term (codes "1 t-lit[] : Int\n")) (codes "bad line 3") tt refl;
-  without_a_space_behind_premises = says 60 (behind_term (codes "1 t-lit []: Int\n")) (codes "bad line 3") tt refl;
-  without_brackets = says 60 (behind_term (codes "1 t-lit : Int\n")) (codes "bad line 3") tt refl;
-  without_a_colon = says 60 (behind_term (codes "1 t-lit [] Int\n")) (codes "bad line 3") tt refl;
-  with_a_space_behind = says 60 (behind_term (codes "1 t-lit [] : Int \n")) (codes "bad line 3") tt refl;
-  with_a_zero_in_front = says 60 (behind_term (codes "01 t-lit [] : Int\n")) (codes "bad line 3") tt refl;
-  of_sets_under_a_rule_of_typing = says 60 (behind_term (codes "1 t-lit [] {} <: {}\n")) (codes "bad line 3") tt refl;
-  of_shapes_under_a_rule_of_sets = says 60 (behind_term (codes "1 set [] Int <: Int\n")) (codes "bad line 3") tt refl;
-  of_terms_under_a_rule_of_shapes = says 60 (behind_term (codes "1 refl [] : Int\n")) (codes "bad line 3") tt refl;
-  of_sets_under_a_rule_of_types = says 60 (behind_term (codes "1 capt [] {} <: {}\n")) (codes "bad line 3") tt refl;
-  of_types_under_a_rule_of_shapes = says 60 (behind_term (codes "1 refl [] Int^{cap} <: Int^{cap}\n")) (codes "bad line 3") tt refl;
-  of_shapes_in_parentheses = says 60 (behind_term (codes "1 refl [] ((_0: Int) -> Int) <: Int\n")) (codes "bad line 3") tt refl;
+  of_another_number = found_in 60 (behind_term (codes "2 t-lit [] : Int\n")) (HasBadLine 3) tt refl;
+  of_number_zero = found_in 60 (behind_term (codes "0 t-lit [] : Int\n")) (HasBadLine 3) tt refl;
+  of_no_number = found_in 60 (behind_term (codes "t-lit [] : Int\n")) (HasBadLine 3) tt refl;
+  of_no_rule = found_in 60 (behind_term (codes "1 t-int [] : Int\n")) (HasBadLine 3) tt refl;
+  of_a_longer_rule = found_in 60 (behind_term (codes "1 t-lits [] : Int\n")) (HasBadLine 3) tt refl;
+  without_a_space = found_in 60 (behind_term (codes "1 t-lit[] : Int\n")) (HasBadLine 3) tt refl;
+  without_a_space_behind_premises = found_in 60 (behind_term (codes "1 t-lit []: Int\n")) (HasBadLine 3) tt refl;
+  without_brackets = found_in 60 (behind_term (codes "1 t-lit : Int\n")) (HasBadLine 3) tt refl;
+  without_a_colon = found_in 60 (behind_term (codes "1 t-lit [] Int\n")) (HasBadLine 3) tt refl;
+  with_a_space_behind = found_in 60 (behind_term (codes "1 t-lit [] : Int \n")) (HasBadLine 3) tt refl;
+  with_a_zero_in_front = found_in 60 (behind_term (codes "01 t-lit [] : Int\n")) (HasBadLine 3) tt refl;
+  of_sets_under_a_rule_of_typing = found_in 60 (behind_term (codes "1 t-lit [] {} <: {}\n")) (HasBadLine 3) tt refl;
+  of_shapes_under_a_rule_of_sets = found_in 60 (behind_term (codes "1 set [] Int <: Int\n")) (HasBadLine 3) tt refl;
+  of_terms_under_a_rule_of_shapes = found_in 60 (behind_term (codes "1 refl [] : Int\n")) (HasBadLine 3) tt refl;
+  of_sets_under_a_rule_of_types = found_in 60 (behind_term (codes "1 capt [] {} <: {}\n")) (HasBadLine 3) tt refl;
+  of_types_under_a_rule_of_shapes = found_in 60 (behind_term (codes "1 refl [] Int^{cap} <: Int^{cap}\n")) (HasBadLine 3) tt refl;
+  of_shapes_in_parentheses = found_in 60 (behind_term (codes "1 refl [] ((_0: Int) -> Int) <: Int\n")) (HasBadLine 3) tt refl;
   with_one_premise = says 60 (behind_term (codes "1 t-lit [] : Int\n2 t-lit [1] : Int\n")) (codes "bad node 2") refl refl;
   with_two_premises = says 60 (behind_term (codes "1 t-lit [] : Int\n2 t-lit [] : Int\n3 t-lit [1 2] : Int\n")) (codes "bad node 3") refl refl;
-  with_premises_in_the_other_order = says 60 (behind_term (codes "1 t-lit [] : Int\n2 t-lit [] : Int\n3 t-lit [2 1] : Int\n")) (codes "bad line 5") tt refl;
-  with_the_first_of_two = says 60 (behind_term (codes "1 t-lit [] : Int\n2 t-lit [] : Int\n3 t-lit [1] : Int\n")) (codes "bad line 5") tt refl;
+  with_premises_in_the_other_order = found_in 60 (behind_term (codes "1 t-lit [] : Int\n2 t-lit [] : Int\n3 t-lit [2 1] : Int\n")) (HasBadLine 5) tt refl;
+  with_the_first_of_two = found_in 60 (behind_term (codes "1 t-lit [] : Int\n2 t-lit [] : Int\n3 t-lit [1] : Int\n")) (HasBadLine 5) tt refl;
   with_the_last_of_two = says 60 (behind_term (codes "1 t-lit [] : Int\n2 t-lit [] : Int\n3 t-lit [2] : Int\n4 t-lit [1 3] : Int\n")) (codes "bad node 4") refl refl;
-  with_a_premise_twice = says 60 (behind_term (codes "1 t-lit [] : Int\n2 t-lit [1 1] : Int\n")) (codes "bad line 4") tt refl;
-  with_a_premise_of_two_nodes = says 60 (behind_term (codes "1 t-lit [] : Int\n2 t-lit [1] : Int\n3 t-lit [1] : Int\n")) (codes "bad line 5") tt refl;
-  with_itself = says 60 (behind_term (codes "1 t-lit [1] : Int\n")) (codes "bad line 3") tt refl;
-  with_a_later_one = says 60 (behind_term (codes "1 t-lit [2] : Int\n2 t-lit [] : Int\n")) (codes "bad line 3") tt refl;
-  with_two_spaces = says 60 (behind_term (codes "1 t-lit [] : Int\n2 t-lit [] : Int\n3 t-lit [1  2] : Int\n")) (codes "bad line 5") tt refl;
-  with_a_comma = says 60 (behind_term (codes "1 t-lit [] : Int\n2 t-lit [] : Int\n3 t-lit [1, 2] : Int\n")) (codes "bad line 5") tt refl;
-  with_a_space_in_brackets = says 60 (behind_term (codes "1 t-lit [ ] : Int\n")) (codes "bad line 3") tt refl;
-  with_a_zero_before_a_premise = says 60 (behind_term (codes "1 t-lit [] : Int\n2 t-lit [01] : Int\n")) (codes "bad line 4") tt refl;
-  unused = says 60 (behind_term (codes "1 t-lit [] : Int\n2 t-lit [] : Int\n")) (codes "bad line 5") tt refl;
-  unused_in_front = says 60 (behind_term (codes "1 t-lit [] : Int\n2 t-lit [] : Int\n3 t-lit [2] : Int\n")) (codes "bad line 6") tt refl;
-  below_without_spaces = says 60 (behind_term (codes "1 refl [] Int<:Int\n")) (codes "bad line 3") tt refl;
-  below_nothing = says 60 (behind_term (codes "1 refl [] Int <: \n")) (codes "bad line 3") tt refl;
-  sets_without_a_brace = says 60 (behind_term (codes "1 elem [] {} <: cap\n")) (codes "bad line 3") tt refl;
-  of_an_omitted_set = says 60 (behind_term (codes "1 t-lit [] : Int^{?}\n")) (codes "bad line 3") tt refl;
+  with_a_premise_twice = found_in 60 (behind_term (codes "1 t-lit [] : Int\n2 t-lit [1 1] : Int\n")) (HasBadLine 4) tt refl;
+  with_a_premise_of_two_nodes = found_in 60 (behind_term (codes "1 t-lit [] : Int\n2 t-lit [1] : Int\n3 t-lit [1] : Int\n")) (HasBadLine 5) tt refl;
+  with_itself = found_in 60 (behind_term (codes "1 t-lit [1] : Int\n")) (HasBadLine 3) tt refl;
+  with_a_later_one = found_in 60 (behind_term (codes "1 t-lit [2] : Int\n2 t-lit [] : Int\n")) (HasBadLine 3) tt refl;
+  with_two_spaces = found_in 60 (behind_term (codes "1 t-lit [] : Int\n2 t-lit [] : Int\n3 t-lit [1  2] : Int\n")) (HasBadLine 5) tt refl;
+  with_a_comma = found_in 60 (behind_term (codes "1 t-lit [] : Int\n2 t-lit [] : Int\n3 t-lit [1, 2] : Int\n")) (HasBadLine 5) tt refl;
+  with_a_space_in_brackets = found_in 60 (behind_term (codes "1 t-lit [ ] : Int\n")) (HasBadLine 3) tt refl;
+  with_a_zero_before_a_premise = found_in 60 (behind_term (codes "1 t-lit [] : Int\n2 t-lit [01] : Int\n")) (HasBadLine 4) tt refl;
+  unused = found_in 60 (behind_term (codes "1 t-lit [] : Int\n2 t-lit [] : Int\n")) (HasBadLine 5) tt refl;
+  unused_in_front = found_in 60 (behind_term (codes "1 t-lit [] : Int\n2 t-lit [] : Int\n3 t-lit [2] : Int\n")) (HasBadLine 6) tt refl;
+  below_without_spaces = found_in 60 (behind_term (codes "1 refl [] Int<:Int\n")) (HasBadLine 3) tt refl;
+  below_nothing = found_in 60 (behind_term (codes "1 refl [] Int <: \n")) (HasBadLine 3) tt refl;
+  sets_without_a_brace = found_in 60 (behind_term (codes "1 elem [] {} <: cap\n")) (HasBadLine 3) tt refl;
+  of_an_omitted_set = found_in 60 (behind_term (codes "1 t-lit [] : Int^{?}\n")) (HasBadLine 3) tt refl;
   of_binders_of_one_number = says 60 (behind_term (codes "1 refl [] (_3: Int) -> Int <: (_3: Int) -> Int\n")) (codes "bad node 1") refl refl;
-  of_binders_of_two_numbers = says 60 (behind_term (codes "1 refl [] (_3: Int) -> Int <: (_4: Int) -> Int\n")) (codes "bad line 3") tt refl;
+  of_binders_of_two_numbers = found_in 60 (behind_term (codes "1 refl [] (_3: Int) -> Int <: (_4: Int) -> Int\n")) (HasBadLine 3) tt refl;
   of_a_binder_on_the_right_side = says 60 (behind_term (codes "1 refl [] Int <: Box[(_3: Int) -> Int]\n")) (codes "bad node 1") refl refl;
   of_a_binder_in_an_exit = says 60 (behind_term (codes "1 refl [] Exit[(_3: Int) -> (_4: Int) -> Int] <: Int\n")) (codes "bad node 1") refl refl;
-  of_types_with_binders_of_two_numbers = says 60 (behind_term (codes "1 capt [] ((_3: Int) -> Int)^{cap} <: (_2: Int) -> Int\n")) (codes "bad line 3") tt refl;
-  of_binders_that_skip_a_number = says 60 (behind_term (codes "1 t-lit [] : (_0: Int) -> (_2: Int) -> Int\n")) (codes "bad line 3") tt refl;
-  of_binders_of_one_number_inside = says 60 (behind_term (codes "1 t-lit [] : (_0: Int) -> (_0: Int) -> Int\n")) (codes "bad line 3") tt refl;
-  of_a_shape_with_a_name = says 60 (behind_term (codes "1 refl [] _Tx <: Any\n")) (codes "bad line 3") tt refl;
+  of_types_with_binders_of_two_numbers = found_in 60 (behind_term (codes "1 capt [] ((_3: Int) -> Int)^{cap} <: (_2: Int) -> Int\n")) (HasBadLine 3) tt refl;
+  of_binders_that_skip_a_number = found_in 60 (behind_term (codes "1 t-lit [] : (_0: Int) -> (_2: Int) -> Int\n")) (HasBadLine 3) tt refl;
+  of_binders_of_one_number_inside = found_in 60 (behind_term (codes "1 t-lit [] : (_0: Int) -> (_0: Int) -> Int\n")) (HasBadLine 3) tt refl;
+  of_a_shape_with_a_name = found_in 60 (behind_term (codes "1 refl [] _Tx <: Any\n")) (HasBadLine 3) tt refl;
 }

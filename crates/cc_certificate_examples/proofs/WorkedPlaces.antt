@@ -1,8 +1,9 @@
 -- Certificates with what is found of them by the places of their nodes: which names may stand there, and which
 -- numbers binders have.
 use Rattle.std.proofs.Common.{refl, codes, ◌++◌}
+use Rattle.cc_certificate_judging.specs.Answers.{HasBadLine}
 use Rattle.cc_certificate_examples.specs.PlacedCertificates as example
-use Rattle.cc_certificate_examples.proofs.ComputedAnswers.{says}
+use Rattle.cc_certificate_examples.proofs.ComputedAnswers.{found_in, says}
 use Rattle.cc_certificate_examples.proofs.ComputedLines.{line_computing}
 
 pub names_on_both_sides : example.NamesOnBothSides
@@ -237,36 +238,24 @@ numbers_of_binders = record {
   greatest =
       says 60 (codes "cert 1\nterm unit\n1 t-lit [] : (_4294967295: Unit) -> Unit\n")
       (codes "bad node 1") refl refl;
-  greater =
-      says 60 (codes "cert 1\nterm unit\n1 t-lit [] : (_4294967296: Unit) -> Unit\n")
-      (codes "bad line 3") tt refl;
+  greater = found_in 60 (codes "cert 1\nterm unit\n1 t-lit [] : (_4294967296: Unit) -> Unit\n") (HasBadLine 3) tt refl;
   greatest_inside =
       says 60 (codes "cert 1\nterm unit\n1 t-lit [] : (_4294967294: Unit) -> (_4294967295: Unit) -> Unit\n")
       (codes "bad node 1") refl refl;
-  greater_inside =
-      says 60 (codes "cert 1\nterm unit\n1 t-lit [] : (_4294967295: Unit) -> (_4294967296: Unit) -> Unit\n")
-      (codes "bad line 3") tt refl;
+  greater_inside = found_in 60 (codes "cert 1\nterm unit\n1 t-lit [] : (_4294967295: Unit) -> (_4294967296: Unit) -> Unit\n") (HasBadLine 3) tt refl;
   greatest_of_a_type_function =
       says 60 (codes "cert 1\nterm unit\n1 t-lit [] : [_T4294967295 <: Any] -> Unit\n")
       (codes "bad node 1") refl refl;
-  greater_of_a_type_function =
-      says 60 (codes "cert 1\nterm unit\n1 t-lit [] : [_T4294967296 <: Any] -> Unit\n")
-      (codes "bad line 3") tt refl;
+  greater_of_a_type_function = found_in 60 (codes "cert 1\nterm unit\n1 t-lit [] : [_T4294967296 <: Any] -> Unit\n") (HasBadLine 3) tt refl;
   greatest_type_variable =
       says 60 (codes "cert 1\nterm unit\n1 t-lit [] : _T4294967295\n")
       (codes "bad node 1") refl refl;
-  greater_type_variable =
-      says 60 (codes "cert 1\nterm unit\n1 t-lit [] : _T4294967296\n")
-      (codes "bad line 3") tt refl;
+  greater_type_variable = found_in 60 (codes "cert 1\nterm unit\n1 t-lit [] : _T4294967296\n") (HasBadLine 3) tt refl;
   greatest_on_a_right_side =
       says 60 (codes "cert 1\nterm unit\n1 refl [] Unit <: (_4294967295: Unit) -> Unit\n")
       (codes "bad node 1") refl refl;
-  greater_on_a_right_side =
-      says 60 (codes "cert 1\nterm unit\n1 refl [] Unit <: (_4294967296: Unit) -> Unit\n")
-      (codes "bad line 3") tt refl;
-  greater_in_sets =
-      says 60 (codes "cert 1\nterm unit\n1 elem [] {} <: {_4294967296}\n")
-      (codes "bad line 3") tt refl;
+  greater_on_a_right_side = found_in 60 (codes "cert 1\nterm unit\n1 refl [] Unit <: (_4294967296: Unit) -> Unit\n") (HasBadLine 3) tt refl;
+  greater_in_sets = found_in 60 (codes "cert 1\nterm unit\n1 elem [] {} <: {_4294967296}\n") (HasBadLine 3) tt refl;
   greatest_in_sets =
       says 60 (codes "cert 1\nterm unit\n1 elem [] {_4294967295} <: {_4294967295}\n")
       (codes "bad node 1") refl refl;
@@ -302,11 +291,9 @@ places_of_premises = record {
   premises_are_too_many =
       says 60 (codes "cert 1\nterm 1\n1 t-lit [] : Bool\n2 t-lit [1] : Int\n")
       (codes "bad node 2") refl refl;
-  two_widenings_of_one_term =
-      says 60 (
+  two_widenings_of_one_term = found_in 60 (
       codes "cert 1\nterm 1\n1 t-lit [] : Int\n2 set [] {} <: {}\n3 top [] Int <: Any\n"
-      ++ codes "4 capt [2 3] Int <: Any\n5 t-sub [4 1] : Any\n")
-      (codes "bad line 7") tt refl;
+      ++ codes "4 capt [2 3] Int <: Any\n5 t-sub [4 1] : Any\n") (HasBadLine 7) tt refl;
   premises_of_a_widening_in_the_other_order =
       says 60 (
       codes "cert 1\nterm 1\n1 set [] {} <: {}\n2 top [] Int <: Any\n3 capt [1 2] Int <: Any\n"

@@ -103,14 +103,16 @@ pub record CanonicalSets : Type 0 where
       codes "7 capt [5 6] Int^{x} <: Int^{out, hits}" ∷ [])
   -- it does not go by its declared set
   pub variable_that_is_a_member :
-      Compares [] (capturing number (position 2)) (capturing number (from_list (Variable (Free 0) ∷ Variable (Free 1) ∷ Variable (Free 2) ∷ []))) (
+      Compares [] (capturing number (position 2)) (capturing number
+      (from_list (Variable (Free 0) ∷ Variable (Free 1) ∷ Variable (Free 2) ∷ []))) (
       codes "1 elem [] {x} <: {out, hits, x}" ∷
       codes "2 set [1] {x} <: {out, hits, x}" ∷
       codes "3 refl [] Int <: Int" ∷
       codes "4 capt [2 3] Int^{x} <: Int^{out, hits, x}" ∷ [])
   -- of which the last one is no member
   pub three_elements :
-      Compares [] (capturing number (from_list (Variable (Free 0) ∷ Variable (Free 1) ∷ Variable (Free 2) ∷ []))) (capturing number both) (
+      Compares [] (capturing number (from_list (Variable (Free 0) ∷ Variable (Free 1) ∷ Variable (Free 2) ∷ [])))
+      (capturing number both) (
       codes "1 elem [] {out} <: {out, hits}" ∷
       codes "2 elem [] {hits} <: {out, hits}" ∷
       codes "3 elem [] {out} <: {out, hits}" ∷
@@ -134,7 +136,8 @@ pub record CanonicalSets : Type 0 where
       codes "3 refl [] Int <: Int" ∷
       codes "4 capt [2 3] Int^{cap} <: Int^{cap}" ∷ [])
   pub element_and_universal_capability :
-      Compares [] (capturing number (from_list (Variable (Free 0) ∷ Cap ∷ []))) (capturing number (from_list (Variable (Free 0) ∷ Cap ∷ []))) (
+      Compares [] (capturing number (from_list (Variable (Free 0) ∷ Cap ∷ [])))
+      (capturing number (from_list (Variable (Free 0) ∷ Cap ∷ []))) (
       codes "1 elem [] {out} <: {out, cap}" ∷
       codes "2 elem [] {cap} <: {out, cap}" ∷
       codes "3 set [1 2] {out, cap} <: {out, cap}" ∷
@@ -199,7 +202,8 @@ pub record CanonicalShapes : Type 0 where
       codes "2 refl [] Int <: Int" ∷
       codes "3 tran [1 2] _T0 <: Int" ∷ [])
   pub type_variable_below_another :
-      ComparesShapes (TypeEntry (TypeVariable (Free 4)) ∷ TypeEntry number ∷ []) (TypeVariable (Free 5)) (TypeVariable (Free 4)) (
+      ComparesShapes (TypeEntry (TypeVariable (Free 4)) ∷ TypeEntry number ∷ []) (TypeVariable (Free 5))
+      (TypeVariable (Free 4)) (
       codes "1 tvar [] _T1 <: _T0" ∷
       codes "2 refl [] _T0 <: _T0" ∷
       codes "3 tran [1 2] _T1 <: _T0" ∷ [])
@@ -212,7 +216,8 @@ pub record CanonicalShapes : Type 0 where
       codes "5 tran [1 4] _T1 <: Int" ∷ [])
   -- what is taken comes first, and what is given stands under the parameter of the right one
   pub functions :
-      ComparesShapes [] (FunctionShape AnyShape both number (bound 0)) (FunctionShape number (position 2) AnyShape both) (
+      ComparesShapes [] (FunctionShape AnyShape both number (bound 0)) (FunctionShape number (position 2) AnyShape both)
+      (
       codes "1 elem [] {out} <: {out, hits}" ∷
       codes "2 elem [] {hits} <: {out, hits}" ∷
       codes "3 set [1 2] {out, hits} <: {out, hits}" ∷
@@ -231,7 +236,8 @@ pub record CanonicalShapes : Type 0 where
       codes "16 capt [14 15] Int^{_0} <: Any^{out, hits}" ∷
       codes "17 fun [7 16] (_0: Any^{out, hits}) -> Int^{_0} <: (_0: Int^{x}) -> Any^{out, hits}" ∷ [])
   pub functions_in_a_function :
-      ComparesShapes [] (FunctionShape number empty (FunctionShape number empty number empty) empty) (FunctionShape number empty (FunctionShape number empty AnyShape empty) empty) (
+      ComparesShapes [] (FunctionShape number empty (FunctionShape number empty number empty) empty)
+      (FunctionShape number empty (FunctionShape number empty AnyShape empty) empty) (
       codes "1 set [] {} <: {}" ∷
       codes "2 refl [] Int <: Int" ∷
       codes "3 capt [1 2] Int <: Int" ∷
@@ -245,8 +251,26 @@ pub record CanonicalShapes : Type 0 where
       codes "11 fun [7 10] (_1: Int) -> Int <: (_1: Int) -> Any" ∷
       codes "12 capt [4 11] (_1: Int) -> Int <: (_1: Int) -> Any" ∷
       codes "13 fun [3 12] (_0: Int) -> (_1: Int) -> Int <: (_0: Int) -> (_1: Int) -> Any" ∷ [])
+  -- what is taken does not stand under the parameter
+  pub functions_that_take_functions :
+      ComparesShapes [] (FunctionShape function empty number empty) (FunctionShape function empty AnyShape empty) (
+      codes "1 set [] {} <: {}" ∷
+      codes "2 refl [] (_0: Int) -> Int <: (_0: Int) -> Int" ∷
+      codes "3 capt [1 2] (_0: Int) -> Int <: (_0: Int) -> Int" ∷
+      codes "4 set [] {} <: {}" ∷
+      codes "5 top [] Int <: Any" ∷
+      codes "6 capt [4 5] Int <: Any" ∷
+      codes "7 fun [3 6] (_0: (_0: Int) -> Int) -> Int <: (_0: (_0: Int) -> Int) -> Any" ∷ [])
+  pub type_functions_with_bounds_of_functions :
+      ComparesShapes [] (TypeFunctionShape function number empty) (TypeFunctionShape function AnyShape empty) (
+      codes "1 refl [] (_0: Int) -> Int <: (_0: Int) -> Int" ∷
+      codes "2 set [] {} <: {}" ∷
+      codes "3 top [] Int <: Any" ∷
+      codes "4 capt [2 3] Int <: Any" ∷
+      codes "5 tfun [1 4] [_T0 <: (_0: Int) -> Int] -> Int <: [_T0 <: (_0: Int) -> Int] -> Any" ∷ [])
   pub type_functions :
-      ComparesShapes [] (TypeFunctionShape number (TypeVariable (Bound 0)) (position 0)) (TypeFunctionShape number number (single Cap)) (
+      ComparesShapes [] (TypeFunctionShape number (TypeVariable (Bound 0)) (position 0))
+      (TypeFunctionShape number number (single Cap)) (
       codes "1 refl [] Int <: Int" ∷
       codes "2 elem [] {cap} <: {cap}" ∷
       codes "3 set [2] {cap} <: {cap}" ∷
@@ -347,7 +371,10 @@ pub record CanonicalDefinitions : Type 0 where
       codes "11 capt [9 10] Int^{out} <: Int^{cap}" ∷
       codes "12 t-sub [5 11] : Int^{cap}" ∷ [])
   pub function_of_two_devices :
-      Derives (Written (FunctionShape nothing empty nothing empty) both) (FunctionTerm nothing empty (Let Absent (Operation operations.Tick (Free 1) None) (Operation operations.Print (Free 0) (Some (Bound 0))))) (capturing (FunctionShape nothing empty nothing empty) both) (
+      Derives (Written (FunctionShape nothing empty nothing empty) both)
+      (FunctionTerm nothing empty (Let Absent (Operation operations.Tick (Free 1) None)
+      (Operation operations.Print (Free 0) (Some (Bound 0)))))
+      (capturing (FunctionShape nothing empty nothing empty) both) (
       codes "1 t-var [] : Counter^{hits}" ∷
       codes "2 t-op [1] : Int" ∷
       codes "3 t-var [] : Console^{out}" ∷
@@ -375,6 +402,20 @@ pub record CanonicalLets : Type 0 where
       codes "1 t-lit [] : Int" ∷
       codes "2 t-lit [] : Int" ∷
       codes "3 t-let [1 2] : Int" ∷ [])
+  -- its right side does not stand under its variable
+  pub of_a_function :
+      Derives Absent (Let Absent (FunctionTerm number empty one) one) (capturing number empty) (
+      codes "1 t-lit [] : Int" ∷
+      codes "2 t-abs [1] : (_0: Int) -> Int" ∷
+      codes "3 t-lit [] : Int" ∷
+      codes "4 t-let [2 3] : Int" ∷ [])
+  -- and its body does
+  pub in_which_a_function_stands :
+      Derives Absent (Let Absent one (FunctionTerm number empty one)) (capturing function empty) (
+      codes "1 t-lit [] : Int" ∷
+      codes "2 t-lit [] : Int" ∷
+      codes "3 t-abs [2] : (_1: Int) -> Int" ∷
+      codes "4 t-let [1 3] : (_0: Int) -> Int" ∷ [])
   pub that_avoids_its_variable :
       Derives Absent (Let Absent (VariableTerm (Free 2)) (VariableTerm (Bound 0))) (capturing number (position 2)) (
       codes "1 t-var [] : Int^{x}" ∷
@@ -398,7 +439,8 @@ pub record CanonicalLets : Type 0 where
       codes "7 t-let [5 6] : Int" ∷ [])
   -- the body stands under the type that is written
   pub of_a_greater_type :
-      Derives Absent (Let (Written AnyShape (position 0)) one (VariableTerm (Bound 0))) (capturing AnyShape (position 0)) (
+      Derives Absent (Let (Written AnyShape (position 0)) one (VariableTerm (Bound 0)))
+      (capturing AnyShape (position 0)) (
       codes "1 t-lit [] : Int" ∷
       codes "2 set [] {} <: {out}" ∷
       codes "3 top [] Int <: Any" ∷
@@ -418,7 +460,9 @@ pub record CanonicalLets : Type 0 where
 -- argument to the type, also where they are the same.
 pub record CanonicalOperands : Type 0 where
   pub application :
-      Derives Absent (FunctionTerm (FunctionShape number (position 2) number empty) empty (Application (Bound 0) (Free 2))) (capturing (FunctionShape (FunctionShape number (position 2) number empty) empty number empty) (position 2)) (
+      Derives Absent (FunctionTerm (FunctionShape number (position 2) number empty) empty
+      (Application (Bound 0) (Free 2))) (capturing
+      (FunctionShape (FunctionShape number (position 2) number empty) empty number empty) (position 2)) (
       codes "1 t-var [] : ((_1: Int^{x}) -> Int)^{_0}" ∷
       codes "2 t-var [] : Int^{x}" ∷
       codes "3 elem [] {x} <: {x}" ∷
@@ -429,7 +473,10 @@ pub record CanonicalOperands : Type 0 where
       codes "8 t-app [1 7] : Int" ∷
       codes "9 t-abs [8] : ((_0: (_0: Int^{x}) -> Int) -> Int)^{x}" ∷ [])
   pub application_of_a_type_variable :
-      Derives Absent (TypeFunctionTerm (FunctionShape AnyShape (position 2) number empty) (FunctionTerm (TypeVariable (Bound 0)) empty (Application (Bound 0) (Free 2)))) (capturing (TypeFunctionShape (FunctionShape AnyShape (position 2) number empty) (FunctionShape (TypeVariable (Bound 0)) empty number empty) (position 2)) (position 2)) (
+      Derives Absent (TypeFunctionTerm (FunctionShape AnyShape (position 2) number empty)
+      (FunctionTerm (TypeVariable (Bound 0)) empty (Application (Bound 0) (Free 2))))
+      (capturing (TypeFunctionShape (FunctionShape AnyShape (position 2) number empty)
+      (FunctionShape (TypeVariable (Bound 0)) empty number empty) (position 2)) (position 2)) (
       codes "1 t-var [] : _T0^{_1}" ∷
       codes "2 elem [] {_1} <: {_1}" ∷
       codes "3 set [2] {_1} <: {_1}" ∷
@@ -449,7 +496,10 @@ pub record CanonicalOperands : Type 0 where
       codes "17 t-tabs [16] : ([_T0 <: (_0: Any^{x}) -> Int] -> ((_1: _T0) -> Int)^{x})^{x}" ∷ [])
   -- it is below it by itself
   pub argument_of_the_greatest_shape :
-      Derives Absent (FunctionTerm (FunctionShape AnyShape empty number empty) empty (FunctionTerm AnyShape empty (Application (Bound 1) (Bound 0)))) (capturing (FunctionShape (FunctionShape AnyShape empty number empty) empty (FunctionShape AnyShape empty number empty) (bound 0)) empty) (
+      Derives Absent (FunctionTerm (FunctionShape AnyShape empty number empty) empty
+      (FunctionTerm AnyShape empty (Application (Bound 1) (Bound 0))))
+      (capturing (FunctionShape (FunctionShape AnyShape empty number empty) empty
+      (FunctionShape AnyShape empty number empty) (bound 0)) empty) (
       codes "1 t-var [] : ((_2: Any) -> Int)^{_0}" ∷
       codes "2 t-var [] : Any^{_1}" ∷
       codes "3 set [] {} <: {}" ∷
@@ -462,13 +512,18 @@ pub record CanonicalOperands : Type 0 where
       codes "10 t-abs [9] : ((_1: Any) -> Int)^{_0}" ∷
       codes "11 t-abs [10] : (_0: (_0: Any) -> Int) -> ((_1: Any) -> Int)^{_0}" ∷ [])
   pub type_application :
-      Derives Absent (FunctionTerm (TypeFunctionShape number (TypeVariable (Bound 0)) empty) empty (TypeApplication (Bound 0) number)) (capturing (FunctionShape (TypeFunctionShape number (TypeVariable (Bound 0)) empty) empty number empty) empty) (
+      Derives Absent (FunctionTerm (TypeFunctionShape number (TypeVariable (Bound 0)) empty) empty
+      (TypeApplication (Bound 0) number)) (capturing
+      (FunctionShape (TypeFunctionShape number (TypeVariable (Bound 0)) empty) empty number empty) empty) (
       codes "1 t-var [] : ([_T1 <: Int] -> _T1)^{_0}" ∷
       codes "2 refl [] Int <: Int" ∷
       codes "3 t-tapp [1 2] : Int" ∷
       codes "4 t-abs [3] : (_0: [_T0 <: Int] -> _T0) -> Int" ∷ [])
   pub type_application_of_a_type_variable :
-      Derives Absent (TypeFunctionTerm (TypeFunctionShape AnyShape number empty) (FunctionTerm (TypeVariable (Bound 0)) empty (TypeApplication (Bound 0) number))) (capturing (TypeFunctionShape (TypeFunctionShape AnyShape number empty) (FunctionShape (TypeVariable (Bound 0)) empty number empty) empty) empty) (
+      Derives Absent (TypeFunctionTerm (TypeFunctionShape AnyShape number empty)
+      (FunctionTerm (TypeVariable (Bound 0)) empty (TypeApplication (Bound 0) number)))
+      (capturing (TypeFunctionShape (TypeFunctionShape AnyShape number empty)
+      (FunctionShape (TypeVariable (Bound 0)) empty number empty) empty) empty) (
       codes "1 t-var [] : _T0^{_1}" ∷
       codes "2 elem [] {_1} <: {_1}" ∷
       codes "3 set [2] {_1} <: {_1}" ∷
@@ -497,7 +552,10 @@ pub record CanonicalOperands : Type 0 where
       codes "12 t-sub [7 11] : Int^{x}" ∷
       codes "13 t-prim [6 12] : Int" ∷ [])
   pub operator_on_a_type_variable :
-      Derives Absent (TypeFunctionTerm number (FunctionTerm (TypeVariable (Bound 0)) empty (Primitive operators.Less (Bound 0) (Free 2)))) (capturing (TypeFunctionShape number (FunctionShape (TypeVariable (Bound 0)) empty (BaseShape bases.Bool) empty) (position 2)) (position 2)) (
+      Derives Absent (TypeFunctionTerm number (FunctionTerm (TypeVariable (Bound 0)) empty
+      (Primitive operators.Less (Bound 0) (Free 2)))) (capturing
+      (TypeFunctionShape number (FunctionShape (TypeVariable (Bound 0)) empty (BaseShape bases.Bool) empty)
+      (position 2)) (position 2)) (
       codes "1 t-var [] : _T0^{_1}" ∷
       codes "2 elem [] {_1} <: {_1}" ∷
       codes "3 set [2] {_1} <: {_1}" ∷
@@ -536,7 +594,8 @@ pub record CanonicalOperands : Type 0 where
       codes "16 t-sub [12 15] : Int" ∷
       codes "17 t-if [6 11 16] : Int" ∷ [])
   pub choice_of_a_greater_type :
-      Derives Absent (Conditional (Written AnyShape empty) (Free 3) one (LiteralTerm (NumberLiteral (pos 2)))) (capturing AnyShape empty) (
+      Derives Absent (Conditional (Written AnyShape empty) (Free 3) one (LiteralTerm (NumberLiteral (pos 2))))
+      (capturing AnyShape empty) (
       codes "1 t-var [] : Bool^{b}" ∷
       codes "2 elem [] {b} <: {b}" ∷
       codes "3 set [2] {b} <: {b}" ∷
@@ -555,7 +614,8 @@ pub record CanonicalOperands : Type 0 where
       codes "16 t-sub [12 15] : Any" ∷
       codes "17 t-if [6 11 16] : Any" ∷ [])
   pub repetition :
-      Derives Absent (FunctionTerm (FunctionShape AnyShape empty nothing empty) empty (Repetition (Free 2) (Bound 0))) (capturing (FunctionShape (FunctionShape AnyShape empty nothing empty) empty nothing empty) (position 2)) (
+      Derives Absent (FunctionTerm (FunctionShape AnyShape empty nothing empty) empty (Repetition (Free 2) (Bound 0)))
+      (capturing (FunctionShape (FunctionShape AnyShape empty nothing empty) empty nothing empty) (position 2)) (
       codes "1 t-var [] : Int^{x}" ∷
       codes "2 elem [] {x} <: {x}" ∷
       codes "3 set [2] {x} <: {x}" ∷
@@ -586,12 +646,37 @@ pub record CanonicalOperands : Type 0 where
       codes "6 capt [4 5] Int^{x} <: Int^{x}" ∷
       codes "7 t-sub [2 6] : Int^{x}" ∷
       codes "8 t-op [1 7] : Unit" ∷ [])
+  pub printing_on_a_type_variable :
+      Derives Absent (TypeFunctionTerm (BaseShape bases.Console)
+      (FunctionTerm (TypeVariable (Bound 0)) empty (Operation operations.Print (Bound 0) (Some (Free 2)))))
+      (capturing (TypeFunctionShape (BaseShape bases.Console)
+      (FunctionShape (TypeVariable (Bound 0)) empty nothing empty) (position 2)) (position 2)) (
+      codes "1 t-var [] : _T0^{_1}" ∷
+      codes "2 elem [] {_1} <: {_1}" ∷
+      codes "3 set [2] {_1} <: {_1}" ∷
+      codes "4 tvar [] _T0 <: Console" ∷
+      codes "5 refl [] Console <: Console" ∷
+      codes "6 tran [4 5] _T0 <: Console" ∷
+      codes "7 capt [3 6] _T0^{_1} <: Console^{_1}" ∷
+      codes "8 t-sub [1 7] : Console^{_1}" ∷
+      codes "9 t-var [] : Int^{x}" ∷
+      codes "10 elem [] {x} <: {x}" ∷
+      codes "11 set [10] {x} <: {x}" ∷
+      codes "12 refl [] Int <: Int" ∷
+      codes "13 capt [11 12] Int^{x} <: Int^{x}" ∷
+      codes "14 t-sub [9 13] : Int^{x}" ∷
+      codes "15 t-op [8 14] : Unit" ∷
+      codes "16 t-abs [15] : ((_1: _T0) -> Unit)^{x}" ∷
+      codes "17 t-tabs [16] : ([_T0 <: Console] -> ((_1: _T0) -> Unit)^{x})^{x}" ∷ [])
   pub operation_alone :
       Derives Absent (Operation operations.Tick (Free 1) None) (capturing number empty) (
       codes "1 t-var [] : Counter^{hits}" ∷
       codes "2 t-op [1] : Int" ∷ [])
   pub operation_of_a_type_variable :
-      Derives Absent (TypeFunctionTerm (BaseShape bases.Counter) (FunctionTerm (TypeVariable (Bound 0)) empty (Operation operations.Tick (Bound 0) None))) (capturing (TypeFunctionShape (BaseShape bases.Counter) (FunctionShape (TypeVariable (Bound 0)) empty number empty) empty) empty) (
+      Derives Absent (TypeFunctionTerm (BaseShape bases.Counter)
+      (FunctionTerm (TypeVariable (Bound 0)) empty (Operation operations.Tick (Bound 0) None)))
+      (capturing (TypeFunctionShape (BaseShape bases.Counter)
+      (FunctionShape (TypeVariable (Bound 0)) empty number empty) empty) empty) (
       codes "1 t-var [] : _T0^{_1}" ∷
       codes "2 elem [] {_1} <: {_1}" ∷
       codes "3 set [2] {_1} <: {_1}" ∷
@@ -612,7 +697,8 @@ pub record CanonicalBoxesAndBoundaries : Type 0 where
       codes "1 t-var [] : Int^{x}" ∷
       codes "2 t-box [1] : Box[Int^{x}]" ∷ [])
   pub unboxing :
-      Derives Absent (FunctionTerm (BoxShape number (position 2)) empty (Unboxing (Some (position 2)) (Bound 0))) (capturing (FunctionShape (BoxShape number (position 2)) empty number (position 2)) (position 2)) (
+      Derives Absent (FunctionTerm (BoxShape number (position 2)) empty (Unboxing (Some (position 2)) (Bound 0)))
+      (capturing (FunctionShape (BoxShape number (position 2)) empty number (position 2)) (position 2)) (
       codes "1 t-var [] : Box[Int^{x}]^{_0}" ∷
       codes "2 elem [] {_0} <: {_0}" ∷
       codes "3 set [2] {_0} <: {_0}" ∷
@@ -622,7 +708,8 @@ pub record CanonicalBoxesAndBoundaries : Type 0 where
       codes "7 t-unbox [6] : Int^{x}" ∷
       codes "8 t-abs [7] : ((_0: Box[Int^{x}]) -> Int^{x})^{x}" ∷ [])
   pub unboxing_under_a_greater_set :
-      Derives Absent (FunctionTerm (BoxShape number (position 2)) empty (Unboxing (Some both) (Bound 0))) (capturing (FunctionShape (BoxShape number (position 2)) empty number both) both) (
+      Derives Absent (FunctionTerm (BoxShape number (position 2)) empty (Unboxing (Some both) (Bound 0)))
+      (capturing (FunctionShape (BoxShape number (position 2)) empty number both) both) (
       codes "1 t-var [] : Box[Int^{x}]^{_0}" ∷
       codes "2 elem [] {_0} <: {_0}" ∷
       codes "3 set [2] {_0} <: {_0}" ∷
@@ -639,7 +726,10 @@ pub record CanonicalBoxesAndBoundaries : Type 0 where
       codes "14 t-unbox [13] : Int^{out, hits}" ∷
       codes "15 t-abs [14] : ((_0: Box[Int^{x}]) -> Int^{out, hits})^{out, hits}" ∷ [])
   pub unboxing_of_a_type_variable :
-      Derives Absent (TypeFunctionTerm (BoxShape number empty) (FunctionTerm (TypeVariable (Bound 0)) empty (Unboxing (Some empty) (Bound 0)))) (capturing (TypeFunctionShape (BoxShape number empty) (FunctionShape (TypeVariable (Bound 0)) empty number empty) empty) empty) (
+      Derives Absent (TypeFunctionTerm (BoxShape number empty)
+      (FunctionTerm (TypeVariable (Bound 0)) empty (Unboxing (Some empty) (Bound 0))))
+      (capturing (TypeFunctionShape (BoxShape number empty) (FunctionShape (TypeVariable (Bound 0)) empty number empty)
+      empty) empty) (
       codes "1 t-var [] : _T0^{_1}" ∷
       codes "2 elem [] {_1} <: {_1}" ∷
       codes "3 set [2] {_1} <: {_1}" ∷
@@ -676,7 +766,10 @@ pub record CanonicalBoxesAndBoundaries : Type 0 where
       codes "13 t-sub [9 12] : Bool" ∷
       codes "14 t-boundary [13] : Bool" ∷ [])
   pub exit_of_a_type_variable :
-      Derives Absent (TypeFunctionTerm (ExitShape truth) (FunctionTerm (TypeVariable (Bound 0)) empty (Leave number (position 2) (Bound 0) (Free 3)))) (capturing (TypeFunctionShape (ExitShape truth) (FunctionShape (TypeVariable (Bound 0)) empty number (position 2)) (position 3)) (position 3)) (
+      Derives Absent (TypeFunctionTerm (ExitShape truth)
+      (FunctionTerm (TypeVariable (Bound 0)) empty (Leave number (position 2) (Bound 0) (Free 3))))
+      (capturing (TypeFunctionShape (ExitShape truth) (FunctionShape (TypeVariable (Bound 0)) empty number (position 2))
+      (position 3)) (position 3)) (
       codes "1 t-var [] : _T0^{_1}" ∷
       codes "2 elem [] {_1} <: {_1}" ∷
       codes "3 set [2] {_1} <: {_1}" ∷

@@ -1,42 +1,21 @@
 -- What fits as a line of a certificate, and what does not.
 use Rattle.std.specs.Prelude.{codes, ◌++◌, encode_utf8_all}
-use Rattle.cc_certificate_examples.specs.FoundTexts.{Says, IsTerm, IsNoTerm, IsType, IsNoType, IsSet, IsNoSet, NodesSay}
+use Rattle.cc_certificate_text.specs.Certificates.{IsBadLine}
+use Rattle.cc_certificate_examples.specs.FoundTexts.{Says, behind_term, IsTerm, IsNoTerm, IsType, IsNoType, IsSet, IsNoSet, NodesSay}
 
 -- A certificate begins with its form, then come its binds, one term, and nodes.
 pub record FirstLines : Type 0 where
-  pub no_form :
-      Says (codes "term 1\n1 t-lit [] : Int\n")
-      (codes "bad line 1")
-  pub another_form :
-      Says (codes "cert 2\nterm 1\n1 t-lit [] : Int\n")
-      (codes "bad line 1")
-  pub form_with_more :
-      Says (codes "cert 1 \nterm 1\n1 t-lit [] : Int\n")
-      (codes "bad line 1")
-  pub form_twice :
-      Says (codes "cert 1\ncert 1\nterm 1\n1 t-lit [] : Int\n")
-      (codes "bad line 2")
-  pub no_term :
-      Says (codes "cert 1\n1 t-lit [] : Int\n")
-      (codes "bad line 2")
-  pub no_term_behind_binds :
-      Says (codes "cert 1\nbind x: Int\n1 t-var [] : Int^{x}\n")
-      (codes "bad line 3")
-  pub term_twice :
-      Says (codes "cert 1\nterm 1\nterm 1\n1 t-lit [] : Int\n")
-      (codes "bad line 3")
-  pub bind_behind_the_term :
-      Says (codes "cert 1\nterm 1\nbind x: Int\n1 t-lit [] : Int\n")
-      (codes "bad line 3")
-  pub term_behind_nodes :
-      Says (codes "cert 1\nterm 1\n1 t-lit [] : Int\nterm 1\n")
-      (codes "bad line 4")
-  pub form_alone :
-      Says (codes "cert 1\n")
-      (codes "bad line 2")
-  pub binds_alone :
-      Says (codes "cert 1\nbind x: Int\n")
-      (codes "bad line 3")
+  pub no_form : IsBadLine (codes "term 1\n1 t-lit [] : Int\n") 1
+  pub another_form : IsBadLine (codes "cert 2\nterm 1\n1 t-lit [] : Int\n") 1
+  pub form_with_more : IsBadLine (codes "cert 1 \nterm 1\n1 t-lit [] : Int\n") 1
+  pub form_twice : IsBadLine (codes "cert 1\ncert 1\nterm 1\n1 t-lit [] : Int\n") 2
+  pub no_term : IsBadLine (codes "cert 1\n1 t-lit [] : Int\n") 2
+  pub no_term_behind_binds : IsBadLine (codes "cert 1\nbind x: Int\n1 t-var [] : Int^{x}\n") 3
+  pub term_twice : IsBadLine (codes "cert 1\nterm 1\nterm 1\n1 t-lit [] : Int\n") 3
+  pub bind_behind_the_term : IsBadLine (codes "cert 1\nterm 1\nbind x: Int\n1 t-lit [] : Int\n") 3
+  pub term_behind_nodes : IsBadLine (codes "cert 1\nterm 1\n1 t-lit [] : Int\nterm 1\n") 4
+  pub form_alone : IsBadLine (codes "cert 1\n") 2
+  pub binds_alone : IsBadLine (codes "cert 1\nbind x: Int\n") 3
 
 -- Binds have names that differ, and types that are well formed behind the binds before them.
 pub record BindLines : Type 0 where
@@ -49,57 +28,28 @@ pub record BindLines : Type 0 where
   pub of_letters_beyond_ascii :
       Says (encode_utf8_all (codes "cert 1\nbind äß: Int\nterm äß\n1 t-var [] : Int^{äß}\n"))
       (encode_utf8_all (codes "valid Int^{äß}"))
-  pub twice :
-      Says (codes "cert 1\nbind x: Int\nbind x: Int\nterm x\n1 t-var [] : Int^{x}\n")
-      (codes "bad line 3")
+  pub twice : IsBadLine (codes "cert 1\nbind x: Int\nbind x: Int\nterm x\n1 t-var [] : Int^{x}\n") 3
   pub twice_with_one_between :
-      Says (codes "cert 1\nbind x: Int\nbind y: Int\nbind x: Bool\nterm x\n1 t-var [] : Int^{x}\n")
-      (codes "bad line 4")
+      IsBadLine (codes "cert 1\nbind x: Int\nbind y: Int\nbind x: Bool\nterm x\n1 t-var [] : Int^{x}\n") 4
   pub of_a_word_of_certificates :
       Says (codes "cert 1\nbind let: Int\nterm 1\n1 t-lit [] : Int\n")
       (codes "valid Int")
-  pub of_a_word_of_texts :
-      Says (codes "cert 1\nbind fun: Int\nterm 1\n1 t-lit [] : Int\n")
-      (codes "bad line 2")
-  pub of_a_digit :
-      Says (codes "cert 1\nbind 1x: Int\nterm 1\n1 t-lit [] : Int\n")
-      (codes "bad line 2")
-  pub of_a_local_variable :
-      Says (codes "cert 1\nbind _0: Int\nterm 1\n1 t-lit [] : Int\n")
-      (codes "bad line 2")
-  pub of_nothing :
-      Says (codes "cert 1\nbind : Int\nterm 1\n1 t-lit [] : Int\n")
-      (codes "bad line 2")
-  pub without_a_type :
-      Says (codes "cert 1\nbind x:\nterm 1\n1 t-lit [] : Int\n")
-      (codes "bad line 2")
-  pub without_a_space :
-      Says (codes "cert 1\nbind x:Int\nterm 1\n1 t-lit [] : Int\n")
-      (codes "bad line 2")
-  pub with_a_space_before_the_colon :
-      Says (codes "cert 1\nbind x : Int\nterm 1\n1 t-lit [] : Int\n")
-      (codes "bad line 2")
-  pub with_two_spaces :
-      Says (codes "cert 1\nbind  x: Int\nterm 1\n1 t-lit [] : Int\n")
-      (codes "bad line 2")
-  pub with_a_space_at_the_end :
-      Says (codes "cert 1\nbind x: Int \nterm 1\n1 t-lit [] : Int\n")
-      (codes "bad line 2")
+  pub of_a_word_of_texts : IsBadLine (codes "cert 1\nbind fun: Int\nterm 1\n1 t-lit [] : Int\n") 2
+  pub of_a_digit : IsBadLine (codes "cert 1\nbind 1x: Int\nterm 1\n1 t-lit [] : Int\n") 2
+  pub of_a_local_variable : IsBadLine (codes "cert 1\nbind _0: Int\nterm 1\n1 t-lit [] : Int\n") 2
+  pub of_nothing : IsBadLine (codes "cert 1\nbind : Int\nterm 1\n1 t-lit [] : Int\n") 2
+  pub without_a_type : IsBadLine (codes "cert 1\nbind x:\nterm 1\n1 t-lit [] : Int\n") 2
+  pub without_a_space : IsBadLine (codes "cert 1\nbind x:Int\nterm 1\n1 t-lit [] : Int\n") 2
+  pub with_a_space_before_the_colon : IsBadLine (codes "cert 1\nbind x : Int\nterm 1\n1 t-lit [] : Int\n") 2
+  pub with_two_spaces : IsBadLine (codes "cert 1\nbind  x: Int\nterm 1\n1 t-lit [] : Int\n") 2
+  pub with_a_space_at_the_end : IsBadLine (codes "cert 1\nbind x: Int \nterm 1\n1 t-lit [] : Int\n") 2
   pub with_an_older_one :
       Says (codes "cert 1\nbind x: Int\nbind y: Int^{x}\nterm y\n1 t-var [] : Int^{y}\n")
       (codes "valid Int^{y}")
-  pub with_itself :
-      Says (codes "cert 1\nbind x: Int^{x}\nterm 1\n1 t-lit [] : Int\n")
-      (codes "bad line 2")
-  pub with_a_newer_one :
-      Says (codes "cert 1\nbind y: Int^{x}\nbind x: Int\nterm 1\n1 t-lit [] : Int\n")
-      (codes "bad line 2")
-  pub with_a_name_as_a_shape :
-      Says (codes "cert 1\nbind x: Int\nbind y: _T0\nterm 1\n1 t-lit [] : Int\n")
-      (codes "bad line 3")
-  pub with_a_local_variable :
-      Says (codes "cert 1\nbind x: Int^{_0}\nterm 1\n1 t-lit [] : Int\n")
-      (codes "bad line 2")
+  pub with_itself : IsBadLine (codes "cert 1\nbind x: Int^{x}\nterm 1\n1 t-lit [] : Int\n") 2
+  pub with_a_newer_one : IsBadLine (codes "cert 1\nbind y: Int^{x}\nbind x: Int\nterm 1\n1 t-lit [] : Int\n") 2
+  pub with_a_name_as_a_shape : IsBadLine (codes "cert 1\nbind x: Int\nbind y: _T0\nterm 1\n1 t-lit [] : Int\n") 3
+  pub with_a_local_variable : IsBadLine (codes "cert 1\nbind x: Int^{_0}\nterm 1\n1 t-lit [] : Int\n") 2
   -- their numbers begin at 0, whatever binds stand before
   pub with_binders :
       Says (
@@ -107,11 +57,8 @@ pub record BindLines : Type 0 where
       ++ codes "1 t-lit [] : Int\n")
       (codes "valid Int")
   pub with_a_binder_of_another_number :
-      Says (codes "cert 1\nbind x: Int\nbind f: (_1: Int) -> Int\nterm 1\n1 t-lit [] : Int\n")
-      (codes "bad line 3")
-  pub with_an_omitted_set :
-      Says (codes "cert 1\nbind x: Int^?\nterm 1\n1 t-lit [] : Int\n")
-      (codes "bad line 2")
+      IsBadLine (codes "cert 1\nbind x: Int\nbind f: (_1: Int) -> Int\nterm 1\n1 t-lit [] : Int\n") 3
+  pub with_an_omitted_set : IsBadLine (codes "cert 1\nbind x: Int^?\nterm 1\n1 t-lit [] : Int\n") 2
 
 -- The elements of a set stand in order: those with names by their binds, then local variables by their numbers, then
 -- the universal capability. None stands twice, and an empty set behind `^` is not written.
@@ -156,11 +103,9 @@ pub record SetLines : Type 0 where
       codes "cert 1\nbind b: Box[Int]\nterm fun (_0: Int) => fun (_1: Int) => unbox {_0, _1} b\n"
       ++ codes "1 t-lit [] : Int\n")
       (codes "bad node 1")
-  pub in_an_unboxing_in_the_other_order :
-      Says (
+  pub in_an_unboxing_in_the_other_order : IsBadLine (
       codes "cert 1\nbind b: Box[Int]\nterm fun (_0: Int) => fun (_1: Int) => unbox {_1, _0} b\n"
-      ++ codes "1 t-lit [] : Int\n")
-      (codes "bad line 3")
+      ++ codes "1 t-lit [] : Int\n") 3
 
 -- A term has one text, and all that is omitted in a program is written in it. What stands in it has its binder, and
 -- is of the kind of its place. Where a line of a term fits, the node behind it is bad.
@@ -168,6 +113,7 @@ pub record TermLines : Type 0 where
   pub variable : IsTerm (codes "x")
   pub of_no_name : IsNoTerm (codes "y")
   pub local_variable_without_a_binder : IsNoTerm (codes "_0")
+  pub local_variable_without_its_binder : IsNoTerm (codes "fun (_0: Int) => _1")
   pub unit_value : IsTerm (codes "unit")
   pub truths : IsTerm (codes "let _0 = true in false")
   pub greatest_number : IsTerm (codes "9223372036854775807")
@@ -280,6 +226,8 @@ pub record TypeLines : Type 0 where
   pub type_function : IsType (codes "[_T0 <: Any] -> _T0")
   pub type_function_with_a_set : IsType (codes "([_T0 <: Any] -> Int)^{x}")
   pub type_function_under_another : IsType (codes "[_T0 <: Any] -> [_T1 <: _T0] -> Box[_T1]")
+  pub parameter_as_a_shape : IsNoType (codes "(_0: Int) -> _T0")
+  pub type_parameter_in_a_set : IsNoType (codes "[_T0 <: Any] -> Int^{_0}")
   pub type_function_without_a_bound : IsNoType (codes "[_T0] -> Int")
   pub type_function_whose_bound_has_a_set : IsNoType (codes "[_T0 <: Int^{x}] -> Int")
   pub type_variable_with_a_set : IsType (codes "[_T0 <: Any] -> _T0^{x}")
@@ -295,48 +243,57 @@ pub record TypeLines : Type 0 where
 -- order, and a claim of the kind that its rule concludes.
 pub record NodeLines : Type 0 where
   pub whole : NodesSay (codes "1 t-lit [] : Int\n") (codes "valid Int")
-  pub of_another_number : NodesSay (codes "2 t-lit [] : Int\n") (codes "bad line 3")
-  pub of_number_zero : NodesSay (codes "0 t-lit [] : Int\n") (codes "bad line 3")
-  pub of_no_number : NodesSay (codes "t-lit [] : Int\n") (codes "bad line 3")
-  pub of_no_rule : NodesSay (codes "1 t-int [] : Int\n") (codes "bad line 3")
-  pub of_a_longer_rule : NodesSay (codes "1 t-lits [] : Int\n") (codes "bad line 3")
-  pub without_a_space : NodesSay (codes "1 t-lit[] : Int\n") (codes "bad line 3")
-  pub without_a_space_behind_premises : NodesSay (codes "1 t-lit []: Int\n") (codes "bad line 3")
-  pub without_brackets : NodesSay (codes "1 t-lit : Int\n") (codes "bad line 3")
-  pub without_a_colon : NodesSay (codes "1 t-lit [] Int\n") (codes "bad line 3")
-  pub with_a_space_behind : NodesSay (codes "1 t-lit [] : Int \n") (codes "bad line 3")
-  pub with_a_zero_in_front : NodesSay (codes "01 t-lit [] : Int\n") (codes "bad line 3")
-  pub of_sets_under_a_rule_of_typing : NodesSay (codes "1 t-lit [] {} <: {}\n") (codes "bad line 3")
-  pub of_shapes_under_a_rule_of_sets : NodesSay (codes "1 set [] Int <: Int\n") (codes "bad line 3")
-  pub of_terms_under_a_rule_of_shapes : NodesSay (codes "1 refl [] : Int\n") (codes "bad line 3")
-  pub of_sets_under_a_rule_of_types : NodesSay (codes "1 capt [] {} <: {}\n") (codes "bad line 3")
-  pub of_types_under_a_rule_of_shapes : NodesSay (codes "1 refl [] Int^{cap} <: Int^{cap}\n") (codes "bad line 3")
-  pub of_shapes_in_parentheses : NodesSay (codes "1 refl [] ((_0: Int) -> Int) <: Int\n") (codes "bad line 3")
+  pub of_another_number : IsBadLine (behind_term (codes "2 t-lit [] : Int\n")) 3
+  pub of_number_zero : IsBadLine (behind_term (codes "0 t-lit [] : Int\n")) 3
+  pub of_no_number : IsBadLine (behind_term (codes "t-lit [] : Int\n")) 3
+  pub of_no_rule : IsBadLine (behind_term (codes "1 t-int [] : Int\n")) 3
+  pub of_a_longer_rule : IsBadLine (behind_term (codes "1 t-lits [] : Int\n")) 3
+  pub without_a_space : IsBadLine (behind_term (codes "1 t-lit[] : Int\n")) 3
+  pub without_a_space_behind_premises : IsBadLine (behind_term (codes "1 t-lit []: Int\n")) 3
+  pub without_brackets : IsBadLine (behind_term (codes "1 t-lit : Int\n")) 3
+  pub without_a_colon : IsBadLine (behind_term (codes "1 t-lit [] Int\n")) 3
+  pub with_a_space_behind : IsBadLine (behind_term (codes "1 t-lit [] : Int \n")) 3
+  pub with_a_zero_in_front : IsBadLine (behind_term (codes "01 t-lit [] : Int\n")) 3
+  pub of_sets_under_a_rule_of_typing : IsBadLine (behind_term (codes "1 t-lit [] {} <: {}\n")) 3
+  pub of_shapes_under_a_rule_of_sets : IsBadLine (behind_term (codes "1 set [] Int <: Int\n")) 3
+  pub of_terms_under_a_rule_of_shapes : IsBadLine (behind_term (codes "1 refl [] : Int\n")) 3
+  pub of_sets_under_a_rule_of_types : IsBadLine (behind_term (codes "1 capt [] {} <: {}\n")) 3
+  pub of_types_under_a_rule_of_shapes : IsBadLine (behind_term (codes "1 refl [] Int^{cap} <: Int^{cap}\n")) 3
+  pub of_shapes_in_parentheses : IsBadLine (behind_term (codes "1 refl [] ((_0: Int) -> Int) <: Int\n")) 3
   pub with_one_premise : NodesSay (codes "1 t-lit [] : Int\n2 t-lit [1] : Int\n") (codes "bad node 2")
-  pub with_two_premises : NodesSay (codes "1 t-lit [] : Int\n2 t-lit [] : Int\n3 t-lit [1 2] : Int\n") (codes "bad node 3")
-  pub with_premises_in_the_other_order : NodesSay (codes "1 t-lit [] : Int\n2 t-lit [] : Int\n3 t-lit [2 1] : Int\n") (codes "bad line 5")
-  pub with_the_first_of_two : NodesSay (codes "1 t-lit [] : Int\n2 t-lit [] : Int\n3 t-lit [1] : Int\n") (codes "bad line 5")
+  pub with_two_premises :
+      NodesSay (codes "1 t-lit [] : Int\n2 t-lit [] : Int\n3 t-lit [1 2] : Int\n") (codes "bad node 3")
+  pub with_premises_in_the_other_order :
+      IsBadLine (behind_term (codes "1 t-lit [] : Int\n2 t-lit [] : Int\n3 t-lit [2 1] : Int\n")) 5
+  pub with_the_first_of_two :
+      IsBadLine (behind_term (codes "1 t-lit [] : Int\n2 t-lit [] : Int\n3 t-lit [1] : Int\n")) 5
   -- the first one is a premise of the next node
-  pub with_the_last_of_two : NodesSay (codes "1 t-lit [] : Int\n2 t-lit [] : Int\n3 t-lit [2] : Int\n4 t-lit [1 3] : Int\n") (codes "bad node 4")
-  pub with_a_premise_twice : NodesSay (codes "1 t-lit [] : Int\n2 t-lit [1 1] : Int\n") (codes "bad line 4")
-  pub with_a_premise_of_two_nodes : NodesSay (codes "1 t-lit [] : Int\n2 t-lit [1] : Int\n3 t-lit [1] : Int\n") (codes "bad line 5")
-  pub with_itself : NodesSay (codes "1 t-lit [1] : Int\n") (codes "bad line 3")
-  pub with_a_later_one : NodesSay (codes "1 t-lit [2] : Int\n2 t-lit [] : Int\n") (codes "bad line 3")
-  pub with_two_spaces : NodesSay (codes "1 t-lit [] : Int\n2 t-lit [] : Int\n3 t-lit [1  2] : Int\n") (codes "bad line 5")
-  pub with_a_comma : NodesSay (codes "1 t-lit [] : Int\n2 t-lit [] : Int\n3 t-lit [1, 2] : Int\n") (codes "bad line 5")
-  pub with_a_space_in_brackets : NodesSay (codes "1 t-lit [ ] : Int\n") (codes "bad line 3")
-  pub with_a_zero_before_a_premise : NodesSay (codes "1 t-lit [] : Int\n2 t-lit [01] : Int\n") (codes "bad line 4")
-  pub unused : NodesSay (codes "1 t-lit [] : Int\n2 t-lit [] : Int\n") (codes "bad line 5")
-  pub unused_in_front : NodesSay (codes "1 t-lit [] : Int\n2 t-lit [] : Int\n3 t-lit [2] : Int\n") (codes "bad line 6")
-  pub below_without_spaces : NodesSay (codes "1 refl [] Int<:Int\n") (codes "bad line 3")
-  pub below_nothing : NodesSay (codes "1 refl [] Int <: \n") (codes "bad line 3")
-  pub sets_without_a_brace : NodesSay (codes "1 elem [] {} <: cap\n") (codes "bad line 3")
-  pub of_an_omitted_set : NodesSay (codes "1 t-lit [] : Int^{?}\n") (codes "bad line 3")
-  pub of_binders_of_one_number : NodesSay (codes "1 refl [] (_3: Int) -> Int <: (_3: Int) -> Int\n") (codes "bad node 1")
-  pub of_binders_of_two_numbers : NodesSay (codes "1 refl [] (_3: Int) -> Int <: (_4: Int) -> Int\n") (codes "bad line 3")
+  pub with_the_last_of_two :
+      NodesSay (codes "1 t-lit [] : Int\n2 t-lit [] : Int\n3 t-lit [2] : Int\n4 t-lit [1 3] : Int\n")
+      (codes "bad node 4")
+  pub with_a_premise_twice : IsBadLine (behind_term (codes "1 t-lit [] : Int\n2 t-lit [1 1] : Int\n")) 4
+  pub with_a_premise_of_two_nodes :
+      IsBadLine (behind_term (codes "1 t-lit [] : Int\n2 t-lit [1] : Int\n3 t-lit [1] : Int\n")) 5
+  pub with_itself : IsBadLine (behind_term (codes "1 t-lit [1] : Int\n")) 3
+  pub with_a_later_one : IsBadLine (behind_term (codes "1 t-lit [2] : Int\n2 t-lit [] : Int\n")) 3
+  pub with_two_spaces : IsBadLine (behind_term (codes "1 t-lit [] : Int\n2 t-lit [] : Int\n3 t-lit [1  2] : Int\n")) 5
+  pub with_a_comma : IsBadLine (behind_term (codes "1 t-lit [] : Int\n2 t-lit [] : Int\n3 t-lit [1, 2] : Int\n")) 5
+  pub with_a_space_in_brackets : IsBadLine (behind_term (codes "1 t-lit [ ] : Int\n")) 3
+  pub with_a_zero_before_a_premise : IsBadLine (behind_term (codes "1 t-lit [] : Int\n2 t-lit [01] : Int\n")) 4
+  pub unused : IsBadLine (behind_term (codes "1 t-lit [] : Int\n2 t-lit [] : Int\n")) 5
+  pub unused_in_front : IsBadLine (behind_term (codes "1 t-lit [] : Int\n2 t-lit [] : Int\n3 t-lit [2] : Int\n")) 6
+  pub below_without_spaces : IsBadLine (behind_term (codes "1 refl [] Int<:Int\n")) 3
+  pub below_nothing : IsBadLine (behind_term (codes "1 refl [] Int <: \n")) 3
+  pub sets_without_a_brace : IsBadLine (behind_term (codes "1 elem [] {} <: cap\n")) 3
+  pub of_an_omitted_set : IsBadLine (behind_term (codes "1 t-lit [] : Int^{?}\n")) 3
+  pub of_binders_of_one_number :
+      NodesSay (codes "1 refl [] (_3: Int) -> Int <: (_3: Int) -> Int\n") (codes "bad node 1")
+  pub of_binders_of_two_numbers : IsBadLine (behind_term (codes "1 refl [] (_3: Int) -> Int <: (_4: Int) -> Int\n")) 3
   pub of_a_binder_on_the_right_side : NodesSay (codes "1 refl [] Int <: Box[(_3: Int) -> Int]\n") (codes "bad node 1")
-  pub of_a_binder_in_an_exit : NodesSay (codes "1 refl [] Exit[(_3: Int) -> (_4: Int) -> Int] <: Int\n") (codes "bad node 1")
-  pub of_types_with_binders_of_two_numbers : NodesSay (codes "1 capt [] ((_3: Int) -> Int)^{cap} <: (_2: Int) -> Int\n") (codes "bad line 3")
-  pub of_binders_that_skip_a_number : NodesSay (codes "1 t-lit [] : (_0: Int) -> (_2: Int) -> Int\n") (codes "bad line 3")
-  pub of_binders_of_one_number_inside : NodesSay (codes "1 t-lit [] : (_0: Int) -> (_0: Int) -> Int\n") (codes "bad line 3")
-  pub of_a_shape_with_a_name : NodesSay (codes "1 refl [] _Tx <: Any\n") (codes "bad line 3")
+  pub of_a_binder_in_an_exit :
+      NodesSay (codes "1 refl [] Exit[(_3: Int) -> (_4: Int) -> Int] <: Int\n") (codes "bad node 1")
+  pub of_types_with_binders_of_two_numbers :
+      IsBadLine (behind_term (codes "1 capt [] ((_3: Int) -> Int)^{cap} <: (_2: Int) -> Int\n")) 3
+  pub of_binders_that_skip_a_number : IsBadLine (behind_term (codes "1 t-lit [] : (_0: Int) -> (_2: Int) -> Int\n")) 3
+  pub of_binders_of_one_number_inside : IsBadLine (behind_term (codes "1 t-lit [] : (_0: Int) -> (_0: Int) -> Int\n")) 3
+  pub of_a_shape_with_a_name : IsBadLine (behind_term (codes "1 refl [] _Tx <: Any\n")) 3

@@ -287,6 +287,29 @@ pub record FunctionsBelowFunctions : Type 0 where
       ++ codes "15 capt [3 14] ((_0: Int) -> Int^{_0})^{f} <: ((_0: Int^{x}) -> Int)^{f}\n"
       ++ codes "16 t-sub [1 15] : ((_0: Int^{x}) -> Int)^{f}\n")
       (codes "bad node 10")
+  -- what is taken does not stand under the parameter
+  pub that_take_functions :
+      Says (
+      codes "cert 1\nbind f: (_0: (_0: Int) -> Int) -> Int\nterm f\n"
+      ++ codes "1 t-var [] : ((_0: (_0: Int) -> Int) -> Int)^{f}\n2 elem [] {f} <: {f}\n"
+      ++ codes "3 set [2] {f} <: {f}\n4 set [] {} <: {}\n5 refl [] (_0: Int) -> Int <: (_0: Int) -> Int\n"
+      ++ codes "6 capt [4 5] (_0: Int) -> Int <: (_0: Int) -> Int\n7 set [] {} <: {}\n8 top [] Int <: Any\n"
+      ++ codes "9 capt [7 8] Int <: Any\n"
+      ++ codes "10 fun [6 9] (_0: (_0: Int) -> Int) -> Int <: (_0: (_0: Int) -> Int) -> Any\n"
+      ++ codes "11 capt [3 10] ((_0: (_0: Int) -> Int) -> Int)^{f} <: ((_0: (_0: Int) -> Int) -> Any)^{f}\n"
+      ++ codes "12 t-sub [1 11] : ((_0: (_0: Int) -> Int) -> Any)^{f}\n")
+      (codes "valid ((_0: (_0: Int) -> Int) -> Any)^{f}")
+  -- what is given stands under the parameter
+  pub that_give_functions :
+      Says (
+      codes "cert 1\nbind f: (_0: Int) -> (_1: Int) -> Int\nterm f\n"
+      ++ codes "1 t-var [] : ((_0: Int) -> (_1: Int) -> Int)^{f}\n2 elem [] {f} <: {f}\n"
+      ++ codes "3 set [2] {f} <: {f}\n4 set [] {} <: {}\n5 refl [] Int <: Int\n6 capt [4 5] Int <: Int\n"
+      ++ codes "7 set [] {} <: {}\n8 top [] (_1: Int) -> Int <: Any\n9 capt [7 8] (_1: Int) -> Int <: Any\n"
+      ++ codes "10 fun [6 9] (_0: Int) -> (_1: Int) -> Int <: (_0: Int) -> Any\n"
+      ++ codes "11 capt [3 10] ((_0: Int) -> (_1: Int) -> Int)^{f} <: ((_0: Int) -> Any)^{f}\n"
+      ++ codes "12 t-sub [1 11] : ((_0: Int) -> Any)^{f}\n")
+      (codes "valid ((_0: Int) -> Any)^{f}")
   pub with_another_set_of_the_parameter :
       Says (
       codes "cert 1\nbind x: Int\nbind f: (_0: Int) -> Int\nterm f\n1 t-var [] : ((_0: Int) -> Int)^{f}\n"
@@ -319,6 +342,27 @@ pub record TypeFunctionsAndBoxes : Type 0 where
       ++ codes "9 capt [3 8] ([_T0 <: Int] -> _T0)^{f} <: ([_T0 <: Int] -> Int)^{f}\n"
       ++ codes "10 t-sub [1 9] : ([_T0 <: Int] -> Int)^{f}\n")
       (codes "valid ([_T0 <: Int] -> Int)^{f}")
+  -- the bound does not stand under the type variable
+  pub type_functions_with_bounds_of_functions :
+      Says (
+      codes "cert 1\nbind f: [_T0 <: (_0: Int) -> Int] -> Int\nterm f\n"
+      ++ codes "1 t-var [] : ([_T0 <: (_0: Int) -> Int] -> Int)^{f}\n2 elem [] {f} <: {f}\n"
+      ++ codes "3 set [2] {f} <: {f}\n4 refl [] (_0: Int) -> Int <: (_0: Int) -> Int\n5 set [] {} <: {}\n"
+      ++ codes "6 top [] Int <: Any\n7 capt [5 6] Int <: Any\n"
+      ++ codes "8 tfun [4 7] [_T0 <: (_0: Int) -> Int] -> Int <: [_T0 <: (_0: Int) -> Int] -> Any\n"
+      ++ codes "9 capt [3 8] ([_T0 <: (_0: Int) -> Int] -> Int)^{f} <: ([_T0 <: (_0: Int) -> Int] "
+      ++ codes "-> Any)^{f}\n10 t-sub [1 9] : ([_T0 <: (_0: Int) -> Int] -> Any)^{f}\n")
+      (codes "valid ([_T0 <: (_0: Int) -> Int] -> Any)^{f}")
+  pub type_functions_that_give_functions :
+      Says (
+      codes "cert 1\nbind f: [_T0 <: Int] -> (_1: Int) -> Int\nterm f\n"
+      ++ codes "1 t-var [] : ([_T0 <: Int] -> (_1: Int) -> Int)^{f}\n2 elem [] {f} <: {f}\n"
+      ++ codes "3 set [2] {f} <: {f}\n4 refl [] Int <: Int\n5 set [] {} <: {}\n"
+      ++ codes "6 top [] (_1: Int) -> Int <: Any\n7 capt [5 6] (_1: Int) -> Int <: Any\n"
+      ++ codes "8 tfun [4 7] [_T0 <: Int] -> (_1: Int) -> Int <: [_T0 <: Int] -> Any\n"
+      ++ codes "9 capt [3 8] ([_T0 <: Int] -> (_1: Int) -> Int)^{f} <: ([_T0 <: Int] -> Any)^{f}\n"
+      ++ codes "10 t-sub [1 9] : ([_T0 <: Int] -> Any)^{f}\n")
+      (codes "valid ([_T0 <: Int] -> Any)^{f}")
   -- no place follows for what stands above
   pub type_functions_of_two_bounds :
       Says (

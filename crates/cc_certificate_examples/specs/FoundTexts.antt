@@ -1,6 +1,7 @@
 -- What is said of bytes as a certificate, and of texts as parts of its lines.
 use Rattle.std.specs.Prelude.{◌≡◌, ℕ, List, ◌++◌, codes}
-use Rattle.cc_certificate_judging.specs.Answers.{Found, HasBadLine, HasBadNode, IsFound, found_text}
+use Rattle.cc_certificate_text.specs.Certificates.{IsBadLine}
+use Rattle.cc_certificate_judging.specs.Answers.{Found, HasBadNode, IsFound, found_text}
 
 -- This is written of what is found of the bytes.
 abbrev pub Says : List ℕ → List ℕ → Type 0
@@ -22,7 +23,7 @@ abbrev pub IsTerm : List ℕ → Type 0
 IsTerm text = IsFound (around_term text) (HasBadNode 1)
 
 abbrev pub IsNoTerm : List ℕ → Type 0
-IsNoTerm text = IsFound (around_term text) (HasBadLine 4)
+IsNoTerm text = IsBadLine (around_term text) 4
 
 -- The text is that of the type of a bind behind a number `x`, or its line is bad.
 abbrev pub around_type : List ℕ → List ℕ
@@ -32,7 +33,7 @@ abbrev pub IsType : List ℕ → Type 0
 IsType text = IsFound (around_type text) (HasBadNode 1)
 
 abbrev pub IsNoType : List ℕ → Type 0
-IsNoType text = IsFound (around_type text) (HasBadLine 3)
+IsNoType text = IsBadLine (around_type text) 3
 
 -- The text is that of the elements of a set in a node, behind binds of `b` and then of `a`, or its line is bad.
 abbrev pub around_set : List ℕ → List ℕ
@@ -42,4 +43,4 @@ abbrev pub IsSet : List ℕ → Type 0
 IsSet text = IsFound (around_set text) (HasBadNode 1)
 
 abbrev pub IsNoSet : List ℕ → Type 0
-IsNoSet text = IsFound (around_set text) (HasBadLine 5)
+IsNoSet text = IsBadLine (around_set text) 5

@@ -189,12 +189,15 @@ over premises = node t-lit premises None (OfType plain)
 -- unused ones that are its premises.
 pub record StagesOfLines : Type 0 where
   pub opened : behind_line Start Opens ≡ Binding [] []
-  pub bound : behind_line (Binding [] []) (Binds (codes "a") plain) ≡ Binding (codes "a" ∷ []) (TermEntry number empty ∷ [])
+  pub bound :
+      behind_line (Binding [] []) (Binds (codes "a") plain) ≡ Binding (codes "a" ∷ []) (TermEntry number empty ∷ [])
   -- names are in order, and a context has the newest first
   pub bound_twice :
-      behind_line (Binding (codes "a" ∷ []) (TermEntry number empty ∷ [])) (Binds (codes "b") (capturing AnyShape empty))
+      behind_line (Binding (codes "a" ∷ []) (TermEntry number empty ∷ []))
+      (Binds (codes "b") (capturing AnyShape empty))
       ≡ Binding (codes "a" ∷ codes "b" ∷ []) (TermEntry AnyShape empty ∷ TermEntry number empty ∷ [])
-  pub stated : behind_line (Binding (codes "a" ∷ []) (TermEntry number empty ∷ [])) (States one) ≡ Proving (codes "a" ∷ []) 0 []
+  pub stated :
+      behind_line (Binding (codes "a" ∷ []) (TermEntry number empty ∷ [])) (States one) ≡ Proving (codes "a" ∷ []) 0 []
   pub concluded : behind_line (Proving [] 0 []) leaf ≡ Proving [] 1 (1 ∷ [])
   pub concluded_beside : behind_line (Proving [] 1 (1 ∷ [])) leaf ≡ Proving [] 2 (1 ∷ 2 ∷ [])
   pub concluded_over_one : behind_line (Proving [] 2 (1 ∷ 2 ∷ [])) (over (2 ∷ [])) ≡ Proving [] 3 (1 ∷ 3 ∷ [])
@@ -213,21 +216,27 @@ pub record StagesOfLines : Type 0 where
 -- The text of a line depends on the names that stand before it, and on the number of the next node.
 pub record TextsOfLines : Type 0 where
   pub opening : line_text Start Opens ≡ codes "cert 1"
-  pub bind : line_text (Binding (codes "x" ∷ []) []) (Binds (codes "y") (capturing number (single (Variable (Free 0))))) ≡ codes "bind y: Int^{x}"
+  pub bind :
+      line_text (Binding (codes "x" ∷ []) []) (Binds (codes "y") (capturing number (single (Variable (Free 0)))))
+      ≡ codes "bind y: Int^{x}"
   pub statement : line_text (Binding (codes "x" ∷ []) []) (States (BoxTerm (Free 0))) ≡ codes "term box x"
   pub premises :
-      line_text (Proving (codes "x" ∷ []) 2 (1 ∷ 2 ∷ [])) (node t-lit (1 ∷ 2 ∷ []) None (OfType (capturing number (single (Variable (Free 0))))))
+      line_text (Proving (codes "x" ∷ []) 2 (1 ∷ 2 ∷ []))
+      (node t-lit (1 ∷ 2 ∷ []) None (OfType (capturing number (single (Variable (Free 0))))))
       ≡ codes "3 t-lit [1 2] : Int^{x}"
   -- binders are written with the number of the node, and local variables with their own
   pub binders :
       line_text (Proving [] 0 [])
-      (node t-lit [] (Some 7) (OfType (capturing (FunctionShape number (single (Variable (Bound 2))) number (single (Variable (Bound 7)))) empty)))
+      (node t-lit [] (Some 7) (OfType (capturing
+      (FunctionShape number (single (Variable (Bound 2))) number (single (Variable (Bound 7)))) empty)))
       ≡ codes "1 t-lit [] : (_7: Int^{_2}) -> Int^{_7}"
   pub types_below :
       line_text (Proving [] 0 []) (node ByCapturing [] None (TypeBelow (capturing number (single Cap)) plain))
       ≡ codes "1 capt [] Int^{cap} <: Int"
-  pub shapes_below : line_text (Proving [] 0 []) (node ByTop [] None (ShapeBelow number AnyShape)) ≡ codes "1 top [] Int <: Any"
-  pub sets_below : line_text (Proving [] 0 []) (node BySet [] None (SetBelow empty (single Cap))) ≡ codes "1 set [] {} <: {cap}"
+  pub shapes_below :
+      line_text (Proving [] 0 []) (node ByTop [] None (ShapeBelow number AnyShape)) ≡ codes "1 top [] Int <: Any"
+  pub sets_below :
+      line_text (Proving [] 0 []) (node BySet [] None (SetBelow empty (single Cap))) ≡ codes "1 set [] {} <: {cap}"
 
 -- WHAT FITS
 
@@ -270,12 +279,18 @@ pub record NodesThatFit : Type 0 where
   pub last : Fits (Proving [] 99999 (99999 ∷ [])) leaf
   pub one_more : Fits (Proving [] 100000 (100000 ∷ [])) leaf → ⊥
   pub of_another_kind : Fits (Proving [] 0 []) (node t-lit [] None (SetBelow empty empty)) → ⊥
-  pub of_no_name : Fits (Proving [] 0 []) (node t-lit [] None (OfType (capturing number (single (Variable (Free 0)))))) → ⊥
-  pub with_binders : Fits (Proving [] 0 []) (node t-lit [] (Some 7) (OfType (capturing (FunctionShape number empty number empty) empty)))
-  pub without_their_number : Fits (Proving [] 0 []) (node t-lit [] None (OfType (capturing (FunctionShape number empty number empty) empty))) → ⊥
+  pub of_no_name :
+      Fits (Proving [] 0 []) (node t-lit [] None (OfType (capturing number (single (Variable (Free 0)))))) → ⊥
+  pub with_binders :
+      Fits (Proving [] 0 []) (node t-lit [] (Some 7) (OfType
+      (capturing (FunctionShape number empty number empty) empty)))
+  pub without_their_number :
+      Fits (Proving [] 0 []) (node t-lit [] None (OfType (capturing (FunctionShape number empty number empty) empty)))
+      → ⊥
   pub with_a_number_for_none : Fits (Proving [] 0 []) (node t-lit [] (Some 7) (OfType plain)) → ⊥
   pub with_a_great_number :
-      Fits (Proving [] 0 []) (node t-lit [] (Some 4294967296) (OfType (capturing (FunctionShape number empty number empty) empty)))
+      Fits (Proving [] 0 []) (node t-lit [] (Some 4294967296)
+      (OfType (capturing (FunctionShape number empty number empty) empty)))
       → ⊥
   pub high : Fits (Proving [] 0 []) (node t-lit [] None (OfType (capturing (boxed 4999) empty)))
   pub higher : Fits (Proving [] 0 []) (node t-lit [] None (OfType (capturing (boxed 5000) empty))) → ⊥

@@ -84,12 +84,14 @@ pub record NamesInShapes : Type 0 where
   pub greater_variable : MayStand 0 (TypeVariable (Bound 4294967296)) → ⊥
   -- names are those of variables of terms
   pub name_of_a_term : MayStand 0 (TypeVariable (Free 1)) → ⊥
-  pub parts_of_a_function : MayStand 0 (FunctionShape (TypeVariable (Bound 9)) (local 9) (TypeVariable (Bound 9)) (local 9))
+  pub parts_of_a_function :
+      MayStand 0 (FunctionShape (TypeVariable (Bound 9)) (local 9) (TypeVariable (Bound 9)) (local 9))
   pub parameter : MayStand 0 (FunctionShape (TypeVariable (Bound 4294967296)) empty number empty) → ⊥
   pub set_of_a_parameter : MayStand 0 (FunctionShape number (position 2) number empty) → ⊥
   pub result : MayStand 0 (FunctionShape number empty (TypeVariable (Bound 4294967296)) empty) → ⊥
   pub set_of_a_result : MayStand 0 (FunctionShape number empty number (position 2)) → ⊥
-  pub parts_of_a_type_function : MayStand 0 (TypeFunctionShape (TypeVariable (Bound 9)) (TypeVariable (Bound 9)) (local 9))
+  pub parts_of_a_type_function :
+      MayStand 0 (TypeFunctionShape (TypeVariable (Bound 9)) (TypeVariable (Bound 9)) (local 9))
   pub bound : MayStand 0 (TypeFunctionShape (TypeVariable (Bound 4294967296)) number empty) → ⊥
   pub result_of_a_type_function : MayStand 0 (TypeFunctionShape number (TypeVariable (Bound 4294967296)) empty) → ⊥
   pub set_of_a_result_of_a_type_function : MayStand 0 (TypeFunctionShape number number (position 2)) → ⊥
@@ -128,9 +130,11 @@ pub record NamesInClaims : Type 0 where
   pub left_shape : IsNamedClaim 2 4294967296 (ShapeBelow function number) → ⊥
   pub right_shape : IsNamedClaim 2 4294967296 (ShapeBelow number function) → ⊥
   pub types : IsNamedClaim 2 4294967295 (TypeBelow (capturing function (local 7)) (capturing function (position 1)))
-  pub shape_of_a_left_type : IsNamedClaim 2 4294967296 (TypeBelow (capturing function empty) (capturing number empty)) → ⊥
+  pub shape_of_a_left_type :
+      IsNamedClaim 2 4294967296 (TypeBelow (capturing function empty) (capturing number empty)) → ⊥
   pub set_of_a_left_type : IsNamedClaim 2 0 (TypeBelow (capturing number (position 2)) (capturing number empty)) → ⊥
-  pub shape_of_a_right_type : IsNamedClaim 2 4294967296 (TypeBelow (capturing number empty) (capturing function empty)) → ⊥
+  pub shape_of_a_right_type :
+      IsNamedClaim 2 4294967296 (TypeBelow (capturing number empty) (capturing function empty)) → ⊥
   pub set_of_a_right_type : IsNamedClaim 2 0 (TypeBelow (capturing number empty) (capturing number (position 2))) → ⊥
   pub type_of_a_term : IsNamedClaim 2 4294967295 (OfType (capturing function (local 7)))
   pub shape_of_a_term : IsNamedClaim 2 4294967296 (OfType (capturing function empty)) → ⊥

@@ -1,6 +1,7 @@
 -- Certificates with what is found of them by the places of their nodes: which names may stand there, and which
 -- numbers binders have.
 use Rattle.std.specs.Prelude.{codes, ◌++◌}
+use Rattle.cc_certificate_text.specs.Certificates.{IsBadLine}
 use Rattle.cc_certificate_examples.specs.FoundTexts.{Says}
 
 -- On both sides of a claim each name has its binder. A node in which one has none breaks its rule, and the nodes
@@ -235,36 +236,25 @@ pub record NumbersOfBinders : Type 0 where
   pub greatest :
       Says (codes "cert 1\nterm unit\n1 t-lit [] : (_4294967295: Unit) -> Unit\n")
       (codes "bad node 1")
-  pub greater :
-      Says (codes "cert 1\nterm unit\n1 t-lit [] : (_4294967296: Unit) -> Unit\n")
-      (codes "bad line 3")
+  pub greater : IsBadLine (codes "cert 1\nterm unit\n1 t-lit [] : (_4294967296: Unit) -> Unit\n") 3
   pub greatest_inside :
       Says (codes "cert 1\nterm unit\n1 t-lit [] : (_4294967294: Unit) -> (_4294967295: Unit) -> Unit\n")
       (codes "bad node 1")
   pub greater_inside :
-      Says (codes "cert 1\nterm unit\n1 t-lit [] : (_4294967295: Unit) -> (_4294967296: Unit) -> Unit\n")
-      (codes "bad line 3")
+      IsBadLine (codes "cert 1\nterm unit\n1 t-lit [] : (_4294967295: Unit) -> (_4294967296: Unit) -> Unit\n") 3
   pub greatest_of_a_type_function :
       Says (codes "cert 1\nterm unit\n1 t-lit [] : [_T4294967295 <: Any] -> Unit\n")
       (codes "bad node 1")
-  pub greater_of_a_type_function :
-      Says (codes "cert 1\nterm unit\n1 t-lit [] : [_T4294967296 <: Any] -> Unit\n")
-      (codes "bad line 3")
+  pub greater_of_a_type_function : IsBadLine (codes "cert 1\nterm unit\n1 t-lit [] : [_T4294967296 <: Any] -> Unit\n") 3
   pub greatest_type_variable :
       Says (codes "cert 1\nterm unit\n1 t-lit [] : _T4294967295\n")
       (codes "bad node 1")
-  pub greater_type_variable :
-      Says (codes "cert 1\nterm unit\n1 t-lit [] : _T4294967296\n")
-      (codes "bad line 3")
+  pub greater_type_variable : IsBadLine (codes "cert 1\nterm unit\n1 t-lit [] : _T4294967296\n") 3
   pub greatest_on_a_right_side :
       Says (codes "cert 1\nterm unit\n1 refl [] Unit <: (_4294967295: Unit) -> Unit\n")
       (codes "bad node 1")
-  pub greater_on_a_right_side :
-      Says (codes "cert 1\nterm unit\n1 refl [] Unit <: (_4294967296: Unit) -> Unit\n")
-      (codes "bad line 3")
-  pub greater_in_sets :
-      Says (codes "cert 1\nterm unit\n1 elem [] {} <: {_4294967296}\n")
-      (codes "bad line 3")
+  pub greater_on_a_right_side : IsBadLine (codes "cert 1\nterm unit\n1 refl [] Unit <: (_4294967296: Unit) -> Unit\n") 3
+  pub greater_in_sets : IsBadLine (codes "cert 1\nterm unit\n1 elem [] {} <: {_4294967296}\n") 3
   pub greatest_in_sets :
       Says (codes "cert 1\nterm unit\n1 elem [] {_4294967295} <: {_4294967295}\n")
       (codes "bad node 1")
@@ -302,11 +292,9 @@ pub record PlacesOfPremises : Type 0 where
   pub premises_are_too_many :
       Says (codes "cert 1\nterm 1\n1 t-lit [] : Bool\n2 t-lit [1] : Int\n")
       (codes "bad node 2")
-  pub two_widenings_of_one_term :
-      Says (
+  pub two_widenings_of_one_term : IsBadLine (
       codes "cert 1\nterm 1\n1 t-lit [] : Int\n2 set [] {} <: {}\n3 top [] Int <: Any\n"
-      ++ codes "4 capt [2 3] Int <: Any\n5 t-sub [4 1] : Any\n")
-      (codes "bad line 7")
+      ++ codes "4 capt [2 3] Int <: Any\n5 t-sub [4 1] : Any\n") 7
   pub premises_of_a_widening_in_the_other_order :
       Says (
       codes "cert 1\nterm 1\n1 set [] {} <: {}\n2 top [] Int <: Any\n3 capt [1 2] Int <: Any\n"

@@ -248,6 +248,12 @@ pub record Lets : Type 0 where
       ++ codes "7 refl [] Int <: Int\n8 capt [6 7] Int^{_0} <: Int^{x}\n9 t-sub [2 8] : Int^{x}\n"
       ++ codes "10 t-let [1 9] : Int^{x}\n")
       (codes "valid Int^{x}")
+  -- its binder does not stand under the variable
+  pub whose_right_side_is_a_function :
+      Says (
+      codes "cert 1\nterm let _0 = fun (_0: Int) => 1 in 2\n1 t-lit [] : Int\n"
+      ++ codes "2 t-abs [1] : (_0: Int) -> Int\n3 t-lit [] : Int\n4 t-let [2 3] : Int\n")
+      (codes "valid Int")
   pub that_names_its_variable :
       Says (
       codes "cert 1\nterm let _0 = 1 in _0\n1 t-lit [] : Int\n2 t-var [] : Int^{_0}\n"
