@@ -48,6 +48,7 @@ canonical_shapes_by_form = record {
   functions_in_a_function = refl;
   functions_that_take_functions = refl;
   type_functions_with_bounds_of_functions = refl;
+  type_functions_that_give_functions = refl;
   type_functions = refl;
   type_functions_of_two_bounds = refl;
   boxes = refl;
@@ -114,6 +115,7 @@ canonical_boxes_and_boundaries = record {
   unboxing_under_a_greater_set = refl;
   unboxing_of_a_type_variable = refl;
   boundary = refl;
+  boundary_of_a_function = refl;
   exit = refl;
   exit_of_a_type_variable = refl;
 }

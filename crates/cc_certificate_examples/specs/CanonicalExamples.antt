@@ -268,6 +268,14 @@ pub record CanonicalShapes : Type 0 where
       codes "3 top [] Int <: Any" ∷
       codes "4 capt [2 3] Int <: Any" ∷
       codes "5 tfun [1 4] [_T0 <: (_0: Int) -> Int] -> Int <: [_T0 <: (_0: Int) -> Int] -> Any" ∷ [])
+  -- what is given stands under the type variable
+  pub type_functions_that_give_functions :
+      ComparesShapes [] (TypeFunctionShape number function empty) (TypeFunctionShape number AnyShape empty) (
+      codes "1 refl [] Int <: Int" ∷
+      codes "2 set [] {} <: {}" ∷
+      codes "3 top [] (_1: Int) -> Int <: Any" ∷
+      codes "4 capt [2 3] (_1: Int) -> Int <: Any" ∷
+      codes "5 tfun [1 4] [_T0 <: Int] -> (_1: Int) -> Int <: [_T0 <: Int] -> Any" ∷ [])
   pub type_functions :
       ComparesShapes [] (TypeFunctionShape number (TypeVariable (Bound 0)) (position 0))
       (TypeFunctionShape number number (single Cap)) (
@@ -749,6 +757,16 @@ pub record CanonicalBoxesAndBoundaries : Type 0 where
       codes "4 capt [2 3] Int <: Int" ∷
       codes "5 t-sub [1 4] : Int" ∷
       codes "6 t-boundary [5] : Int" ∷ [])
+  -- its body stands under the exit
+  pub boundary_of_a_function :
+      Derives Absent (Boundary function (FunctionTerm number empty one)) (capturing function empty) (
+      codes "1 t-lit [] : Int" ∷
+      codes "2 t-abs [1] : (_1: Int) -> Int" ∷
+      codes "3 set [] {} <: {}" ∷
+      codes "4 refl [] (_1: Int) -> Int <: (_1: Int) -> Int" ∷
+      codes "5 capt [3 4] (_1: Int) -> Int <: (_1: Int) -> Int" ∷
+      codes "6 t-sub [2 5] : (_1: Int) -> Int" ∷
+      codes "7 t-boundary [6] : (_0: Int) -> Int" ∷ [])
   pub exit :
       Derives Absent (Boundary truth (Leave truth empty (Bound 0) (Free 3))) (capturing truth empty) (
       codes "1 t-var [] : Exit[Bool]^{_0}" ∷

@@ -1,7 +1,8 @@
 -- What fits as a line of a certificate, and what does not.
 use Rattle.std.specs.Prelude.{codes, ◌++◌, encode_utf8_all}
 use Rattle.cc_certificate_text.specs.Certificates.{IsBadLine}
-use Rattle.cc_certificate_examples.specs.FoundTexts.{Says, behind_term, IsTerm, IsNoTerm, IsType, IsNoType, IsSet, IsNoSet, NodesSay}
+use Rattle.cc_certificate_examples.specs.FoundTexts.{Says, behind_term, IsTerm, IsNoTerm, IsType, IsNoType, IsSet}
+use Rattle.cc_certificate_examples.specs.FoundTexts.{IsNoSet, NodesSay}
 
 -- A certificate begins with its form, then come its binds, one term, and nodes.
 pub record FirstLines : Type 0 where

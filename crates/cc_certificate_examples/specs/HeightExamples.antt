@@ -59,8 +59,8 @@ pub record HeightsOfNotes : Type 0 where
   pub boxes : note_height (Written boxed_twice empty) ≡ 3
   pub omitted_set : note_height (Own boxed_twice) ≡ 3
 
--- A variable and a literal have the height 1, and any other term is one higher than its highest part, be it a variable, a
--- term, a type or a shape.
+-- A variable and a literal have the height 1, and any other term is one higher than its highest part, be it a
+-- variable, a term, a type or a shape.
 pub record HeightsOfTerms : Type 0 where
   pub bound_variable : term_height (VariableTerm (Bound 3)) ≡ 1
   pub free_variable : term_height (VariableTerm (Free 3)) ≡ 1

@@ -1,5 +1,6 @@
 -- Worked lines: what fits at each stage and what does not, how far lines come, and what may be written in a term.
-use Rattle.std.specs.Prelude.{◌≡◌, ℕ, zero, suc, true, false, List, [], ◌∷◌, Option, Some, None, pos, negsuc, codes, replicate}
+use Rattle.std.specs.Prelude.{◌≡◌, ℕ, zero, suc, true, false, List, [], ◌∷◌, Option, Some, None, pos, negsuc, codes}
+use Rattle.std.specs.Prelude.{replicate}
 use Rattle.cc_base.specs.Literals.{UnitLiteral, TruthLiteral, NumberLiteral, TextLiteral}
 use Rattle.cc_base.specs.declared.literal.Base.TheVariants as bases
 use Rattle.cc_base.specs.declared.literal.Op.TheVariants as operations
@@ -14,13 +15,16 @@ use Rattle.cc_core.specs.Terms.{Absent, Written, Own, Term, VariableTerm, Litera
 use Rattle.cc_core.specs.Terms.{TypeFunctionTerm, BoxTerm, Application, TypeApplication, Unboxing, Let, Primitive}
 use Rattle.cc_core.specs.Terms.{Conditional, Repetition, Operation, Boundary, Leave}
 use Rattle.cc_core.specs.Derivations.{Rule, ByElement, ByVariable, BySet, ByReflexivity, ByTransitivity, ByTypeVariable}
-use Rattle.cc_core.specs.Derivations.{ByTop, ByFunction, ByTypeFunction, ByBox, ByCapturing, t-var, t-lit, t-abs, t-tabs}
+use Rattle.cc_core.specs.Derivations.{ByTop, ByFunction, ByTypeFunction, ByBox, ByCapturing, t-var, t-lit, t-abs}
+use Rattle.cc_core.specs.Derivations.{t-tabs}
 use Rattle.cc_core.specs.Derivations.{t-app, t-tapp, t-box, t-unbox, t-let, t-prim, t-if, t-repeat, t-op, t-boundary}
 use Rattle.cc_core.specs.Derivations.{t-exit, t-sub, Claim, SetBelow, ShapeBelow, TypeBelow, OfType}
 use Rattle.cc_certificate_text.specs.Certificates.{Line, Opens, Binds, States, Concludes, Start}
 use Rattle.cc_certificate_text.specs.Certificates.{Binding, Proving, names_at, next_number, behind_line, binder_number}
-use Rattle.cc_certificate_text.specs.Certificates.{line_text, IsWrittenLiteral, IsWrittenNote, IsOptionalNote, IsWrittenSet}
-use Rattle.cc_certificate_text.specs.Certificates.{takes_argument, IsWritten, OfSets, OfShapes, OfTypes, OfTerms, claim_kind}
+use Rattle.cc_certificate_text.specs.Certificates.{line_text, IsWrittenLiteral, IsWrittenNote, IsOptionalNote}
+use Rattle.cc_certificate_text.specs.Certificates.{IsWrittenSet}
+use Rattle.cc_certificate_text.specs.Certificates.{takes_argument, IsWritten, OfSets, OfShapes, OfTypes, OfTerms}
+use Rattle.cc_certificate_text.specs.Certificates.{claim_kind}
 use Rattle.cc_certificate_text.specs.Certificates.{rule_kind, Fits, IsWhole}
 
 abbrev pub number : Shape
@@ -44,8 +48,8 @@ boxed (suc count) = BoxShape (boxed count) empty
 
 -- WHAT IS WRITTEN IN A TERM
 
--- Literals are those of the grammar: no number is negative, each is below 2^63, and a text has at most 200 characters that
--- may stand in a string.
+-- Literals are those of the grammar: no number is negative, each is below 2^63, and a text has at most 200 characters
+-- that may stand in a string.
 pub record WrittenLiterals : Type 0 where
   pub unit_value : IsWrittenLiteral UnitLiteral
   pub truth : IsWrittenLiteral (TruthLiteral true)
@@ -185,8 +189,8 @@ leaf = node t-lit [] None (OfType plain)
 abbrev pub over : List ℕ → Line
 over premises = node t-lit premises None (OfType plain)
 
--- Lines come from the first line to binds, from those to the term, and from there to nodes, each of which takes the last
--- unused ones that are its premises.
+-- Lines come from the first line to binds, from those to the term, and from there to nodes, each of which takes the
+-- last unused ones that are its premises.
 pub record StagesOfLines : Type 0 where
   pub opened : behind_line Start Opens ≡ Binding [] []
   pub bound :
@@ -272,8 +276,8 @@ pub record TermsThatFit : Type 0 where
   pub high : Fits (Binding [] []) (States (FunctionTerm (boxed 4998) empty one))
   pub higher : Fits (Binding [] []) (States (FunctionTerm (boxed 4999) empty one)) → ⊥
 
--- A node is one of 100,000, has a claim of its rule's kind, a number of binders where it has some, sides that are at most
--- 5,000 high, and as premises the last unused nodes in their order.
+-- A node is one of 100,000, has a claim of its rule's kind, a number of binders where it has some, sides that are at
+-- most 5,000 high, and as premises the last unused nodes in their order.
 pub record NodesThatFit : Type 0 where
   pub first : Fits (Proving [] 0 []) leaf
   pub last : Fits (Proving [] 99999 (99999 ∷ [])) leaf

@@ -61,7 +61,8 @@ pub record PlacedClaims : Type 0 where
       placed_claim 2 (OfType (capturing (TypeVariable (Bound 0)) (local 1)))
       ≡ OfType (capturing (TypeVariable (Free 2)) (position 3))
 
--- In sets of claims stand those of two names, local variables whose numbers are below 2^32, and the universal capability.
+-- In sets of claims stand those of two names, local variables whose numbers are below 2^32, and the universal
+-- capability.
 pub record NamesInSets : Type 0 where
   pub nothing : IsNamedSet (IsLocalNumber 0) 2 empty
   pub name : IsNamedSet (IsLocalNumber 0) 2 (position 1)
@@ -101,8 +102,8 @@ pub record NamesInShapes : Type 0 where
   pub part_of_an_exit : MayStand 0 (ExitShape (TypeVariable (Bound 9)))
   pub exit : MayStand 0 (ExitShape (TypeVariable (Bound 4294967296))) → ⊥
 
--- The number of each binder is below 2^32; it is one more where the binder stands in what another one gives, and nowhere
--- else.
+-- The number of each binder is below 2^32; it is one more where the binder stands in what another one gives, and
+-- nowhere else.
 pub record NumbersOfBinders : Type 0 where
   pub greatest : MayStand 4294967295 function
   pub greater : MayStand 4294967296 function → ⊥
@@ -140,7 +141,8 @@ pub record NamesInClaims : Type 0 where
   pub shape_of_a_term : IsNamedClaim 2 4294967296 (OfType (capturing function empty)) → ⊥
   pub set_of_a_term : IsNamedClaim 2 0 (OfType (capturing number (position 2))) → ⊥
 
--- A function and a type function have a binder; a box and an exit have those of what is inside; on both sides of a claim.
+-- A function and a type function have a binder; a box and an exit have those of what is inside; on both sides of a
+-- claim.
 pub record BindersInClaims : Type 0 where
   pub base : has_binder number ≡ false
   pub greatest : has_binder AnyShape ≡ false

@@ -1,5 +1,5 @@
--- Derivations in which a condition of a rule alone does not hold, where no certificate can have them: terms and types of
--- the calculus that are not well formed, or that are not written. Each row has the numbers of the broken nodes.
+-- Derivations in which a condition of a rule alone does not hold, where no certificate can have them: terms and types
+-- of the calculus that are not well formed, or that are not written. Each row has the numbers of the broken nodes.
 use Rattle.std.specs.Prelude.{◌≡◌, ℕ, List, [], ◌∷◌, Some, None, pos}
 use Rattle.cc_base.specs.Literals.{NumberLiteral}
 use Rattle.cc_base.specs.declared.literal.Base.TheVariants as bases
@@ -9,8 +9,10 @@ use Rattle.cc_capture.specs.Sets.{Set, empty}
 use Rattle.cc_core.specs.Captured.{variable_set}
 use Rattle.cc_core.specs.Contexts.{Bind, TermEntry, TypeEntry}
 use Rattle.cc_core.specs.Derivations.{ByVariable, BySet, ByReflexivity, ByTypeVariable, ByTop, ByCapturing}
-use Rattle.cc_core.specs.Derivations.{t-var, t-lit, t-abs, t-tabs, t-tapp, t-box, t-unbox, t-let, t-op, t-boundary, t-exit}
-use Rattle.cc_core.specs.Derivations.{t-sub, SetBelow, ShapeBelow, TypeBelow, OfType, Derivation, Node, NoPremise, one, two}
+use Rattle.cc_core.specs.Derivations.{t-var, t-lit, t-abs, t-tabs, t-tapp, t-box, t-unbox, t-let, t-op, t-boundary}
+use Rattle.cc_core.specs.Derivations.{t-exit}
+use Rattle.cc_core.specs.Derivations.{t-sub, SetBelow, ShapeBelow, TypeBelow, OfType, Derivation, Node, NoPremise, one}
+use Rattle.cc_core.specs.Derivations.{two}
 use Rattle.cc_core.specs.Shapes.{Shape, BaseShape, AnyShape, TypeVariable, FunctionShape, TypeFunctionShape, BoxShape}
 use Rattle.cc_core.specs.Shapes.{ExitShape, CapturingType, capturing}
 use Rattle.cc_core.specs.Terms.{Absent, Own, Term, VariableTerm, LiteralTerm, FunctionTerm, TypeFunctionTerm, BoxTerm}
@@ -138,8 +140,8 @@ pub record ArgumentsOfOperations : Type 0 where
       (OfType plain))
       (3 ∷ [])
 
--- The rule of variables is for variables of terms, and that of bounds for type variables; neither is for a variable that
--- has no entry.
+-- The rule of variables is for variables of terms, and that of bounds for type variables; neither is for a variable
+-- that has no entry.
 pub record EntriesOfVariables : Type 0 where
   pub set_of_a_type_variable :
       Breaks (SetsBelow (TypeEntry number ∷ []))
