@@ -314,3 +314,41 @@ nodes_that_fit = record {
   over_one_that_is_used = λ h. not_last (2 ∷ []) (1 ∷ []) refl h.kept h.premises;
   over_itself = λ h. not_last [] (1 ∷ []) refl h.kept h.premises;
 }
+
+pub forms_beyond_the_limit : example.FormsBeyondTheLimit
+unfolding empty from_list insert placed element_order unicode_ident is_reserved reserved_words encode
+forms_beyond_the_limit = record {
+  high_exit_shape = (refl, refl, and_from _ _ (formed_boxes [] 4998) refl, (whole_boxes 4998, pure), omega (arith, height-boxed 4998));
+  exit_shape = λ h. absurd (omega (arith, h.4, height-boxed 4999));
+  high_parameter_of_a_shape = (
+    refl,
+    refl,
+    and_from _ _ (and_from _ _ (and_from _ _ (and_from _ _ (formed_boxes [] 4998) refl) refl) refl) refl,
+    ((whole_boxes 4998, pure, tt, pure), pure),
+    omega (arith, height-boxed 4998),
+  );
+  parameter_of_a_shape = λ h. absurd (omega (arith, h.4, height-boxed 4999));
+  result_of_a_shape = λ h. absurd (omega (arith, h.4, height-boxed 4999));
+  high_bound_of_a_shape = (
+    refl,
+    refl,
+    and_from _ _ (and_from _ _ (and_from _ _ (formed_boxes [] 4998) refl) refl) refl,
+    ((whole_boxes 4998, tt, pure), pure),
+    omega (arith, height-boxed 4998),
+  );
+  bound_of_a_shape = λ h. absurd (omega (arith, h.4, height-boxed 4999));
+  result_of_a_type_function_shape = λ h. absurd (omega (arith, h.4, height-boxed 4999));
+  body = λ h. absurd (omega (arith, h.2, height-boxed 4998));
+  bound = λ h. absurd (omega (arith, h.2, height-boxed 4999));
+  body_of_a_type_function = λ h. absurd (omega (arith, h.2, height-boxed 4998));
+  type_argument = λ h. absurd (omega (arith, h.2, height-boxed 4999));
+  note_of_a_let = λ h. absurd (omega (arith, h.2, height-boxed 4999));
+  right_side_of_a_let = λ h. absurd (omega (arith, h.2, height-boxed 4998));
+  body_of_a_let = λ h. absurd (omega (arith, h.2, height-boxed 4998));
+  type_of_a_choice = λ h. absurd (omega (arith, h.2, height-boxed 4999));
+  first_branch = λ h. absurd (omega (arith, h.2, height-boxed 4998));
+  second_branch = λ h. absurd (omega (arith, h.2, height-boxed 4998));
+  shape_of_a_boundary = λ h. absurd (omega (arith, h.2, height-boxed 4999));
+  body_of_a_boundary = λ h. absurd (omega (arith, h.2, height-boxed 4998));
+  type_of_an_exit = λ h. absurd (omega (arith, h.2, height-boxed 4999));
+}

@@ -8,7 +8,8 @@ use Rattle.cc_base.specs.declared.literal.Operator.TheVariants as operators
 use Rattle.cc_capture.specs.declared.var.Elem.TheVariants.{Var as Variable, Cap, Hole}
 use Rattle.cc_capture.specs.declared.var.Var.TheVariants.{Bound, Free}
 use Rattle.cc_capture.specs.Sets.{Set, empty}
-use Rattle.cc_core.specs.Shapes.{Shape, BaseShape, AnyShape, FunctionShape, BoxShape, CapturingType, capturing}
+use Rattle.cc_core.specs.Shapes.{Shape, BaseShape, AnyShape, FunctionShape, TypeFunctionShape, BoxShape}
+use Rattle.cc_core.specs.Shapes.{ExitShape, CapturingType, capturing}
 use Rattle.cc_core.specs.Contexts.{TermEntry}
 use Rattle.cc_core.specs.Substitution.{single}
 use Rattle.cc_core.specs.Terms.{Absent, Written, Own, Term, VariableTerm, LiteralTerm, FunctionTerm}
@@ -306,3 +307,38 @@ pub record NodesThatFit : Type 0 where
   pub over_both_in_the_other_order : Fits (Proving [] 2 (1 ∷ 2 ∷ [])) (over (2 ∷ 1 ∷ [])) → ⊥
   pub over_one_that_is_used : Fits (Proving [] 2 (2 ∷ [])) (over (1 ∷ [])) → ⊥
   pub over_itself : Fits (Proving [] 0 []) (over (1 ∷ [])) → ⊥
+
+-- the type of a bind behind no other, and a term behind a bind `b`
+abbrev pub BindFits : Shape → Type 0
+BindFits shape = Fits (Binding [] []) (Binds (codes "a") (capturing shape empty))
+
+abbrev pub TermFits : Term → Type 0
+TermFits term = Fits (Binding (codes "b" ∷ []) (TermEntry number empty ∷ [])) (States term)
+
+-- a function that is one higher than what it takes
+abbrev pub taking : ℕ → Term
+taking count = FunctionTerm (boxed count) empty one
+
+-- So it is with each form: one part that is as high as the form may be makes it too high.
+pub record FormsBeyondTheLimit : Type 0 where
+  pub high_exit_shape : BindFits (ExitShape (boxed 4998))
+  pub exit_shape : BindFits (ExitShape (boxed 4999)) → ⊥
+  pub high_parameter_of_a_shape : BindFits (FunctionShape (boxed 4998) empty number empty)
+  pub parameter_of_a_shape : BindFits (FunctionShape (boxed 4999) empty number empty) → ⊥
+  pub result_of_a_shape : BindFits (FunctionShape number empty (boxed 4999) empty) → ⊥
+  pub high_bound_of_a_shape : BindFits (TypeFunctionShape (boxed 4998) number empty)
+  pub bound_of_a_shape : BindFits (TypeFunctionShape (boxed 4999) number empty) → ⊥
+  pub result_of_a_type_function_shape : BindFits (TypeFunctionShape number (boxed 4999) empty) → ⊥
+  pub body : TermFits (FunctionTerm number empty (taking 4998)) → ⊥
+  pub bound : TermFits (TypeFunctionTerm (boxed 4999) one) → ⊥
+  pub body_of_a_type_function : TermFits (TypeFunctionTerm number (taking 4998)) → ⊥
+  pub type_argument : TermFits (TypeApplication (Free 0) (boxed 4999)) → ⊥
+  pub note_of_a_let : TermFits (Let (Written (boxed 4999) empty) one one) → ⊥
+  pub right_side_of_a_let : TermFits (Let Absent (taking 4998) one) → ⊥
+  pub body_of_a_let : TermFits (Let Absent one (taking 4998)) → ⊥
+  pub type_of_a_choice : TermFits (Conditional (Written (boxed 4999) empty) (Free 0) one one) → ⊥
+  pub first_branch : TermFits (Conditional (Written number empty) (Free 0) (taking 4998) one) → ⊥
+  pub second_branch : TermFits (Conditional (Written number empty) (Free 0) one (taking 4998)) → ⊥
+  pub shape_of_a_boundary : TermFits (Boundary (boxed 4999) one) → ⊥
+  pub body_of_a_boundary : TermFits (Boundary number (taking 4998)) → ⊥
+  pub type_of_an_exit : TermFits (Leave (boxed 4999) empty (Free 0) (Free 0)) → ⊥

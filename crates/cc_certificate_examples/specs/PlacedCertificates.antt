@@ -4,8 +4,8 @@ use Rattle.std.specs.Prelude.{codes, ◌++◌}
 use Rattle.cc_certificate_text.specs.Certificates.{IsBadLine}
 use Rattle.cc_certificate_examples.specs.FoundTexts.{Says}
 
--- On both sides of a claim each name has its binder. A node in which one has none breaks its rule, and the nodes
--- above it have no place: in each row such a node has a premise that would break its rule too.
+-- On both sides of a claim each name has its binder. A node in which one has none breaks its rule, and its premises
+-- have no place, so that none of them is told, even where it would break its rule.
 pub record NamesOnBothSides : Type 0 where
   pub left_set :
       Says (

@@ -63,3 +63,8 @@ pub fn terms_that_fit()
 pub fn nodes_that_fit()
     ensures { example.NodesThatFit }
 {}
+
+/// So it is with each form: one part that is as high as the form may be makes it too high.
+pub fn forms_beyond_the_limit()
+    ensures { example.FormsBeyondTheLimit }
+{}

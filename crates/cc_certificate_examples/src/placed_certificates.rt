@@ -2,8 +2,8 @@
 //! numbers binders have. The functions do nothing.
 ghost use Rattle.cc_certificate_examples.specs.PlacedCertificates as example;
 
-/// On both sides of a claim each name has its binder. A node in which one has none breaks its rule, and the nodes
-/// above it have no place: in each row such a node has a premise that would break its rule too.
+/// On both sides of a claim each name has its binder. A node in which one has none breaks its rule, and its premises
+/// have no place, so that none of them is told, even where it would break its rule.
 pub fn names_on_both_sides()
     ensures { example.NamesOnBothSides }
 {}
