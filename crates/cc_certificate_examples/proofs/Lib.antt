@@ -1,0 +1,12 @@
+mod ComputedAnswers
+mod ComputedLines
+mod WorkedCanonical
+mod WorkedComparisons
+mod WorkedConditions
+mod WorkedHeights
+mod WorkedJudging
+mod WorkedLineFacts
+mod WorkedLines
+mod WorkedNames
+mod WorkedPlaces
+mod WorkedTypings

@@ -1,0 +1,5 @@
+use Rattle.cc_certificate_examples.proofs.WorkedLines as worked
+use Rattle.cc_certificate_examples.proofs.certificate_texts.set_lines.Goals as goal
+
+pub returns : goal.returns
+returns c = worked.set_lines

@@ -1,0 +1,5 @@
+use Rattle.cc_certificate_examples.proofs.WorkedJudging as worked
+use Rattle.cc_certificate_examples.proofs.judging_facts.names_at_a_place.Goals as goal
+
+pub returns : goal.returns
+returns c = worked.names_at_a_place

@@ -1,0 +1,5 @@
+use Rattle.cc_certificate_examples.proofs.WorkedNames as worked
+use Rattle.cc_certificate_examples.proofs.name_examples.names_in_sets.Goals as goal
+
+pub returns : goal.returns
+returns c = worked.names_in_sets

@@ -1,0 +1,5 @@
+use Rattle.cc_certificate_examples.proofs.WorkedTypings as worked
+use Rattle.cc_certificate_examples.proofs.typing_certificates.lets.Goals as goal
+
+pub returns : goal.returns
+returns c = worked.lets

@@ -1,0 +1,11 @@
+pub mod CanonicalExamples
+pub mod CertificateTexts
+pub mod ComparisonCertificates
+pub mod FoundTexts
+pub mod HeightExamples
+pub mod JudgingFacts
+pub mod LineFacts
+pub mod NameExamples
+pub mod PlacedCertificates
+pub mod RuleConditions
+pub mod TypingCertificates
