@@ -1,1 +1,2 @@
+pub mod WorkedCounts
 pub mod WorkedLines

@@ -1,1 +1,2 @@
+pub mod CountExamples
 pub mod LineExamples

@@ -2,4 +2,5 @@
 //! nothing; each has worked examples as its contract.
 #![tactic(auto)]
 
+pub mod counts;
 pub mod lines;
