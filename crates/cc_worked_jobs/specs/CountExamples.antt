@@ -23,6 +23,7 @@ abbrev pub SummariesAreBounded : Type 0
 SummariesAreBounded =
     (workload : ℕ) (text : List ℕ)
     → summary_text workload text
-    ≡ codes "workload " ++ decimal workload ++ codes "\nlines " ++ decimal (min (length (lines_of text)) 18446744073709551615)
-    ++ codes "\nbytes " ++ decimal (min (length text) 18446744073709551615) ++ codes "\nlast "
+    ≡ codes "workload " ++ decimal workload ++ codes "\nlines "
+    ++ decimal (min (length (lines_of text)) 18446744073709551615) ++ codes "\nbytes "
+    ++ decimal (min (length text) 18446744073709551615) ++ codes "\nlast "
     ++ without_indent (last_line text) ++ codes "\n"

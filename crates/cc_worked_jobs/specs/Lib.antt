@@ -1,2 +1,3 @@
 pub mod CountExamples
 pub mod LineExamples
+pub mod WholeJobs

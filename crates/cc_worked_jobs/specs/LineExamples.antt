@@ -1,11 +1,11 @@
 -- The lines of a job, word by word: what is a line of each kind, and what is none.
-use Rattle.std.specs.Prelude.{ℕ, pos, true, false, List, [], ◌∷◌, ◌++◌, Some, None, codes}
+use Rattle.std.specs.Prelude.{ℕ, pos, true, false, List, [], ◌∷◌, ◌++◌, Some, codes}
 use Rattle.cc_base.specs.declared.device.Kind.TheVariants.{Console, File, Counter}
-use Rattle.cc_job.specs.declared.job.Command.TheVariants.{Put, Drop, Check, Sig, Derive, Run, Tasks, Verify, Policy}
+use Rattle.cc_job.specs.declared.job.Command.TheVariants.{Put, Drop, Sig, Derive, Run, Tasks, Policy}
 use Rattle.cc_job.specs.declared.job.Command.TheVariants.{Audit, Guard, Explain, Replay}
 use Rattle.cc_job.specs.JobExamples.{rule}
 use Rattle.cc_job.specs.Jobs.{IsJob, IsBadAt, text}
-use Rattle.cc_job.specs.LimitExamples.{with_line, Commands, Declares, IsRefused, IsNoRule}
+use Rattle.cc_job.specs.LimitExamples.{Commands, Declares, IsRefused, IsNoRule}
 
 -- Where the name of a module stands alone, a reserved word, a numeral, a word with a sign in it and the word for any
 -- are none.
@@ -73,7 +73,8 @@ abbrev pub SchedulesHaveTasksAlone : Type 0
 SchedulesHaveTasksAlone =
     IsRefused (codes "tasks 1 0,1 m.f") × IsRefused (codes "tasks 1 1,0 m.f")
     × IsRefused (codes "tasks 1 0,1,2 m.f m.g") × IsRefused (codes "tasks 1 2,1,0 m.f m.g")
-    × IsRefused (codes "tasks 1 0,9,1 m.f m.g") × IsRefused (codes "tasks 1 0,1,2,8,3,4,5,6,7 m.a m.b m.c m.d m.e m.f m.g m.h")
+    × IsRefused (codes "tasks 1 0,9,1 m.f m.g")
+    × IsRefused (codes "tasks 1 0,1,2,8,3,4,5,6,7 m.a m.b m.c m.d m.e m.f m.g m.h")
     × Commands (codes "tasks 1 1,0 m.f n.g")
     (Tasks 1 (1 ∷ 0 ∷ []) ((codes "m", codes "f") ∷ (codes "n", codes "g") ∷ []))
 
@@ -169,11 +170,16 @@ NamesAreEncoded =
 -- so are those of rules
 abbrev pub RulesAreEncoded : Type 0
 RulesAreEncoded =
-    IsJob (text (codes "capc 1" ∷ codes "policy 2" ∷ (codes "allow " ++ accented ++ codes " d") ∷ (codes "deny m " ++ accented) ∷ []))
+    IsJob
+    (text
+    (codes "capc 1" ∷ codes "policy 2" ∷ (codes "allow " ++ accented ++ codes " d") ∷ (codes "deny m " ++ accented)
+    ∷ []))
     (record {
       devices = [];
       commands =
-          Policy (rule true (Some (233 ∷ [])) (Some (codes "d")) ∷ rule false (Some (codes "m")) (Some (233 ∷ [])) ∷ []) ∷ [];
+          Policy
+          (rule true (Some (233 ∷ [])) (Some (codes "d")) ∷ rule false (Some (codes "m")) (Some (233 ∷ [])) ∷ [])
+          ∷ [];
     })
 
 -- the text of a job with this first line, and a command behind it

@@ -3,4 +3,5 @@
 #![tactic(auto)]
 
 pub mod counts;
+pub mod jobs;
 pub mod lines;

@@ -1,5 +1,5 @@
 -- Replies to checks, and such that show signatures and derivations, where the present texts are given, by computation.
-use Rattle.std.proofs.Common.{◌≡◌, ◌∙◌, ℕ, Bool, List, [], ◌∷◌, Option, Some, None, Ok, Err, refl, sym, ap}
+use Rattle.std.proofs.Common.{◌≡◌, ℕ, Bool, List, [], Option, Some, None, Err, refl, sym, ap}
 use Rattle.std.specs.Prelude.{Result}
 use Rattle.std.specs.List.{flat_map}
 use Rattle.std.specs.Option.{unwrap_or}
@@ -13,9 +13,9 @@ use Rattle.cc_graph.specs.Graph.{ImportMap}
 use Rattle.cc_mnf.specs.ElaboratedModules.{device_names}
 use Rattle.cc_verdicts.specs.ModuleVerdicts.{ModuleVerdict}
 use Rattle.cc_verdicts.specs.PresentTexts.{Texts, text_of}
-use Rattle.cc_verdicts.specs.StandingDefinitions.{Standing, standing_by, standing_from, standing_in}
+use Rattle.cc_verdicts.specs.StandingDefinitions.{Standing, standing_by, standing_from}
 use Rattle.cc_replies.specs.Replies.{check_reply, signature_reply, derivation_reply}
-use Rattle.cc_replies.specs.ReplyTexts.{Reply, line, reply_text, is_refusal}
+use Rattle.cc_replies.specs.ReplyTexts.{line, reply_text, is_refusal}
 use Rattle.cc_replies.specs.Requests.{CheckModules, ShowSignature, ShowDerivation}
 use Rattle.cc_worked_replies.proofs.ComputedReplies.{quick_imports, same_imports, findings_by, same_findings, AreJudged, reply_computing}
 use Rattle.cc_worked_replies.specs.TextReplies.{RepliesWith}

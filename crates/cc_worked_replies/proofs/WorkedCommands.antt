@@ -1,5 +1,5 @@
 -- Replies to commands that put, remove and check modules and set rules, by computation.
-use Rattle.std.proofs.Common.{◌≡◌, ℕ, ◌<◌, ◌≤◌, Bool, true, false, cond, List, [], ◌∷◌, length, codes, refl, ap, arith, if◌then◌else◌}
+use Rattle.std.proofs.Common.{◌≡◌, ℕ, ◌<◌, ◌≤◌, Bool, true, false, List, [], ◌∷◌, length, codes, refl, ap, arith, if◌then◌else◌}
 use Rattle.std.specs.BTreeMap.{insert_entry}
 use Rattle.std.specs.Fmt.{digits}
 use Rattle.std.specs.List.{flat_map}
@@ -10,9 +10,8 @@ use lib.Utf8.{encode}
 use Rattle.cc_base.specs.declared.code.Code.TheVariants.{E30, E31}
 use Rattle.cc_base.specs.Names.{compare_names}
 use Rattle.cc_graph.specs.Graph.{ImportMap}
-use Rattle.cc_replies.specs.Replies.{check_reply, texts_after}
-use Rattle.cc_replies.specs.ReplyTexts.{Reply, PutDone, PutRefused, DropDone, PolicySet, is_refusal, line}
-use Rattle.cc_replies.specs.Requests.{JobState}
+use Rattle.cc_replies.specs.Replies.{check_reply}
+use Rattle.cc_replies.specs.ReplyTexts.{PutDone, PutRefused, DropDone, PolicySet, is_refusal, line}
 use Rattle.cc_verdicts.specs.ModuleVerdicts.{Finding, ModuleVerdict}
 use Rattle.cc_verdicts.specs.PresentTexts.{Texts, others_present, finding_in}
 use Rattle.cc_worked_replies.specs.CommandExamples as example

@@ -1,10 +1,9 @@
 -- Replies that show derivations, by computation.
-use Rattle.std.proofs.Common.{◌≡◌, ℕ, ◌<◌, ◌≤◌, Bool, true, false, cond, List, [], ◌∷◌, codes, refl, ap, arith, if◌then◌else◌}
+use Rattle.std.proofs.Common.{◌≡◌, ℕ, ◌<◌, ◌≤◌, true, false, cond, List, [], ◌∷◌, codes, refl, ap, arith, if◌then◌else◌}
 use Rattle.std.specs.Prelude.{nat_le}
 use Rattle.std.specs.Str.{bytes_eq}
 use Rattle.std.proofs.lemmas.Bool.Decides.{nat_tests}
 use Rattle.cc_base.specs.declared.code.Code.TheVariants.{E36}
-use Rattle.cc_base.specs.declared.device.DeviceDecl.{DeviceDecl}
 use Rattle.cc_certificate_writing.specs.DefinitionCertificates.{definition_certificate_lines}
 use Rattle.cc_graph.specs.Graph.{ImportMap}
 use Rattle.cc_replies.specs.Replies.{derivation_size}

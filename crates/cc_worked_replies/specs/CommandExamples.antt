@@ -1,5 +1,5 @@
 -- Replies to commands that put, remove and check modules and set rules, by example, and what a refused put changes.
-use Rattle.std.specs.Prelude.{◌≡◌, ℕ, ◌<◌, ◌≤◌, codes, true, false, List, [], ◌∷◌, ◌++◌, length, replicate, None}
+use Rattle.std.specs.Prelude.{◌≡◌, ℕ, ◌<◌, ◌≤◌, codes, true, false, List, [], ◌∷◌, length, replicate, None}
 use Rattle.std.specs.List.{flat_map}
 use Rattle.cc_verdicts.specs.PresentTexts.{Texts, others_present}
 use Rattle.cc_policy.specs.declared.policy.Rule.{Rule}
@@ -17,7 +17,8 @@ long_text = replicate 65537 32
 
 -- Where no more modules may be present either, it is told of a text that is too long that it is so.
 abbrev pub LengthsAreToldFirst : Type 0
-LengthsAreToldFirst = Answers (replicate 256 (codes "a", [])) (PutText m long_text) (codes "put m refused E30" ∷ []) true
+LengthsAreToldFirst =
+    Answers (replicate 256 (codes "a", [])) (PutText m long_text) (codes "put m refused E30" ∷ []) true
 
 -- a module of one number
 abbrev pub number : Texts
@@ -47,8 +48,8 @@ pub record CommandsAreTold : Type 0 where
   pub rules : Answers [] (SetPolicy (nothing ∷ nothing ∷ nothing ∷ [])) (codes "policy 3" ∷ []) false
   pub no_rules : Answers [] (SetPolicy []) (codes "policy 0" ∷ []) false
 
--- five modules: one that is no module, a number, one with a name that is not there, one that imports the number, and one
--- that imports what is not there
+-- five modules: one that is no module, a number, one with a name that is not there, one that imports the number, and
+-- one that imports what is not there
 abbrev pub five_modules : Texts
 five_modules =
     (codes "a", codes "def f = 1 2") ∷ (codes "b", codes "def g = 5") ∷ (codes "c", codes "def x = y")

@@ -1,5 +1,5 @@
 -- Replies that show signatures, by example.
-use Rattle.std.specs.Prelude.{ℕ, codes, true, false, List, [], ◌∷◌}
+use Rattle.std.specs.Prelude.{codes, true, false, [], ◌∷◌}
 use Rattle.std.specs.List.{flat_map}
 use Rattle.cc_verdicts.specs.PresentTexts.{Texts}
 use Rattle.cc_replies.specs.ReplyTexts.{line}
@@ -27,8 +27,8 @@ abbrev pub DefinitionsAreShown : Type 0
 DefinitionsAreShown =
     RepliesWith console_and_counter tools (ShowSignature (codes "tools"))
     (codes "sig tools" ∷ codes "  f: ((_0: Int) -> Unit)^{out}" ∷ codes "  main: ((_0: Unit) -> Unit)^{out}"
-    ∷ codes "  next: ((_0: Unit) -> Int)^{out, hits}" ∷ codes "  same: (_0: Int) -> Int^{_0}" ∷ codes "  five: Int" ∷ [])
-    false
+    ∷ codes "  next: ((_0: Unit) -> Int)^{out, hits}" ∷ codes "  same: (_0: Int) -> Int^{_0}" ∷ codes "  five: Int"
+    ∷ []) false
 
 -- So it is with imported definitions, which have no line in the module that imports them.
 abbrev pub ImportingModuleIsShown : Type 0

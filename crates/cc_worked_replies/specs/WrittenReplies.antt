@@ -18,10 +18,11 @@ use Rattle.cc_device.specs.Events.{Event, Operated, Entered}
 use Rattle.cc_entry_laws.specs.PresentLinks.{DefinitionOf, DeviceAt, Universal}
 use Rattle.cc_policy.specs.declared.policy.Decision.{Decision}
 use Rattle.cc_replay.specs.declared.replaying.Replayed.TheVariants.{Agrees, Differs}
-use Rattle.cc_replies.specs.ReplyTexts.{Explanation, Reply, PutDone, PutRefused, DropDone, DropRefused, PolicySet, Verified}
-use Rattle.cc_replies.specs.ReplyTexts.{Verdicts, Signatures, SignaturesRefused, Derived, DerivationRefused, Ran, RunRefused}
-use Rattle.cc_replies.specs.ReplyTexts.{TasksRan, TasksRefused, Audited, AuditRefused, Guarded, GuardRefused, Explained}
-use Rattle.cc_replies.specs.ReplyTexts.{ExplainRefused, Replayed, ReplayRefused, line, reply_text, is_refusal}
+use Rattle.cc_replies.specs.ReplyTexts.{Explanation, Reply, PutDone, PutRefused, DropDone, DropRefused, PolicySet}
+use Rattle.cc_replies.specs.ReplyTexts.{Verified, Verdicts, Signatures, SignaturesRefused, Derived, DerivationRefused}
+use Rattle.cc_replies.specs.ReplyTexts.{Ran, RunRefused, TasksRan, TasksRefused, Audited, AuditRefused, Guarded}
+use Rattle.cc_replies.specs.ReplyTexts.{GuardRefused, Explained, ExplainRefused, Replayed, ReplayRefused}
+use Rattle.cc_replies.specs.ReplyTexts.{line, reply_text, is_refusal}
 use Rattle.cc_runs.specs.Interleavings.{Report}
 use Rattle.cc_runs.specs.Runs.{Ending, Ends, IsStopped}
 use Rattle.cc_verdicts.specs.ModuleVerdicts.{CheckedDefinition, ModuleVerdict, IsAccepted, IsRefused}
@@ -49,12 +50,16 @@ devices = codes "out" ∷ (252 ∷ []) ∷ []
 abbrev pub third_line : Place
 third_line = record { line = 3; col = 7 }
 
--- the type of a literal, with a set of devices
+-- types of literals, one with a set of devices
 abbrev pub integer : CapturingType
 integer = capturing (BaseShape bases.Int) empty
 
 abbrev pub unit_of_device : CapturingType
 unit_of_device = capturing (BaseShape bases.Unit) (from_list (Variable (Free 1) ∷ []))
+
+-- the type of a number, with a bind of a certificate
+abbrev pub integer_of_bind : CapturingType
+integer_of_bind = capturing (BaseShape bases.Int) (from_list (Variable (Free 0) ∷ []))
 
 abbrev pub truth : CapturingType
 truth = capturing (BaseShape bases.Bool) empty
@@ -116,16 +121,18 @@ pub record RepliesAreWritten : Type 0 where
   pub drop_refused : IsWrittenAs (DropRefused owner E32) ((codes "drop " ++ accented_e ++ codes " refused E32") ∷ [])
   pub policy : IsWrittenAs (PolicySet 12) (codes "policy 12" ∷ [])
   -- the type of a certificate names its own binds
-  pub valid : IsWrittenAs (Verified (ProvesType (owner ∷ []) (capturing (BaseShape bases.Int) (from_list (Variable (Free 0) ∷ [])))))
+  pub valid : IsWrittenAs (Verified (ProvesType (owner ∷ []) integer_of_bind))
       (codes "verify" ∷ (codes "  valid Int^{" ++ accented_e ++ codes "}") ∷ [])
   pub bad_line : IsWrittenAs (Verified (HasBadLine 4)) (codes "verify" ∷ codes "  bad line 4" ∷ [])
   pub bad_node : IsWrittenAs (Verified (HasBadNode 12)) (codes "verify" ∷ codes "  bad node 12" ∷ [])
   pub check : IsWrittenAs (Verdicts ((owner, IsAccepted []) ∷ (definition, IsRefused E15 third_line) ∷ []))
-      (codes "check" ∷ (codes "  " ++ accented_e ++ codes " ok") ∷ (codes "  " ++ accented_n ++ codes " E15 3:7") ∷ [])
+      (codes "check" ∷ (codes "  " ++ accented_e ++ codes " ok") ∷ (codes "  " ++ accented_n ++ codes " E15 3:7")
+      ∷ [])
   pub check_none : IsWrittenAs (Verdicts []) (codes "check" ∷ [])
   -- the signature is told, and not the type that was found
   pub signatures : IsWrittenAs (Signatures owner (one ∷ two ∷ []))
-      ((codes "sig " ++ accented_e) ∷ (codes "  " ++ accented_n ++ codes ": Unit^{" ++ accented_u ++ codes "}") ∷ codes "  g: Bool" ∷ [])
+      ((codes "sig " ++ accented_e) ∷ (codes "  " ++ accented_n ++ codes ": Unit^{" ++ accented_u ++ codes "}")
+      ∷ codes "  g: Bool" ∷ [])
   pub signatures_refused : IsWrittenAs (SignaturesRefused owner E34)
       ((codes "sig " ++ accented_e ++ codes " refused E34") ∷ [])
   pub derived : IsWrittenAs (Derived owner definition (codes "cert 1" ∷ codes "term unit" ∷ []))
@@ -134,23 +141,31 @@ pub record RepliesAreWritten : Type 0 where
       ((codes "derive " ++ accented_e ++ codes "." ++ accented_n ++ codes " refused E36") ∷ [])
   -- the authority stands first, then the events in order, and then the end
   pub ran : IsWrittenAs (Ran owner definition (1 ∷ 0 ∷ []) events done 9)
-      ((codes "run " ++ accented_e ++ codes "." ++ accented_n) ∷ (codes "  authority {" ++ accented_u ++ codes ", out}") ∷ codes "  out print 5" ∷ codes "  enter 3" ∷ codes "  done unit after 9 steps" ∷ [])
+      ((codes "run " ++ accented_e ++ codes "." ++ accented_n)
+      ∷ (codes "  authority {" ++ accented_u ++ codes ", out}") ∷ codes "  out print 5" ∷ codes "  enter 3"
+      ∷ codes "  done unit after 9 steps" ∷ [])
   pub run_refused : IsWrittenAs (RunRefused owner definition E35)
       ((codes "run " ++ accented_e ++ codes "." ++ accented_n ++ codes " refused E35") ∷ [])
   pub tasks : IsWrittenAs (TasksRan ((0 ∷ []) ∷ [] ∷ []) report)
-      (codes "tasks" ∷ codes "  0 authority {out}" ∷ codes "  1 authority {}" ∷ codes "  1 enter 3" ∷ codes "  0 out print 5" ∷ codes "  0 out of fuel after 4 steps" ∷ codes "  1 stuck after 2 steps" ∷ [])
+      (codes "tasks" ∷ codes "  0 authority {out}" ∷ codes "  1 authority {}" ∷ codes "  1 enter 3"
+      ∷ codes "  0 out print 5" ∷ codes "  0 out of fuel after 4 steps" ∷ codes "  1 stuck after 2 steps" ∷ [])
   pub tasks_refused : IsWrittenAs (TasksRefused E33 owner definition)
       ((codes "tasks refused E33 " ++ accented_e ++ codes "." ++ accented_n) ∷ [])
   pub audited : IsWrittenAs (Audited owner definition decisions)
-      ((codes "audit " ++ accented_e ++ codes "." ++ accented_n) ∷ (codes "  " ++ accented_u ++ codes " allow 2") ∷ codes "  out deny 1" ∷ codes "  out deny none" ∷ [])
+      ((codes "audit " ++ accented_e ++ codes "." ++ accented_n) ∷ (codes "  " ++ accented_u ++ codes " allow 2")
+      ∷ codes "  out deny 1" ∷ codes "  out deny none" ∷ [])
   pub audit_refused : IsWrittenAs (AuditRefused owner definition E35)
       ((codes "audit " ++ accented_e ++ codes "." ++ accented_n ++ codes " refused E35") ∷ [])
   pub guarded : IsWrittenAs (Guarded owner definition (1 ∷ 0 ∷ []) events done 9)
-      ((codes "guard " ++ accented_e ++ codes "." ++ accented_n) ∷ (codes "  authority {" ++ accented_u ++ codes ", out}") ∷ codes "  out print 5" ∷ codes "  enter 3" ∷ codes "  done unit after 9 steps" ∷ [])
+      ((codes "guard " ++ accented_e ++ codes "." ++ accented_n)
+      ∷ (codes "  authority {" ++ accented_u ++ codes ", out}") ∷ codes "  out print 5" ∷ codes "  enter 3"
+      ∷ codes "  done unit after 9 steps" ∷ [])
   pub guard_refused : IsWrittenAs (GuardRefused owner definition E37)
       ((codes "guard " ++ accented_e ++ codes "." ++ accented_n ++ codes " refused E37") ∷ [])
   pub explained : IsWrittenAs (Explained owner definition (by_device ∷ by_any ∷ []))
-      ((codes "explain " ++ accented_e ++ codes "." ++ accented_n) ∷ (codes "  " ++ accented_u ++ codes ": " ++ accented_e ++ codes "." ++ accented_n ++ codes " m.f " ++ accented_u) ∷ (codes "  cap: " ++ accented_e ++ codes "." ++ accented_n ++ codes " cap") ∷ [])
+      ((codes "explain " ++ accented_e ++ codes "." ++ accented_n)
+      ∷ (codes "  " ++ accented_u ++ codes ": " ++ accented_e ++ codes "." ++ accented_n ++ codes " m.f " ++ accented_u)
+      ∷ (codes "  cap: " ++ accented_e ++ codes "." ++ accented_n ++ codes " cap") ∷ [])
   pub explain_refused : IsWrittenAs (ExplainRefused owner definition E34)
       ((codes "explain " ++ accented_e ++ codes "." ++ accented_n ++ codes " refused E34") ∷ [])
   pub agrees : IsWrittenAs (Replayed owner definition Agrees)
@@ -160,8 +175,8 @@ pub record RepliesAreWritten : Type 0 where
   pub replay_refused : IsWrittenAs (ReplayRefused owner definition E35)
       ((codes "replay " ++ accented_e ++ codes "." ++ accented_n ++ codes " refused E35") ∷ [])
 
--- Which replies tell of a refusal: those of refused commands, of refused modules, of certificates that are not valid, of
--- runs and tasks that did not come to their ends, and of lines that differ. A denial that an audit tells is none.
+-- Which replies tell of a refusal: those of refused commands, of refused modules, of certificates that are not valid,
+-- of runs and tasks that did not come to their ends, and of lines that differ. A denial that an audit tells is none.
 pub record RefusalsAreTold : Type 0 where
   pub put : (name : List ℕ) → is_refusal (PutDone name) ≡ false
   pub put_refused : (name : List ℕ) (code : Code) → is_refusal (PutRefused name code) ≡ true
@@ -192,7 +207,8 @@ pub record RefusalsAreTold : Type 0 where
   pub run_refused : (module_name name : List ℕ) (code : Code) → is_refusal (RunRefused module_name name code) ≡ true
   pub no_tasks : (authorities : List (List ℕ)) (trace : List (ℕ × Event))
       → is_refusal (TasksRan authorities (record { trace = trace; ends = [] })) ≡ false
-  pub task_done : (authorities : List (List ℕ)) (trace : List (ℕ × Event)) (shown : Shown) (steps : ℕ) (others : List (Ending × ℕ))
+  pub task_done : (authorities : List (List ℕ)) (trace : List (ℕ × Event)) (shown : Shown) (steps : ℕ)
+      (others : List (Ending × ℕ))
       → is_refusal (TasksRan authorities (record { trace = trace; ends = (Ends (Done shown), steps) ∷ others }))
       ≡ is_refusal (TasksRan authorities (record { trace = trace; ends = others }))
   pub task_out : (authorities : List (List ℕ)) (trace : List (ℕ × Event)) (steps : ℕ) (others : List (Ending × ℕ))
