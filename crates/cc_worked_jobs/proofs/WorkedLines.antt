@@ -109,3 +109,11 @@ jobs_have_their_first_line = (bad_found 9 _ _ refl, bad_found 9 _ _ refl, bad_fo
 pub first_bad_line_is_told : example.FirstBadLineIsTold
 unfolding job_reading
 first_bad_line_is_told = (bad_found 9 _ _ refl, bad_found 9 _ _ refl)
+
+pub texts_are_any_bytes : example.TextsAreAnyBytes
+unfolding job_reading
+texts_are_any_bytes = (job_found 9 _ _ refl, job_found 9 _ _ refl, job_found 9 _ _ refl)
+
+pub names_may_be_alike : example.NamesMayBeAlike
+unfolding job_reading
+names_may_be_alike = job_found 9 _ _ refl

@@ -1,7 +1,7 @@
 -- The lines of a job, word by word: what is a line of each kind, and what is none.
 use Rattle.std.specs.Prelude.{ℕ, pos, true, false, List, [], ◌∷◌, ◌++◌, Some, codes}
 use Rattle.cc_base.specs.declared.device.Kind.TheVariants.{Console, File, Counter}
-use Rattle.cc_job.specs.declared.job.Command.TheVariants.{Put, Drop, Sig, Derive, Run, Tasks, Policy}
+use Rattle.cc_job.specs.declared.job.Command.TheVariants.{Put, Drop, Sig, Derive, Run, Tasks, Verify, Policy}
 use Rattle.cc_job.specs.declared.job.Command.TheVariants.{Audit, Guard, Explain, Replay}
 use Rattle.cc_job.specs.JobExamples.{rule}
 use Rattle.cc_job.specs.Jobs.{IsJob, IsBadAt, text}
@@ -180,6 +180,29 @@ RulesAreEncoded =
           Policy
           (rule true (Some (233 ∷ [])) (Some (codes "d")) ∷ rule false (Some (codes "m")) (Some (233 ∷ [])) ∷ [])
           ∷ [];
+    })
+
+-- The lines behind a put, a certificate or a trace are any bytes, also such as are no text, and no words.
+abbrev pub TextsAreAnyBytes : Type 0
+TextsAreAnyBytes =
+    IsJob (text (codes "capc 1" ∷ codes "put m 1" ∷ (255 ∷ 0 ∷ 13 ∷ 32 ∷ 32 ∷ []) ∷ []))
+    (record { devices = []; commands = Put (codes "m") (255 ∷ 0 ∷ 13 ∷ 32 ∷ 32 ∷ 10 ∷ []) ∷ [] })
+    × IsJob (text (codes "capc 1" ∷ codes "verify 1" ∷ (128 ∷ 9 ∷ 13 ∷ []) ∷ []))
+    (record { devices = []; commands = Verify (128 ∷ 9 ∷ 13 ∷ 10 ∷ []) ∷ [] })
+    × IsJob (text (codes "capc 1" ∷ codes "replay m.f 1 2" ∷ (195 ∷ []) ∷ [] ∷ []))
+    (record { devices = []; commands = Replay (codes "m") (codes "f") 1 (195 ∷ 10 ∷ 10 ∷ []) ∷ [] })
+
+-- Names that differ in the case of a letter alone are different ones, and a device and a module may have one name.
+abbrev pub NamesMayBeAlike : Type 0
+NamesMayBeAlike =
+    IsJob
+    (text
+    (codes "capc 1" ∷ codes "device out console" ∷ codes "device Out console" ∷ codes "put out 0" ∷ codes "drop check"
+    ∷ []))
+    (record {
+      devices =
+          record { name = codes "out"; kind = Console } ∷ record { name = codes "Out"; kind = Console } ∷ [];
+      commands = Put (codes "out") [] ∷ Drop (codes "check") ∷ [];
     })
 
 -- the text of a job with this first line, and a command behind it

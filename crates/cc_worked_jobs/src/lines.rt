@@ -16,6 +16,7 @@ pub fn names_in_lines()
     ensures text { example.NamesAreText }
     ensures encoded { example.NamesAreEncoded }
     ensures encoded_in_rules { example.RulesAreEncoded }
+    ensures alike { example.NamesMayBeAlike }
 {}
 
 /// Which numbers a schedule has, and how they are written.
@@ -33,6 +34,7 @@ pub fn words_in_lines()
     ensures others { example.OtherCommandsHaveTheirWords }
     ensures devices { example.DevicesHaveTheirWords }
     ensures spaces { example.LinesAreWords }
+    ensures bytes { example.TextsAreAnyBytes }
     ensures first { example.JobsHaveTheirFirstLine }
     ensures first_bad { example.FirstBadLineIsTold }
 {}

@@ -17,4 +17,5 @@ returns c =
       text = worked.names_are_text;
       encoded = worked.names_are_encoded;
       encoded_in_rules = worked.rules_are_encoded;
+      alike = worked.names_may_be_alike;
     }

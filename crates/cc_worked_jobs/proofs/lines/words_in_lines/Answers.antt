@@ -11,6 +11,7 @@ returns c =
       others = worked.other_commands_have_their_words;
       devices = worked.devices_have_their_words;
       spaces = worked.lines_are_words;
+      bytes = worked.texts_are_any_bytes;
       first = worked.jobs_have_their_first_line;
       first_bad = worked.first_bad_line_is_told;
     }
