@@ -46,10 +46,10 @@ verdicts_by devices texts findings name =
     found_verdict (text_verdict_in devices 12 (findings name) (unwrap_or (text_of texts name) []))
 
 -- the imports of a text, with less computation
-abbrev quick_imports : List ℕ → Option (List ImportSyntax)
+abbrev pub quick_imports : List ℕ → Option (List ImportSyntax)
 quick_imports text = imports_in (quick_reading text)
 
-same_imports : (text : List ℕ) → imports_of text ≡ quick_imports text
+pub same_imports : (text : List ℕ) → imports_of text ≡ quick_imports text
 same_imports text = ap imports_in (same_reading text)
 
 -- the import graph, with less computation
@@ -63,7 +63,7 @@ same_graph [] = refl
 same_graph (first ∷ rest) = λ i. with_module first.0 (same_imports first.1 i) (same_graph rest i)
 
 -- what is found for an import where this is the import graph
-abbrev finding_by : ImportMap → Texts → (List ℕ → ModuleVerdict) → List ℕ → ImportSyntax → Finding
+abbrev pub finding_by : ImportMap → Texts → (List ℕ → ModuleVerdict) → List ℕ → ImportSyntax → Finding
 finding_by graph texts verdicts name one =
     if is_some (text_of texts one.source)
     then (if reaches graph one.source name then InCycle else finding_in (verdicts one.source) one.name)
@@ -73,7 +73,7 @@ abbrev pub findings_by : ImportMap → Texts → (List ℕ → ModuleVerdict) �
 findings_by graph texts verdicts name text =
     map (finding_by graph texts verdicts name) (unwrap_or (quick_imports text) [])
 
-same_findings : (texts : Texts) (graph : ImportMap) → graph_of texts ≡ graph → (verdicts : List ℕ → ModuleVerdict)
+pub same_findings : (texts : Texts) (graph : ImportMap) → graph_of texts ≡ graph → (verdicts : List ℕ → ModuleVerdict)
     → (name text : List ℕ) → findings_for texts verdicts name text ≡ findings_by graph texts verdicts name text
 unfolding finding_for
 same_findings texts graph is verdicts name text =

@@ -1,8 +1,12 @@
 pub mod CertificateExamples
+pub mod CommandExamples
+pub mod DerivationExamples
 pub mod ExplainExamples
 pub mod PolicyExamples
 pub mod ReplayExamples
 pub mod RunExamples
 pub mod ShownTexts
+pub mod SignatureExamples
 pub mod TaskExamples
 pub mod TextReplies
+pub mod WrittenReplies

@@ -1,3 +1,4 @@
+pub mod FittingSteps
 pub mod WorkedInterleavedTexts
 pub mod WorkedRunningTexts
 pub mod WorkedStuckTexts

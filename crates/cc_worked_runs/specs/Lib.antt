@@ -1,3 +1,4 @@
+pub mod FittingCells
 pub mod InterleavedTexts
 pub mod RunningTexts
 pub mod StuckTexts

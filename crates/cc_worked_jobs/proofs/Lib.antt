@@ -1,0 +1,5 @@
+pub mod CarriedOut
+pub mod JobOutputs
+pub mod WorkedCounts
+pub mod WorkedJobs
+pub mod WorkedLines

@@ -1,0 +1,3 @@
+pub mod CountExamples
+pub mod LineExamples
+pub mod WholeJobs
