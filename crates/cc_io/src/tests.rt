@@ -321,6 +321,48 @@ fn a_sink_goes_on_behind_a_failed_write(rt: HostRuntime) -> Result<(), Fail> {
     Ok(())
 }
 
+/// A writer that takes at most three bytes a call, keeps them, and fails at the flush of this number, counted from 1.
+#[derive(Drop)]
+struct KeepingWriter {
+    kept: Vec<u8>,
+    failing: usize,
+    flushes: usize,
+}
+
+impl Write for KeepingWriter {
+    fn write(&mut self, buf: &[u8]) -> io::Result<usize> {
+        let taken = buf.len().min(3);
+        self.kept.extend_from_slice(&buf[..taken])?;
+        Ok(taken)
+    }
+
+    fn flush(&mut self) -> io::Result<()> {
+        self.flushes = self.flushes.saturating_add(1);
+        if self.flushes == self.failing {
+            return Err(io::Error::other("no flush"));
+        }
+        Ok(())
+    }
+}
+
+#[test]
+fn a_sink_goes_on_behind_a_flush_that_fails(rt: HostRuntime) -> Result<(), Fail> {
+    let mut writer = KeepingWriter {
+        kept: Vec::new(rt.alloc()),
+        failing: 2,
+        flushes: 0,
+    };
+    let mut sink = StdSink::new(&mut writer);
+    let first = sink.write(b"one ");
+    assert!(rt; first == Ok(3));
+    assert_eq!(rt; sink.write(b" two"), Err(WriteError::Failed));
+    assert_eq!(rt; sink.write(b"end"), Ok(3));
+
+    // Acknowledged are "one" and "end". The writer has what it took of the piece between them, too.
+    assert_eq!(rt; writer.kept.as_slice(), b"one twend".as_slice());
+    Ok(())
+}
+
 /// A printer that records what it is given, and fails behind the first thing that it prints where it is set to.
 #[derive(Drop)]
 struct FakePrinter {
