@@ -314,6 +314,7 @@ fn a_sink_goes_on_behind_a_failed_write(rt: HostRuntime) -> Result<(), Fail> {
         assert_eq!(rt; sink.write(piece), answer);
         // The next write asks the writer again.
         assert_eq!(rt; sink.write(b""), Ok(0));
+        drop(sink);
         let mut all = Vec::from_slice(alloc, calls)?;
         all.extend_from_slice(&[Call::Wrote(0), Call::Flushed])?;
         assert_eq!(rt; writer.calls, all);
@@ -357,6 +358,7 @@ fn a_sink_goes_on_behind_a_flush_that_fails(rt: HostRuntime) -> Result<(), Fail>
     assert!(rt; first == Ok(3));
     assert_eq!(rt; sink.write(b" two"), Err(WriteError::Failed));
     assert_eq!(rt; sink.write(b"end"), Ok(3));
+    drop(sink);
 
     // Acknowledged are "one" and "end". The writer has what it took of the piece between them, too.
     assert_eq!(rt; writer.kept.as_slice(), b"one twend".as_slice());
