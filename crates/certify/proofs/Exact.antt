@@ -1,7 +1,7 @@
 -- What a call tells, in bytes and numbers.
-use Rattle.std.proofs.Common.{◌≡◌, ◌↔◌, ℕ, ◌+◌, ◌<◌, ◌≤◌, Bool, true, false, List, [], ◌∷◌, ◌++◌, length, Option, Some, None, refl, sym, ap, ◌∙◌, subst, inl, inr, ⊎_elim, arith}
+use Rattle.std.proofs.Common.{◌≡◌, ◌↔◌, ℕ, ◌<◌, ◌≤◌, Bool, true, false, List, [], ◌++◌, length, Option, Some, None, refl, sym, ap, ◌∙◌, subst, ⊎_elim, arith}
 use Rattle.std.specs.Prelude.{IfSome}
-use Rattle.std.specs.Io.KnownBytes.{Appends, Consumes, IsAtEnd, Keeps}
+use Rattle.std.specs.Io.KnownBytes.{Appends, Consumes, Keeps}
 use Rattle.std.proofs.KnownBytes.{Consumes-whole}
 use Rattle.std.proofs.lemmas.List.{append-nil, length-append}
 use Rattle.cc_certificate_judging.specs.Answers.{Found, ProvesType, HasBadLine, HasBadNode, IsFound, is_valid}
@@ -9,7 +9,7 @@ use Rattle.cc_certificate_judging.proofs.BytesFound.{one_thing_is_found}
 use Rattle.certify.specs.declared.status.Status.{Status}
 use Rattle.certify.specs.declared.status.Status.TheVariants as statuses
 use Rattle.certify.specs.Status.{number_of}
-use Rattle.certify.specs.Outcome.{certificate_limit, Ends, TakesMany, IsSilent, Finds, WritesAnswer, answer_line, Outcome}
+use Rattle.certify.specs.Outcome.{certificate_limit, Ends, IsSilent, Finds, WritesAnswer, answer_line, Outcome}
 use Rattle.certify.specs.Exactness.{IsSmooth, Answers}
 use Rattle.certify.specs.Exactness as law
 

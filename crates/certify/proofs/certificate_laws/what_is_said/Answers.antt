@@ -1,4 +1,4 @@
-use Rattle.std.proofs.Common.{◌≡◌, ◌∙◌, subst, sym}
+use Rattle.std.proofs.Common.{◌∙◌, subst, sym}
 use Rattle.certify.proofs.certificate_laws.what_is_said.Goals as goal
 
 pub returns : goal.returns
