@@ -32,6 +32,13 @@ Options:
       --workload <N>  Carry out the job of a workload of N modules, 1 to 200, and write its summary
 '
 
+# and by the program that has no words
+no_words='certify: bad words
+Reads a certificate from standard input and says whether it is valid.
+
+Usage: certify
+'
+
 work=$(mktemp -d) || exit 1
 trap 'rm -rf "$work"' EXIT
 failed=0
@@ -163,6 +170,8 @@ for program in ${judges[@]+"${judges[@]}"}; do
     fi
     run < "$jobs/identity.cert"
     expect 'the example identity.cert' 0 'valid (_0: Unit) -> Unit^{_0}\n' ''
+    run identity.cert < /
+    expect 'a word beside what cannot be read' 6 '' "$no_words"
     run < /
     expect 'a read of a certificate that fails' 2 '' 'certify: read fault\n'
     run <&-

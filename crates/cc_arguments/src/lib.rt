@@ -1,5 +1,6 @@
-//! What the words of a command line ask for.
+//! The words of a command line: which the system gives, and what they ask for.
 #![tactic(auto)]
 
+pub mod given;
 pub mod word_laws;
 pub mod words;

@@ -2,4 +2,5 @@ pub mod CallPlans
 pub mod Calls
 pub mod Wholes
 pub mod HandedOn
+pub mod Acknowledged
 pub mod Messages

@@ -4,6 +4,7 @@
 #![tactic(auto)]
 
 mod copy;
+mod history;
 mod memory;
 mod never;
 mod plan;
@@ -14,6 +15,7 @@ mod tests;
 mod traits;
 mod whole;
 
+pub use history::History;
 pub use memory::{MemSink, MemSource};
 pub use never::{NeverSink, NeverSource};
 pub use standard::{StdSink, StdSource};

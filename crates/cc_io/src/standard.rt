@@ -1,12 +1,15 @@
-ghost use Rattle.std.specs.Prelude.{◌≡◌, ◌+◌, ◌-◌, ◌^◌, ◌<◌, None, OnErr};
+ghost use Rattle.std.specs.Prelude.{◌≡◌, ◌+◌, ◌-◌, ◌^◌, ◌<◌, [], Some, None, OnErr};
 ghost use Rattle.std.specs.Io.{ReadsAtMost};
-ghost use Rattle.std.specs.Io.KnownBytes.{ReadConsumes};
+ghost use Rattle.std.specs.Io.KnownBytes.{Appends, ReadConsumes};
 ghost use Rattle.cc_io.specs.Calls.{ReadCause, WriteCause, Writes};
 ghost use Rattle.cc_io.specs.HandedOn.{HandsOnRead, HandsOnWrite, GivesFront, counted};
+ghost use Rattle.cc_io.specs.Acknowledged.{acknowledging, StdWrites, StdFlushes, HasAcknowledged, HoldsAcknowledged};
 
+use crate::history::History;
 use crate::streams::{Reader, Writer};
 use crate::traits::{Failed, Sink, Source, WriteError};
 use std::marker::Model;
+use std::snapshot::Snapshot;
 
 /// A source over a reader of std, such as standard input. It tells the bytes that the reader tells.
 #[derive(Drop)]
@@ -56,50 +59,87 @@ impl<R: Reader + Drop> Source for StdSource<R> {
     }
 }
 
-/// A sink over a writer of std, such as standard output. It flushes the writer at each write. It tells no bytes, since a
-/// writer may have taken some of a piece whose write fails.
+/// A sink over a writer of std, such as standard output. It flushes the writer at each write. It tells the bytes that it
+/// has acknowledged: of each write that succeeded, what the writer took before it was flushed. At a write that fails it
+/// acknowledges nothing, though the writer may have taken some of the piece.
+///
+/// Neither the writer as it was given nor the bytes are kept: proofs alone see them.
 #[derive(Drop)]
 pub struct StdSink<W: Writer + Drop> {
     writer: W,
     faults: u64,
+    begun: Snapshot<W>,
+    acknowledged: History,
 }
 
 impl<W: Writer + Drop> Model for StdSink<W> {
-    ghost use Rattle.cc_io.specs.HandedOn.{Counted, counted};
+    ghost use Rattle.cc_io.specs.Acknowledged.{Acknowledging, acknowledging, StdWrites, StdFlushes, HasAcknowledged};
 
-    ghost Value = { Counted W };
+    ghost Value = { Acknowledging W };
 
-    ghost view = { λ s. counted s.writer s.faults };
+    ghost view = { λ s. acknowledging s.writer s.faults s.begun.value s.acknowledged.text };
+
+    ghost invariant = { λ s. HasAcknowledged (StdWrites W.contents W.writes) (StdFlushes W.contents W.flushes) s.begun.value
+        s.writer s.faults s.acknowledged.text };
 }
 
 impl<W: Writer + Drop> StdSink<W> {
-    /// Writes to `writer`, with no fault so far.
+    /// Writes to `writer`, with no fault and nothing acknowledged so far.
     pub fn new(writer: W) -> StdSink<W>
-        ensures { result ≡ counted writer 0 }
+        ensures { result ≡ acknowledging writer 0 writer [] }
     {
-        StdSink { writer, faults: 0 }
+        let begun = Snapshot::of(&writer);
+        StdSink {
+            writer,
+            faults: 0,
+            begun,
+            acknowledged: History::new(),
+        }
+    }
+
+    /// What the acknowledged bytes are, at every moment. The function does nothing.
+    pub fn acknowledges(&self)
+        // They are those of the writer's calls since it was given to the sink, and it came to its state by these alone.
+        ensures chain { HasAcknowledged (StdWrites W.contents W.writes) (StdFlushes W.contents W.flushes) self.now.begun
+            self.now.stream self.now.faults self.now.acknowledged }
+
+        // Where the writer tells what it holds, that has grown by them, and by what it took of pieces whose write failed.
+        ensures held { HoldsAcknowledged W.contents self.now.begun self.now.stream self.now.faults self.now.acknowledged }
+
+        // Where no write has failed, by them alone.
+        ensures whole { self.now.faults ≡ 0
+            → Appends (W.contents self.now.begun) (W.contents self.now.stream) self.now.acknowledged }
+    {
+        // reading a field has the proof see what is so of all of them
+        let _faults = self.faults;
     }
 }
 
 impl<W: Writer + Drop> Sink for StdSink<W> {
-    ghost written = { λ _. None };
+    ghost written = { λ s. Some s.acknowledged };
 
     ghost faults = { λ s. s.faults };
 
     /// Writes to the writer once and then flushes it once. A writer that takes nothing of a nonempty piece fails.
     fn write(&mut self, piece: &[u8]) -> Result<usize, WriteError>
         requires { self.old.faults < 2 ^ 64 - 1 }
-        ensures taken { Writes None None result piece.now }
+        ensures taken { Writes (Some self.old.acknowledged) (Some self.new.acknowledged) result piece.now }
         ensures cause { WriteCause self.old.faults self.new.faults result }
         ensures by_one { OnErr result (self.new.faults ≡ self.old.faults + 1) }
         ensures calls { HandsOnWrite W.writes W.flushes self.old.stream self.new.stream piece.now result }
         ensures given { GivesFront (W.contents self.old.stream) (W.contents self.new.stream) result piece.now }
+        ensures begun { self.new.begun ≡ self.old.begun }
     {
-        let answer = write_and_flush(&mut self.writer, piece);
-        if answer.is_err() {
-            self.faults += 1;
+        match write_and_flush(&mut self.writer, piece) {
+            Ok(taken) => {
+                self.acknowledged.append(&piece[..taken]);
+                Ok(taken)
+            }
+            Err(error) => {
+                self.faults += 1;
+                Err(error)
+            }
         }
-        answer
     }
 }
 
@@ -107,6 +147,8 @@ impl<W: Writer + Drop> Sink for StdSink<W> {
 fn write_and_flush<W: Writer>(writer: &mut W, piece: &[u8]) -> Result<usize, WriteError>
     ensures taken { Writes None None result piece.now }
     ensures calls { HandsOnWrite W.writes W.flushes writer.old writer.new piece.now result }
+    ensures std_calls { HandsOnWrite (StdWrites W.contents W.writes) (StdFlushes W.contents W.flushes) writer.old writer.new
+        piece.now result }
     ensures given { GivesFront (W.contents writer.old) (W.contents writer.new) result piece.now }
 {
     let Ok(taken) = writer.write_once(piece) else {

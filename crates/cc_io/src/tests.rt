@@ -314,10 +314,54 @@ fn a_sink_goes_on_behind_a_failed_write(rt: HostRuntime) -> Result<(), Fail> {
         assert_eq!(rt; sink.write(piece), answer);
         // The next write asks the writer again.
         assert_eq!(rt; sink.write(b""), Ok(0));
+        drop(sink);
         let mut all = Vec::from_slice(alloc, calls)?;
         all.extend_from_slice(&[Call::Wrote(0), Call::Flushed])?;
         assert_eq!(rt; writer.calls, all);
     }
+    Ok(())
+}
+
+/// A writer that takes at most three bytes a call, keeps them, and fails at the flush of this number, counted from 1.
+#[derive(Drop)]
+struct KeepingWriter {
+    kept: Vec<u8>,
+    failing: usize,
+    flushes: usize,
+}
+
+impl Write for KeepingWriter {
+    fn write(&mut self, buf: &[u8]) -> io::Result<usize> {
+        let taken = buf.len().min(3);
+        self.kept.extend_from_slice(&buf[..taken])?;
+        Ok(taken)
+    }
+
+    fn flush(&mut self) -> io::Result<()> {
+        self.flushes = self.flushes.saturating_add(1);
+        if self.flushes == self.failing {
+            return Err(io::Error::other("no flush"));
+        }
+        Ok(())
+    }
+}
+
+#[test]
+fn a_sink_goes_on_behind_a_flush_that_fails(rt: HostRuntime) -> Result<(), Fail> {
+    let mut writer = KeepingWriter {
+        kept: Vec::new(rt.alloc()),
+        failing: 2,
+        flushes: 0,
+    };
+    let mut sink = StdSink::new(&mut writer);
+    let first = sink.write(b"one ");
+    assert!(rt; first == Ok(3));
+    assert_eq!(rt; sink.write(b" two"), Err(WriteError::Failed));
+    assert_eq!(rt; sink.write(b"end"), Ok(3));
+    drop(sink);
+
+    // Acknowledged are "one" and "end". The writer has what it took of the piece between them, too.
+    assert_eq!(rt; writer.kept.as_slice(), b"one twend".as_slice());
     Ok(())
 }
 

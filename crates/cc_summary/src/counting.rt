@@ -2,10 +2,9 @@
 ghost use Rattle.std.specs.Prelude.{◌≡◌, ℕ, List, [], Some, IfOk};
 ghost use Rattle.cc_summary.specs.Summaries.{summary_text};
 
-use crate::history::History;
 use crate::summary::summary;
 use crate::tally::Tally;
-use cc_io::{Sink, WriteError};
+use cc_io::{History, Sink, WriteError};
 use std::alloc::{AllocError, Global};
 use std::marker::Model;
 

@@ -2,7 +2,6 @@
 #![tactic(auto)]
 
 pub mod counting;
-mod history;
 pub mod summary;
 pub mod summary_examples;
 pub mod tally;

@@ -1,14 +1,14 @@
--- What a call of the program may do: what is read and written, for each status.
+-- What a call of the program may do that judges a certificate: what is read and written, for each status.
 use Rattle.std.specs.Prelude.{◌≡◌, ℕ, ◌+◌, ◌<◌, ◌≤◌, ◌⊎◌, true, false, List, ◌++◌, codes, length, Option}
 use Rattle.std.specs.Io.KnownBytes.{Consumes, IsAtEnd, Keeps, Appends}
 use Rattle.cc_io.specs.Wholes.{TakesCount, AppendsFront}
 use Rattle.cc_certificate_judging.specs.Answers.{Found, IsFound, found_text, is_valid}
 use Rattle.certify.specs.declared.status.Status.{Status}
-use Rattle.certify.specs.declared.status.Status.TheVariants.{Valid, Invalid, ReadFault, TooLong, NoMemory, WriteFault}
+use Rattle.certify.specs.declared.status.Status.TheVariants.{Valid, Invalid, ReadFault, TooLong, NoMemory, WriteFault, BadWords}
 
 -- the greatest number of bytes of a certificate
 abbrev pub certificate_limit : ℕ
-certificate_limit = 4194304
+certificate_limit = 4294967295
 
 -- the bytes that a source has left and those that a sink holds, where they tell them, and how often each failed
 pub record Ends : Type 0 where
@@ -90,3 +90,4 @@ Outcome before after ReadFault = FailsToRead before after
 Outcome before after TooLong = TakesMany (λ n. n ≡ certificate_limit + 1) before after × IsSilent before after
 Outcome before after NoMemory = LacksMemoryEarly before after ⊎ LacksMemoryLate before after
 Outcome before after WriteFault = FailsToWrite before after
+Outcome before after BadWords = ⊥

@@ -1,7 +1,7 @@
 -- The number and the message of each status, written out.
 use Rattle.std.specs.Prelude.{◌≡◌, ℕ, List, codes, Option, Some, None}
 use Rattle.certify.specs.declared.status.Status.{Status}
-use Rattle.certify.specs.declared.status.Status.TheVariants.{Valid, Invalid, ReadFault, TooLong, NoMemory, WriteFault}
+use Rattle.certify.specs.declared.status.Status.TheVariants.{Valid, Invalid, ReadFault, TooLong, NoMemory, WriteFault, BadWords}
 use Rattle.certify.specs.Status.{number_of, message_of}
 use Rattle.certify.specs.Outcome.{certificate_limit, Ends, TakesMany, Outcome}
 
@@ -9,7 +9,7 @@ use Rattle.certify.specs.Outcome.{certificate_limit, Ends, TakesMany, Outcome}
 abbrev pub Shows : Status → ℕ → Option (List ℕ) → Type 0
 Shows status number message = (number_of status ≡ number) × (message_of status ≡ message)
 
--- all six statuses
+-- all seven statuses
 pub record StatusesShow : Type 0 where
   pub valid : Shows Valid 0 None
   pub invalid : Shows Invalid 1 None
@@ -17,8 +17,9 @@ pub record StatusesShow : Type 0 where
   pub too_long : Shows TooLong 2 (Some (codes "certify: certificate too long"))
   pub no_memory : Shows NoMemory 2 (Some (codes "certify: out of memory"))
   pub write_fault : Shows WriteFault 2 (Some (codes "certify: write fault"))
+  pub bad_words : Shows BadWords 6 (Some (codes "certify: bad words"))
 
--- a certificate may have 4,194,304 bytes, and it is too long where one more was taken
+-- a certificate may have 4,294,967,295 bytes, and it is too long where one more was taken
 abbrev pub CertificatesHaveSoManyBytes : Type 0
-CertificatesHaveSoManyBytes = (certificate_limit ≡ 4194304)
-    × ((before after : Ends) → Outcome before after TooLong → TakesMany (λ n. n ≡ 4194305) before after)
+CertificatesHaveSoManyBytes = (certificate_limit ≡ 4294967295)
+    × ((before after : Ends) → Outcome before after TooLong → TakesMany (λ n. n ≡ 4294967296) before after)

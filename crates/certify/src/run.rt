@@ -1,5 +1,6 @@
 //! Reading a certificate, and writing what is found of it.
 ghost use Rattle.std.specs.Prelude.{◌≡◌, ◌-◌, ◌^◌, ◌<◌};
+ghost use Rattle.certify.specs.Calls.{IsCall};
 ghost use Rattle.certify.specs.Outcome.{Outcome, ends};
 
 use crate::status::Status;
@@ -8,10 +9,10 @@ use cc_io::{ReadAll, Sink, Source, WriteAll, read_all, write_all};
 use std::alloc::{AllocError, Global};
 
 /// The greatest number of bytes of a certificate.
-const LIMIT: usize = 4_194_304;
+const LIMIT: usize = 4_294_967_295;
 
-/// Reads the certificate, judges it, and writes the line of the answer. Nothing is written before all is read.
-pub fn certify<S: Source, K: Sink>(alloc: Global, source: &mut S, sink: &mut K) -> Status
+// Reads the certificate, judges it, and writes the line of the answer. Nothing is written before all is read.
+fn judge_source<S: Source, K: Sink>(alloc: Global, source: &mut S, sink: &mut K) -> Status
     requires source { S.faults source.old < 2 ^ 64 - 1 }
     requires sink { K.faults sink.old < 2 ^ 64 - 1 }
     ensures { Outcome
@@ -43,5 +44,26 @@ pub fn certify<S: Source, K: Sink>(alloc: Global, source: &mut S, sink: &mut K) 
         }
         Err(WriteAll::WriteFault) => Status::WriteFault,
         Err(WriteAll::NoMemory) => Status::NoMemory,
+    }
+}
+
+/// Judges the certificate of the source where there is no word after the program's name, and writes the line of the
+/// answer. Where there is one it touches nothing.
+pub fn certify<S: Source, K: Sink>(
+    alloc: Global,
+    words: &[String],
+    source: &mut S,
+    sink: &mut K,
+) -> Status
+    requires source { S.faults source.old < 2 ^ 64 - 1 }
+    requires sink { K.faults sink.old < 2 ^ 64 - 1 }
+    ensures { IsCall (source.new ≡ source.old) (sink.new ≡ sink.old)
+        (ends (S.left source.old) (S.faults source.old) (K.written sink.old) (K.faults sink.old))
+        (ends (S.left source.new) (S.faults source.new) (K.written sink.new) (K.faults sink.new))
+        words.now result }
+{
+    match words {
+        [] => judge_source(alloc, source, sink),
+        _ => Status::BadWords,
     }
 }

@@ -19,6 +19,8 @@ pub enum Status {
     NoMemory,
     /// The answer could not be written.
     WriteFault,
+    /// There are words, and the program has none.
+    BadWords,
 }
 
 impl Status {
@@ -30,6 +32,7 @@ impl Status {
             Status::Valid => 0,
             Status::Invalid => 1,
             Status::ReadFault | Status::TooLong | Status::NoMemory | Status::WriteFault => 2,
+            Status::BadWords => 6,
         }
     }
 
@@ -54,6 +57,7 @@ impl fmt::Display for Status {
             Status::TooLong => f.write_str("certify: certificate too long"),
             Status::NoMemory => f.write_str("certify: out of memory"),
             Status::WriteFault => f.write_str("certify: write fault"),
+            Status::BadWords => f.write_str("certify: bad words"),
         }
     }
 }

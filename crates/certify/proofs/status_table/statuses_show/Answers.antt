@@ -9,4 +9,5 @@ returns c = record {
   too_long = (refl, refl);
   no_memory = (refl, refl);
   write_fault = (refl, refl);
+  bad_words = (refl, refl);
 }

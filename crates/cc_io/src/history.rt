@@ -8,7 +8,7 @@ use std::marker::Model;
 /// No bytes hold it: it is what the calls of `new` and `append` make of it.
 #[derive(Drop)]
 pub struct History {
-    ghost text: { List ℕ },
+    pub ghost text: { List ℕ },
 }
 
 impl Model for History {

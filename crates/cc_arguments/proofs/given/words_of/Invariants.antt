@@ -1,6 +1,6 @@
 use Rattle.std.proofs.Common.{◌≡◌, ◌++◌}
 use Rattle.std.specs.Vec.Iter.{into_iter_items, into_iter_len}
-use Rattle.cc_program.proofs.words.words_of.Given as goal
+use Rattle.cc_arguments.proofs.given.words_of.Given as goal
 
 -- the words so far, and those that are still to come
 abbrev pub invariant-loop-word : goal.invariant-loop-word

@@ -13,10 +13,10 @@ use denote.Signature.{plain, shr_slice_of}
 use denote.Slice.{ShrSlice, shr_slice_vals, shr_slice_Tells, shr_slice_Lawful}
 use denote.Steps.{nothing, opens, closes}
 use denote.Triple.Walked.{Stays, walk_of, says, stay_ref, Goes-ref, stay_dropped, Goes-dropped, ends_at}
-use Rattle.cc_summary.specs.contracts.history.History.{the_row}
-use Rattle.cc_summary.specs.contracts.history.History.append as f
-use Rattle.cc_summary.proofs.history.History.append.Statement.{statement}
-use Rattle.cc_summary.proofs.history.History.append.Code as code
+use Rattle.cc_io.specs.contracts.history.History.{the_row}
+use Rattle.cc_io.specs.contracts.history.History.append as f
+use Rattle.cc_io.proofs.history.History.append.Statement.{statement}
+use Rattle.cc_io.proofs.history.History.append.Code as code
 
 abbrev stayed : Stays f.ended.signature.params f.ended.kept
 stayed = (stay_ref (0 ∷ []) tt (plain (λ _. the_row)), (stay_dropped _ yes, tt))

@@ -10,11 +10,11 @@ use denote.Shadow.{makes_shadow}
 use denote.Steps.{nothing}
 use denote.Triple.Entry.{on_entry}
 use denote.Triple.Walked.{Stays, walk_of, says, ends_at}
-use Rattle.cc_summary.specs.declared.history.History.{History}
-use Rattle.cc_summary.specs.contracts.history.History.{the_row}
-use Rattle.cc_summary.specs.contracts.history.History.new as f
-use Rattle.cc_summary.proofs.history.History.new.Statement.{statement}
-use Rattle.cc_summary.proofs.history.History.new.Code as code
+use Rattle.cc_io.specs.declared.history.History.{History}
+use Rattle.cc_io.specs.contracts.history.History.{the_row}
+use Rattle.cc_io.specs.contracts.history.History.new as f
+use Rattle.cc_io.proofs.history.History.new.Statement.{statement}
+use Rattle.cc_io.proofs.history.History.new.Code as code
 
 abbrev stayed : Stays f.ended.signature.params f.ended.kept
 stayed = tt
