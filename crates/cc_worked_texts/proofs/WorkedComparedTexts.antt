@@ -1,7 +1,7 @@
 -- Texts in which one type is compared with another.
 use Rattle.std.proofs.Common.{refl, codes, [], ◌∷◌, ◌++◌}
 use Rattle.cc_base.specs.declared.code.Code.TheVariants.{E14, E15}
-use Rattle.cc_worked_texts.specs.TextVerdicts.{place}
+use Rattle.cc_worked_texts.specs.TextVerdicts.{place, lines}
 use Rattle.cc_worked_texts.specs.ComparedTexts as example
 use Rattle.cc_worked_texts.proofs.ComputedModules.{text_computing, refused, accepted}
 
@@ -110,4 +110,31 @@ boxes = record {
   exits_of_variables = refused 9 (codes "def a = fun [X <: Int] => fun (b: Box[Exit[X]]) => val y: Box[Exit[Int]]^{b} = b; 1") E14 (place 1 80) refl;
   exits_of_variables_below = refused 9 (codes "def a = fun [X <: Int] => fun (b: Box[Exit[Int]]) => val y: Box[Exit[X]]^{b} = b; 1") E14 (place 1 80) refl;
   exits_of_one_variable = accepted 9 (codes "def a = fun [X <: Int] => fun (b: Box[Exit[X]]) => val y: Box[Exit[X]]^{b} = b; 1") (codes "a: [_T0 <: Int] -> (_1: Box[Exit[_T0]]) -> Int" ∷ []) refl;
+}
+
+pub sets : example.ComparedSets
+unfolding text_computing
+sets = record {
+  declared_set = accepted 9 (codes "def a = fun (x: Int^{out}) => val y: Int^{out} = x; y") (codes "a: (_0: Int^{out}) -> Int^{out}" ∷ []) refl;
+  greater_set = accepted 9 (codes "def a = fun (x: Int^{out}) => val y: Int^{out, hits} = x; y") (codes "a: (_0: Int^{out}) -> Int^{out, hits}" ∷ []) refl;
+  itself = accepted 9 (codes "def a = fun (x: Int^{out}) => val y: Int^{x} = x; y") (codes "a: (_0: Int^{out}) -> Int^{_0}" ∷ []) refl;
+  pure = accepted 9 (codes "def a = fun (x: Int) => val y: Int = x; y") (codes "a: (_0: Int) -> Int" ∷ []) refl;
+  pure_name_and_others = accepted 9 (codes "def a = fun (x: Int) => fun (y: Int^{out}) => val z: Box[Int^{out}] = box y; z") (codes "a: (_0: Int) -> (_1: Int^{out}) -> Box[Int^{out}]" ∷ []) refl;
+  cap_above_a_name = accepted 9 (codes "def a = fun (x: Int^{cap}) => val y: Int^{cap} = x; 1") (codes "a: (_0: Int^{cap}) -> Int" ∷ []) refl;
+  cap_above_a_device = accepted 9 (codes "def a = fun (u: Unit) => val y: Console^{cap} = out; 1") (codes "a: ((_0: Unit) -> Int)^{out}" ∷ []) refl;
+  declared_with_a_name = accepted 9 (codes "def a = fun (x: Int^{out}) => fun (y: Int^{x}) => val z: Int^{out} = y; 1") (codes "a: (_0: Int^{out}) -> (_1: Int^{_0}) -> Int" ∷ []) refl;
+  declared_with_names = accepted 9 (codes "def a = fun (x: Int^{out}) => fun (y: Int^{hits}) => fun (z: Int^{x, y}) => val w: Int^{out, " ++ codes "hits} = z; 1") (codes "a: (_0: Int^{out}) -> (_1: Int^{hits}) -> (_2: Int^{_0, _1}) -> Int" ∷ []) refl;
+  one_of_two = accepted 9 (codes "def a = fun (x: Int^{out}) => fun (y: Int^{hits}) => fun (z: Int^{x, y}) => val w: Int^{out, y} " ++ codes "= z; 1") (codes "a: (_0: Int^{out}) -> (_1: Int^{hits}) -> (_2: Int^{_0, _1}) -> Int" ∷ []) refl;
+  smaller_set = refused 9 (codes "def a = fun (x: Int^{out, hits}) => val y: Int^{out} = x; 1") E15 (place 1 56) refl;
+  other_device = refused 9 (codes "def a = fun (x: Int^{out}) => val y: Int^{hits} = x; 1") E15 (place 1 51) refl;
+  other_name = refused 9 (codes "def a = fun (x: Int^{out}) => fun (y: Int^{out}) => val z: Int^{y} = x; 1") E15 (place 1 70) refl;
+  below_what_is_declared_with_it = refused 9 (codes "def a = fun (x: Int^{out}) => fun (y: Int^{x}) => val z: Int^{y} = x; 1") E15 (place 1 68) refl;
+  cap_below_a_device = refused 9 (codes "def a = fun (x: Int^{cap}) => val y: Int^{out, hits} = x; 1") E15 (place 1 56) refl;
+  device_below_nothing = refused 9 (codes "def a = fun (u: Unit) => val y: Console = out; 1") E15 (place 1 43) refl;
+  device_below_another = refused 9 (codes "def a = fun (u: Unit) => val y: Console^{hits} = out; 1") E15 (place 1 50) refl;
+  not_all_declared = refused 9 (codes "def a = fun (x: Int^{out}) => fun (y: Int^{hits}) => fun (z: Int^{x, y}) => val w: Int^{out, x} " ++ codes "= z; 1") E15 (place 1 99) refl;
+  earlier_definition = accepted 9 (lines (codes "def f = fun (u: Unit) => out.print(1)" ∷ codes "def a: ((u: Unit) -> Unit)^{f} = fun (u: Unit) => f(u)" ∷ [])) (codes "f: ((_0: Unit) -> Unit)^{out}" ∷ codes "a: ((_0: Unit) -> Unit)^{out}" ∷ []) refl;
+  device_of_an_earlier_definition = accepted 9 (lines (codes "def f = fun (u: Unit) => out.print(1)" ∷ codes "def a: ((u: Unit) -> Unit)^{out} = fun (u: Unit) => f(u)" ∷ [])) (codes "f: ((_0: Unit) -> Unit)^{out}" ∷ codes "a: ((_0: Unit) -> Unit)^{out}" ∷ []) refl;
+  other_device_of_an_earlier_definition = refused 9 (lines (codes "def f = fun (u: Unit) => out.print(1)" ∷ codes "def a: ((u: Unit) -> Unit)^{hits} = fun (u: Unit) => f(u)" ∷ [])) E15 (place 2 37) refl;
+  pure_earlier_definition = accepted 9 (lines (codes "def f = fun (u: Unit) => u" ∷ codes "def a: (u: Unit) -> Unit = fun (u: Unit) => val x = f(u); unit" ∷ [])) (codes "f: (_0: Unit) -> Unit^{_0}" ∷ codes "a: (_0: Unit) -> Unit" ∷ []) refl;
 }

@@ -1,9 +1,39 @@
 -- Texts with types of the greatest size, and with larger ones.
 use Rattle.std.proofs.Common.{refl, codes, ◌++◌}
 use Rattle.cc_base.specs.declared.code.Code.TheVariants.{E18}
-use Rattle.cc_worked_texts.specs.TextVerdicts.{place, repeated, tower}
+use Rattle.cc_worked_texts.specs.SizedTexts.{large}
+use Rattle.cc_worked_texts.specs.TextVerdicts.{place, repeated, tower, Refuses}
 use Rattle.cc_worked_texts.specs.SizedTexts as example
 use Rattle.cc_worked_texts.proofs.ComputedModules.{text_computing, refused}
+
+application_row : Refuses (codes "def a = fun [X <: Any] => fun (g: (u: Unit) -> " ++ large ++ codes ") => (g(unit))") E18 (place 1 14392)
+unfolding text_computing
+application_row = refused 9 (codes "def a = fun [X <: Any] => fun (g: (u: Unit) -> " ++ large ++ codes ") => (g(unit))") E18 (place 1 14392) refl
+
+boundary_row : Refuses (codes "def a = fun [X <: Any] => (boundary [" ++ large ++ codes "] z => fun (a: Any) => 1)") E18 (place 1 27)
+unfolding text_computing
+boundary_row = refused 9 (codes "def a = fun [X <: Any] => (boundary [" ++ large ++ codes "] z => fun (a: Any) => 1)") E18 (place 1 27) refl
+
+exit_row : Refuses (codes "def a = fun [X <: Any] => fun (e: Exit[Int]) => (exit [" ++ large ++ codes "] (e, 1))") E18 (place 1 49)
+unfolding text_computing
+exit_row = refused 9 (codes "def a = fun [X <: Any] => fun (e: Exit[Int]) => (exit [" ++ large ++ codes "] (e, 1))") E18 (place 1 49) refl
+
+choice_row : Refuses (codes "def a = fun [X <: Any] => (if [" ++ large ++ codes "] true then fun (a: Any) => 1 else fun (a: Any) => 1)") E18 (place 1 27)
+unfolding text_computing
+choice_row = refused 9 (codes "def a = fun [X <: Any] => (if [" ++ large ++ codes "] true then fun (a: Any) => 1 else fun (a: Any) => 1)") E18 (place 1 27) refl
+
+choice_of_an_omitted_set_row : Refuses (codes "def a = fun [X <: Any] => (if [(" ++ large ++ codes ")^?] true then fun (a: Any) => 1 else fun (a: Any) => 1)") E18 (place 1 27)
+unfolding text_computing
+choice_of_an_omitted_set_row = refused 9 (codes "def a = fun [X <: Any] => (if [(" ++ large ++ codes ")^?] true then fun (a: Any) => 1 else fun (a: Any) => 1)") E18 (place 1 27) refl
+
+pub written : example.WrittenSizes
+written = record {
+  application = application_row;
+  boundary = boundary_row;
+  exit = exit_row;
+  choice = choice_row;
+  choice_of_an_omitted_set = choice_of_an_omitted_set_row;
+}
 
 pub terms : example.SizedTerms
 unfolding text_computing

@@ -47,6 +47,7 @@ white_space = record {
   ogham_space = refused 9 (encode_utf8_all (codes "def\u{1680} a = 1")) E02 (place 1 4) refl;
   em_space = refused 9 (encode_utf8_all (codes "def\u{2003} a = 1")) E02 (place 1 4) refl;
   zero_width_space = refused 9 (encode_utf8_all (codes "def\u{200b} a = 1")) E02 (place 1 4) refl;
+  left_to_right_mark = refused 9 (encode_utf8_all (codes "def\u{200e} a = 1")) E02 (place 1 4) refl;
   line_separator = refused 9 (encode_utf8_all (codes "def\u{2028} a = 1")) E02 (place 1 4) refl;
   paragraph_separator = refused 9 (encode_utf8_all (codes "def\u{2029} a = 1")) E02 (place 1 4) refl;
   ideographic_space = refused 9 (encode_utf8_all (codes "def\u{3000} a = 1")) E02 (place 1 4) refl;
@@ -100,7 +101,7 @@ comments = record {
   quote = accepted 9 (codes "// \"\ndef a = 1") (codes "a: Int" ∷ []) refl;
   backslash = refused 9 (codes "// \\\ndef a = y") E10 (place 2 9) refl;
   star_and_slash = refused 9 (codes "/// */ ~\n~") E02 (place 2 1) refl;
-  lines_behind_carriage_returns = refused 9 (encode_utf8_all (codes "//\r\n// \u{85}\n// \u{2028}\u{2029}\n// \u{b}\u{c}\n~")) E02 (place 5 1) refl;
+  lines_behind_carriage_returns = refused 9 (encode_utf8_all (codes "//\r\n// \u{85}\n// \u{2028}\u{2029}\n// \u{b}\u{c}\0\u{1c}\u{1e}\n~")) E02 (place 5 1) refl;
   letters = refused 9 (encode_utf8_all (codes "// é語𝐱\n~")) E02 (place 2 1) refl;
   in_a_string = accepted 9 (codes "def a = \"// x\"") (codes "a: Str" ∷ []) refl;
   before_a_string = accepted 9 (codes "def a = // \"\n\"x\"") (codes "a: Str" ∷ []) refl;

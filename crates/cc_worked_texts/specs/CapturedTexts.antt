@@ -185,7 +185,7 @@ pub record CapturedLets : Type 0 where
       (codes "def a = fun (x: Int) => fun (u: Unit) => val y = x; 1")
       (codes "a: (_0: Int) -> ((_1: Unit) -> Int)^{_0}" ∷ [])
   pub unused_sum : Accepts
-      (codes "def a = fun (x: Int) => fun (u: Unit) => val y = x + 1; 1")
+      (codes "def a = fun (x: Int) => fun (u: Unit) => val y = x + x; 1")
       (codes "a: (_0: Int) -> ((_1: Unit) -> Int)^{_0}" ∷ [])
   pub unused_call : Accepts
       (codes "def a = fun (x: (i: Unit) -> Int) => fun (u: Unit) => val y = x(u); 1")
@@ -200,8 +200,8 @@ pub record CapturedLets : Type 0 where
       (codes "def a = fun (x: Bool) => fun (u: Unit) => val y = if [Int] x then 1 else 2; 1")
       (codes "a: (_0: Bool) -> ((_1: Unit) -> Int)^{_0}" ∷ [])
   pub unused_repetition : Accepts
-      (codes "def a = fun (x: (i: Int) -> Unit) => fun (u: Unit) => val y = repeat(1, x); 1")
-      (codes "a: (_0: (_0: Int) -> Unit) -> ((_1: Unit) -> Int)^{_0}" ∷ [])
+      (codes "def a = fun (x: (i: Int) -> Unit) => fun (n: Int) => val y = repeat(n, x); 1")
+      (codes "a: (_0: (_0: Int) -> Unit) -> ((_1: Int) -> Int)^{_0}" ∷ [])
   pub unused_operation : Accepts
       (codes "def a = fun (x: Int) => fun (u: Unit) => val y = out.print(x); 1")
       (codes "a: ((_0: Int) -> ((_1: Unit) -> Int)^{out, _0})^{out}" ∷ [])
@@ -209,8 +209,11 @@ pub record CapturedLets : Type 0 where
       (codes "def a = fun (x: Int) => fun (u: Unit) => val y = boundary [Int] z => x + 1; 1")
       (codes "a: (_0: Int) -> ((_1: Unit) -> Int)^{_0}" ∷ [])
   pub unused_exit : Accepts
-      (codes "def a = fun (x: Exit[Int]) => fun (u: Unit) => val y = exit [Int] (x, 1); 1")
-      (codes "a: (_0: Exit[Int]) -> ((_1: Unit) -> Int)^{_0}" ∷ [])
+      (codes "def a = fun (x: Exit[Int]) => fun (n: Int) => val y = exit [Int] (x, n); 1")
+      (codes "a: (_0: Exit[Int]) -> ((_1: Int) -> Int)^{_0}" ∷ [])
+  pub unused_read : Accepts
+      (codes "def a = fun (x: File^{cap}) => fun (u: Unit) => val y = x.read(); 1")
+      (codes "a: (_0: File^{cap}) -> ((_1: Unit) -> Int)^{_0}" ∷ [])
   pub unused_val : Accepts
       (codes "def a = fun (x: Int) => fun (u: Unit) => val y = (val z = x; 1); 1")
       (codes "a: (_0: Int) -> ((_1: Unit) -> Int)^{_0}" ∷ [])

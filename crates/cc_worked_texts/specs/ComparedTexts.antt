@@ -1,7 +1,7 @@
 -- Texts in which one type is compared with another.
 use Rattle.std.specs.Prelude.{codes, [], ◌∷◌, ◌++◌}
 use Rattle.cc_base.specs.declared.code.Code.TheVariants.{E14, E15}
-use Rattle.cc_worked_texts.specs.TextVerdicts.{place, Refuses, Accepts}
+use Rattle.cc_worked_texts.specs.TextVerdicts.{place, lines, Refuses, Accepts}
 
 -- Shapes below each other.
 pub record ComparedShapes : Type 0 where
@@ -246,3 +246,67 @@ pub record ComparedBoxes : Type 0 where
   pub exits_of_one_variable : Accepts
       (codes "def a = fun [X <: Int] => fun (b: Box[Exit[X]]) => val y: Box[Exit[X]]^{b} = b; 1")
       (codes "a: [_T0 <: Int] -> (_1: Box[Exit[_T0]]) -> Int" ∷ [])
+
+-- Sets below each other.
+pub record ComparedSets : Type 0 where
+  -- a name is below what it was declared with
+  pub declared_set : Accepts
+      (codes "def a = fun (x: Int^{out}) => val y: Int^{out} = x; y") (codes "a: (_0: Int^{out}) -> Int^{out}" ∷ [])
+  pub greater_set : Accepts
+      (codes "def a = fun (x: Int^{out}) => val y: Int^{out, hits} = x; y")
+      (codes "a: (_0: Int^{out}) -> Int^{out, hits}" ∷ [])
+  pub itself : Accepts
+      (codes "def a = fun (x: Int^{out}) => val y: Int^{x} = x; y") (codes "a: (_0: Int^{out}) -> Int^{_0}" ∷ [])
+  pub pure : Accepts (codes "def a = fun (x: Int) => val y: Int = x; y") (codes "a: (_0: Int) -> Int" ∷ [])
+  pub pure_name_and_others : Accepts
+      (codes "def a = fun (x: Int) => fun (y: Int^{out}) => val z: Box[Int^{out}] = box y; z")
+      (codes "a: (_0: Int) -> (_1: Int^{out}) -> Box[Int^{out}]" ∷ [])
+  pub cap_above_a_name : Accepts
+      (codes "def a = fun (x: Int^{cap}) => val y: Int^{cap} = x; 1") (codes "a: (_0: Int^{cap}) -> Int" ∷ [])
+  pub cap_above_a_device : Accepts
+      (codes "def a = fun (u: Unit) => val y: Console^{cap} = out; 1") (codes "a: ((_0: Unit) -> Int)^{out}" ∷ [])
+  -- and so on from name to name
+  pub declared_with_a_name : Accepts
+      (codes "def a = fun (x: Int^{out}) => fun (y: Int^{x}) => val z: Int^{out} = y; 1")
+      (codes "a: (_0: Int^{out}) -> (_1: Int^{_0}) -> Int" ∷ [])
+  pub declared_with_names : Accepts
+      (codes "def a = fun (x: Int^{out}) => fun (y: Int^{hits}) => fun (z: Int^{x, y}) => val w: Int^{out, "
+      ++ codes "hits} = z; 1")
+      (codes "a: (_0: Int^{out}) -> (_1: Int^{hits}) -> (_2: Int^{_0, _1}) -> Int" ∷ [])
+  pub one_of_two : Accepts
+      (codes "def a = fun (x: Int^{out}) => fun (y: Int^{hits}) => fun (z: Int^{x, y}) => val w: Int^{out, y} "
+      ++ codes "= z; 1")
+      (codes "a: (_0: Int^{out}) -> (_1: Int^{hits}) -> (_2: Int^{_0, _1}) -> Int" ∷ [])
+  -- each element has to be below
+  pub smaller_set : Refuses (codes "def a = fun (x: Int^{out, hits}) => val y: Int^{out} = x; 1") E15 (place 1 56)
+  pub other_device : Refuses (codes "def a = fun (x: Int^{out}) => val y: Int^{hits} = x; 1") E15 (place 1 51)
+  pub other_name : Refuses
+      (codes "def a = fun (x: Int^{out}) => fun (y: Int^{out}) => val z: Int^{y} = x; 1") E15 (place 1 70)
+  pub below_what_is_declared_with_it : Refuses
+      (codes "def a = fun (x: Int^{out}) => fun (y: Int^{x}) => val z: Int^{y} = x; 1") E15 (place 1 68)
+  pub cap_below_a_device : Refuses
+      (codes "def a = fun (x: Int^{cap}) => val y: Int^{out, hits} = x; 1") E15 (place 1 56)
+  pub device_below_nothing : Refuses (codes "def a = fun (u: Unit) => val y: Console = out; 1") E15 (place 1 43)
+  pub device_below_another : Refuses
+      (codes "def a = fun (u: Unit) => val y: Console^{hits} = out; 1") E15 (place 1 50)
+  pub not_all_declared : Refuses
+      (codes "def a = fun (x: Int^{out}) => fun (y: Int^{hits}) => fun (z: Int^{x, y}) => val w: Int^{out, x} "
+      ++ codes "= z; 1")
+      E15 (place 1 99)
+  -- a definition is declared with its signature
+  pub earlier_definition : Accepts
+      (lines (codes "def f = fun (u: Unit) => out.print(1)"
+      ∷ codes "def a: ((u: Unit) -> Unit)^{f} = fun (u: Unit) => f(u)" ∷ []))
+      (codes "f: ((_0: Unit) -> Unit)^{out}" ∷ codes "a: ((_0: Unit) -> Unit)^{out}" ∷ [])
+  pub device_of_an_earlier_definition : Accepts
+      (lines (codes "def f = fun (u: Unit) => out.print(1)"
+      ∷ codes "def a: ((u: Unit) -> Unit)^{out} = fun (u: Unit) => f(u)" ∷ []))
+      (codes "f: ((_0: Unit) -> Unit)^{out}" ∷ codes "a: ((_0: Unit) -> Unit)^{out}" ∷ [])
+  pub other_device_of_an_earlier_definition : Refuses
+      (lines (codes "def f = fun (u: Unit) => out.print(1)"
+      ∷ codes "def a: ((u: Unit) -> Unit)^{hits} = fun (u: Unit) => f(u)" ∷ []))
+      E15 (place 2 37)
+  pub pure_earlier_definition : Accepts
+      (lines (codes "def f = fun (u: Unit) => u"
+      ∷ codes "def a: (u: Unit) -> Unit = fun (u: Unit) => val x = f(u); unit" ∷ []))
+      (codes "f: (_0: Unit) -> Unit^{_0}" ∷ codes "a: (_0: Unit) -> Unit" ∷ [])

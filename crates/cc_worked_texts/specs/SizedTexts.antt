@@ -1,7 +1,31 @@
 -- Texts with types of the greatest size, and with larger ones.
-use Rattle.std.specs.Prelude.{codes, ◌++◌}
+use Rattle.std.specs.Prelude.{ℕ, zero, suc, List, codes, ◌++◌}
 use Rattle.cc_base.specs.declared.code.Code.TheVariants.{E18}
 use Rattle.cc_worked_texts.specs.TextVerdicts.{place, repeated, tower, Refuses}
+
+-- a tower of so many levels: functions that take and give the tower below, down to the type variable `X`
+abbrev pub towering : ℕ → List ℕ
+towering zero = codes "X"
+towering (suc levels) = codes "(a:" ++ towering levels ++ codes ")->" ++ towering levels
+
+-- a function of size 4,097
+abbrev pub large : List ℕ
+large = codes "(a:" ++ towering 11 ++ codes ")->Int"
+
+-- A type that is written may be too large, too.
+pub record WrittenSizes : Type 0 where
+  pub application : Refuses
+      (codes "def a = fun [X <: Any] => fun (g: (u: Unit) -> " ++ large ++ codes ") => (g(unit))") E18 (place 1 14392)
+  pub boundary : Refuses
+      (codes "def a = fun [X <: Any] => (boundary [" ++ large ++ codes "] z => fun (a: Any) => 1)") E18 (place 1 27)
+  pub exit : Refuses
+      (codes "def a = fun [X <: Any] => fun (e: Exit[Int]) => (exit [" ++ large ++ codes "] (e, 1))") E18 (place 1 49)
+  pub choice : Refuses
+      (codes "def a = fun [X <: Any] => (if [" ++ large ++ codes "] true then fun (a: Any) => 1 else fun (a: Any) => 1)")
+      E18 (place 1 27)
+  pub choice_of_an_omitted_set : Refuses
+      (codes "def a = fun [X <: Any] => (if [(" ++ large ++ codes ")^?] true then fun (a: Any) => 1 else fun (a: Any) => 1)")
+      E18 (place 1 27)
 
 -- A term of each form whose type is too large is refused at its own parenthesis.
 pub record SizedTerms : Type 0 where

@@ -45,6 +45,7 @@ pub record WhiteSpace : Type 0 where
   pub ogham_space : Refuses (encode_utf8_all (codes "def\u{1680} a = 1")) E02 (place 1 4)
   pub em_space : Refuses (encode_utf8_all (codes "def\u{2003} a = 1")) E02 (place 1 4)
   pub zero_width_space : Refuses (encode_utf8_all (codes "def\u{200b} a = 1")) E02 (place 1 4)
+  pub left_to_right_mark : Refuses (encode_utf8_all (codes "def\u{200e} a = 1")) E02 (place 1 4)
   pub line_separator : Refuses (encode_utf8_all (codes "def\u{2028} a = 1")) E02 (place 1 4)
   pub paragraph_separator : Refuses (encode_utf8_all (codes "def\u{2029} a = 1")) E02 (place 1 4)
   pub ideographic_space : Refuses (encode_utf8_all (codes "def\u{3000} a = 1")) E02 (place 1 4)
@@ -104,7 +105,8 @@ pub record Comments : Type 0 where
   pub star_and_slash : Refuses (codes "/// */ ~\n~") E02 (place 2 1)
   -- no line ends within it
   pub lines_behind_carriage_returns : Refuses
-      (encode_utf8_all (codes "//\r\n// \u{85}\n// \u{2028}\u{2029}\n// \u{b}\u{c}\n~")) E02 (place 5 1)
+      (encode_utf8_all (codes "//\r\n// \u{85}\n// \u{2028}\u{2029}\n// \u{b}\u{c}\0\u{1c}\u{1e}\n~"))
+      E02 (place 5 1)
   pub letters : Refuses (encode_utf8_all (codes "// é語𝐱\n~")) E02 (place 2 1)
   -- two slashes in a string begin none
   pub in_a_string : Accepts (codes "def a = \"// x\"") (codes "a: Str" ∷ [])

@@ -25,3 +25,8 @@ pub fn type_functions()
 pub fn boxes()
     ensures { example.ComparedBoxes }
 {}
+
+/// Sets below each other.
+pub fn sets()
+    ensures { example.ComparedSets }
+{}
