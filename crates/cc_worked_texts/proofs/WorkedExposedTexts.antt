@@ -1,7 +1,7 @@
 -- Texts in which a type variable stands for its bound.
 use Rattle.std.proofs.Common.{refl, codes, [], ◌∷◌, ◌++◌}
 use Rattle.cc_base.specs.declared.code.Code.TheVariants.{E13, E14}
-use Rattle.cc_worked_texts.specs.TextVerdicts.{place, repeated}
+use Rattle.cc_worked_texts.specs.TextVerdicts.{place}
 use Rattle.cc_worked_texts.specs.ExposedTexts as example
 use Rattle.cc_worked_texts.proofs.ComputedModules.{text_computing, refused, accepted}
 

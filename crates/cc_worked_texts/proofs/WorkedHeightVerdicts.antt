@@ -108,6 +108,7 @@ unfolding text_computing
 linked = record {
   written_type = refused 9 (codes "def a = (val x: " ++ repeated 96 (codes "(") ++ codes "Int" ++ repeated 96 (codes ")") ++ codes " = 1; x) + 1") E12 (place 1 9) refl;
   higher_written_type = refused 9 (codes "def a = (val x: " ++ repeated 97 (codes "(") ++ codes "Int" ++ repeated 97 (codes ")") ++ codes " = 1; x) + 1") E04 (place 1 223) refl;
+  set_of_a_written_type = refused 9 (codes "def a = (val x: " ++ repeated 96 (codes "(") ++ codes "Int" ++ repeated 96 (codes ")") ++ codes "^{out, hits} = 1; x) + 1") E12 (place 1 9) refl;
   higher_right_side = refused 9 (codes "def a = (val x = " ++ repeated 97 (codes "(") ++ codes "1" ++ repeated 97 (codes ")") ++ codes "; x) + 1") E04 (place 1 218) refl;
   higher_body = refused 9 (codes "def a = (val x = 1; " ++ repeated 97 (codes "(") ++ codes "x" ++ repeated 97 (codes ")") ++ codes ") + 1") E04 (place 1 218) refl;
   higher_parameter = refused 9 (codes "def a = (fun (x: " ++ repeated 97 (codes "(") ++ codes "Int" ++ repeated 97 (codes ")") ++ codes ") => 1)(2)") E04 (place 1 222) refl;

@@ -1,6 +1,6 @@
 -- Texts that are parts of others: what stands where an expression or a type does, and what has to be there.
 use Rattle.std.proofs.Common.{refl, codes, [], ◌∷◌, ◌++◌}
-use Rattle.cc_base.specs.declared.code.Code.TheVariants.{E03, E12}
+use Rattle.cc_base.specs.declared.code.Code.TheVariants.{E03, E12, E13, E14}
 use Rattle.cc_worked_texts.specs.TextVerdicts.{place}
 use Rattle.cc_worked_texts.specs.PartVerdicts as example
 use Rattle.cc_worked_texts.proofs.ComputedModules.{text_computing, refused, accepted}
@@ -226,4 +226,53 @@ wanted_tokens = record {
   rec_behind_the_name = refused 9 (codes "def a rec: Int = 1") E03 (place 1 7) refl;
   word_first = refused 9 (codes "fun (x: Int) => x") E03 (place 1 1) refl;
   definition_in_a_definition = refused 9 (codes "def a = def b = 1") E03 (place 1 9) refl;
+}
+
+pub whole_operands : example.WholeOperands
+unfolding text_computing
+whole_operands = record {
+  boxed_exit = accepted 9 (codes "def a = fun (e: Exit[Int]) => box exit [Int] (e, 1)") (codes "a: (_0: Exit[Int]) -> Box[Int]" ∷ []) refl;
+  opened_exit = accepted 9 (codes "def a = fun (e: Exit[Int]) => unbox exit [Box[Int]] (e, 1)") (codes "a: (_0: Exit[Int]) -> Int" ∷ []) refl;
+  added_exit = accepted 9 (codes "def a = fun (e: Exit[Int]) => 1 + exit [Int] (e, 1)") (codes "a: (_0: Exit[Int]) -> Int" ∷ []) refl;
+  multiplied_exit = accepted 9 (codes "def a = fun (e: Exit[Int]) => 1 * exit [Int] (e, 1)") (codes "a: (_0: Exit[Int]) -> Int" ∷ []) refl;
+  compared_exit = accepted 9 (codes "def a = fun (e: Exit[Int]) => 1 < exit [Int] (e, 1)") (codes "a: (_0: Exit[Int]) -> Bool" ∷ []) refl;
+  exit_with_an_operator = accepted 9 (codes "def a = fun (e: Exit[Int]) => exit [Int] (e, 1) * 2") (codes "a: (_0: Exit[Int]) -> Int" ∷ []) refl;
+  called_exit = accepted 9 (codes "def a = fun (e: Exit[Int]) => exit [(i: Int) -> Int] (e, 1)(2)") (codes "a: (_0: Exit[Int]) -> Int" ∷ []) refl;
+  exit_with_a_shape = accepted 9 (codes "def a = fun (e: Exit[Int]) => exit [[X <: Any] -> Int] (e, 1)[Int]") (codes "a: (_0: Exit[Int]) -> Int" ∷ []) refl;
+  operated_exit = accepted 9 (codes "def a = fun (e: Exit[Int]) => exit [Console] (e, 1).print(2)") (codes "a: (_0: Exit[Int]) -> Unit" ∷ []) refl;
+  boxed_repetition = accepted 9 (codes "def a = fun (f: (i: Int) -> Unit) => box repeat(1, f)") (codes "a: (_0: (_0: Int) -> Unit) -> Box[Unit]" ∷ []) refl;
+  opened_repetition = refused 9 (codes "def a = fun (f: (i: Int) -> Unit) => unbox repeat(1, f)") E13 (place 1 44) refl;
+  added_repetition = refused 9 (codes "def a = fun (f: (i: Int) -> Unit) => 1 + repeat(1, f)") E14 (place 1 42) refl;
+  multiplied_repetition = refused 9 (codes "def a = fun (f: (i: Int) -> Unit) => 1 * repeat(1, f)") E14 (place 1 42) refl;
+  compared_repetition = refused 9 (codes "def a = fun (f: (i: Int) -> Unit) => 1 == repeat(1, f)") E14 (place 1 43) refl;
+  repetition_with_an_operator = refused 9 (codes "def a = fun (f: (i: Int) -> Unit) => repeat(1, f) * 2") E14 (place 1 38) refl;
+  called_repetition = refused 9 (codes "def a = fun (f: (i: Int) -> Unit) => repeat(1, f)(2)") E13 (place 1 38) refl;
+  repetition_with_a_shape = refused 9 (codes "def a = fun (f: (i: Int) -> Unit) => repeat(1, f)[Int]") E13 (place 1 38) refl;
+  operated_repetition = refused 9 (codes "def a = fun (f: (i: Int) -> Unit) => repeat(1, f).read()") E13 (place 1 38) refl;
+  added_unboxing = accepted 9 (codes "def a = fun (b: Box[Int]) => 1 + unbox b") (codes "a: (_0: Box[Int]) -> Int" ∷ []) refl;
+  multiplied_unboxing = accepted 9 (codes "def a = fun (b: Box[Int]) => 2 * unbox b") (codes "a: (_0: Box[Int]) -> Int" ∷ []) refl;
+  unboxing_with_an_operator = accepted 9 (codes "def a = fun (b: Box[Int]) => unbox b * 2") (codes "a: (_0: Box[Int]) -> Int" ∷ []) refl;
+  compared_unboxings = accepted 9 (codes "def a = fun (b: Box[Int]) => unbox b < unbox b") (codes "a: (_0: Box[Int]) -> Bool" ∷ []) refl;
+  boxed_unboxing = accepted 9 (codes "def a = fun (b: Box[Int]) => box unbox b") (codes "a: (_0: Box[Int]) -> Box[Int]" ∷ []) refl;
+  opened_box = accepted 9 (codes "def a = fun (b: Box[Int]) => unbox box b") (codes "a: (_0: Box[Int]) -> Box[Int]^{_0}" ∷ []) refl;
+  multiplied_box = refused 9 (codes "def a = fun (b: Box[Int]) => 2 * box b") E14 (place 1 34) refl;
+  box_with_an_operator = refused 9 (codes "def a = fun (b: Box[Int]) => box b * 2") E14 (place 1 30) refl;
+  opened_call = accepted 9 (codes "def a = fun (f: (i: Int) -> Box[Int]) => unbox f(1)") (codes "a: (_0: (_0: Int) -> Box[Int]) -> Int" ∷ []) refl;
+  opened_operation = refused 9 (codes "def a = fun (f: File^{cap}) => unbox f.read()") E13 (place 1 38) refl;
+  boxed_type_call = accepted 9 (codes "def a = fun (f: [X <: Any] -> Int) => box f[Int]") (codes "a: (_0: [_T0 <: Any] -> Int) -> Box[Int]" ∷ []) refl;
+  opened_chain = accepted 9 (codes "def a = fun (f: (i: Int) -> [X <: Any] -> Box[Int]) => unbox {} f(1)[Int] + 1") (codes "a: (_0: (_0: Int) -> [_T1 <: Any] -> Box[Int]) -> Int" ∷ []) refl;
+  called_parenthesis = accepted 9 (codes "def a = fun (f: (i: Int) -> Int) => (f)(1)") (codes "a: (_0: (_0: Int) -> Int) -> Int" ∷ []) refl;
+  called_box = refused 9 (codes "def a = fun (b: Box[Int]) => (unbox b)(1)") E13 (place 1 30) refl;
+  call_of_a_call = accepted 9 (codes "def a = fun (f: (i: Int) -> (j: Int) -> Int) => f(1)(2)") (codes "a: (_0: (_0: Int) -> (_1: Int) -> Int) -> Int" ∷ []) refl;
+  type_call_of_a_call = accepted 9 (codes "def a = fun (f: (i: Int) -> [X <: Any] -> Int) => f(1)[Int]") (codes "a: (_0: (_0: Int) -> [_T1 <: Any] -> Int) -> Int" ∷ []) refl;
+  call_of_a_type_call = accepted 9 (codes "def a = fun (f: [X <: Any] -> (i: Int) -> Int) => f[Int](1)") (codes "a: (_0: [_T0 <: Any] -> (_1: Int) -> Int) -> Int" ∷ []) refl;
+  operated_call = accepted 9 (codes "def a = fun (f: (i: Int) -> File^{cap}) => f(1).read()") (codes "a: (_0: (_0: Int) -> File^{cap}) -> Int" ∷ []) refl;
+  call_of_an_operation = refused 9 (codes "def a = fun (f: File^{cap}) => f.read()(1)") E13 (place 1 32) refl;
+  type_call_of_an_operation = refused 9 (codes "def a = fun (f: File^{cap}) => f.write(1)[Int]") E13 (place 1 32) refl;
+  called_literal = refused 9 (codes "def a = fun (x: Int) => 1(x)") E13 (place 1 25) refl;
+  operated_literal = refused 9 (codes "def a = fun (x: Int) => \"\".say(\"\")") E13 (place 1 25) refl;
+  operands_of_calls = accepted 9 (codes "def a = fun (f: (i: Int) -> Int) => f(1) * f(2) + f(3) < f(4)") (codes "a: (_0: (_0: Int) -> Int) -> Bool" ∷ []) refl;
+  call_in_a_product = accepted 9 (codes "def a = fun (f: (i: Int) -> Int) => 1 * f(2)") (codes "a: (_0: (_0: Int) -> Int) -> Int" ∷ []) refl;
+  type_call_in_a_product = accepted 9 (codes "def a = fun (f: [X <: Any] -> Int) => 1 * f[Int]") (codes "a: (_0: [_T0 <: Any] -> Int) -> Int" ∷ []) refl;
+  operation_in_a_product = accepted 9 (codes "def a = fun (f: File^{cap}) => 1 * f.read()") (codes "a: (_0: File^{cap}) -> Int" ∷ []) refl;
 }

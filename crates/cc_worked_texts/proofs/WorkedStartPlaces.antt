@@ -1,7 +1,7 @@
 -- Where expressions and shapes start, and which of two unknown names is refused first.
 use Rattle.std.proofs.Common.{refl, codes}
 use Rattle.cc_base.specs.declared.code.Code.TheVariants.{E09, E10, E11, E12, E13, E14, E16, E17}
-use Rattle.cc_worked_texts.specs.TextVerdicts.{place, repeated}
+use Rattle.cc_worked_texts.specs.TextVerdicts.{place}
 use Rattle.cc_worked_texts.specs.StartPlaces as example
 use Rattle.cc_worked_texts.proofs.ComputedModules.{text_computing, refused}
 

@@ -1,7 +1,7 @@
 -- Texts in which a type variable stands for its bound.
 use Rattle.std.specs.Prelude.{codes, [], ◌∷◌, ◌++◌}
 use Rattle.cc_base.specs.declared.code.Code.TheVariants.{E13, E14}
-use Rattle.cc_worked_texts.specs.TextVerdicts.{place, repeated, Refuses, Accepts}
+use Rattle.cc_worked_texts.specs.TextVerdicts.{place, Refuses, Accepts}
 
 -- A head of each form may be of a type variable, whose bound counts, and that of its bound.
 pub record ExposedHeads : Type 0 where

@@ -291,6 +291,12 @@ pub record LinkedHeights : Type 0 where
       (codes "def a = (val x: " ++ repeated 97 (codes "(") ++ codes "Int" ++ repeated 97 (codes ")")
       ++ codes " = 1; x) + 1")
       E04 (place 1 223)
+  -- sets have no height
+  pub set_of_a_written_type : Refuses
+      (codes "def a = (val x: " ++ repeated 96 (codes "(") ++ codes "Int" ++ repeated 96 (codes ")")
+      ++ codes "^{out, hits} = 1; x) + 1")
+      E12 (place 1 9)
+  -- each other part
   pub higher_right_side : Refuses
       (codes "def a = (val x = " ++ repeated 97 (codes "(") ++ codes "1" ++ repeated 97 (codes ")")
       ++ codes "; x) + 1")

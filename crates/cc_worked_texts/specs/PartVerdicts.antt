@@ -1,6 +1,6 @@
 -- Texts that are parts of others: what stands where an expression or a type does, and what has to be there.
 use Rattle.std.specs.Prelude.{codes, [], ◌∷◌, ◌++◌}
-use Rattle.cc_base.specs.declared.code.Code.TheVariants.{E03, E12}
+use Rattle.cc_base.specs.declared.code.Code.TheVariants.{E03, E12, E13, E14}
 use Rattle.cc_worked_texts.specs.TextVerdicts.{place, Refuses, Accepts}
 
 -- Parts that any expression may be, without parentheses.
@@ -274,3 +274,96 @@ pub record WantedTokens : Type 0 where
   pub rec_behind_the_name : Refuses (codes "def a rec: Int = 1") E03 (place 1 7)
   pub word_first : Refuses (codes "fun (x: Int) => x") E03 (place 1 1)
   pub definition_in_a_definition : Refuses (codes "def a = def b = 1") E03 (place 1 9)
+
+-- What is an operand wherever one is wanted, without parentheses.
+pub record WholeOperands : Type 0 where
+  -- an exit
+  pub boxed_exit : Accepts
+      (codes "def a = fun (e: Exit[Int]) => box exit [Int] (e, 1)") (codes "a: (_0: Exit[Int]) -> Box[Int]" ∷ [])
+  pub opened_exit : Accepts
+      (codes "def a = fun (e: Exit[Int]) => unbox exit [Box[Int]] (e, 1)") (codes "a: (_0: Exit[Int]) -> Int" ∷ [])
+  pub added_exit : Accepts
+      (codes "def a = fun (e: Exit[Int]) => 1 + exit [Int] (e, 1)") (codes "a: (_0: Exit[Int]) -> Int" ∷ [])
+  pub multiplied_exit : Accepts
+      (codes "def a = fun (e: Exit[Int]) => 1 * exit [Int] (e, 1)") (codes "a: (_0: Exit[Int]) -> Int" ∷ [])
+  pub compared_exit : Accepts
+      (codes "def a = fun (e: Exit[Int]) => 1 < exit [Int] (e, 1)") (codes "a: (_0: Exit[Int]) -> Bool" ∷ [])
+  pub exit_with_an_operator : Accepts
+      (codes "def a = fun (e: Exit[Int]) => exit [Int] (e, 1) * 2") (codes "a: (_0: Exit[Int]) -> Int" ∷ [])
+  pub called_exit : Accepts
+      (codes "def a = fun (e: Exit[Int]) => exit [(i: Int) -> Int] (e, 1)(2)")
+      (codes "a: (_0: Exit[Int]) -> Int" ∷ [])
+  pub exit_with_a_shape : Accepts
+      (codes "def a = fun (e: Exit[Int]) => exit [[X <: Any] -> Int] (e, 1)[Int]")
+      (codes "a: (_0: Exit[Int]) -> Int" ∷ [])
+  pub operated_exit : Accepts
+      (codes "def a = fun (e: Exit[Int]) => exit [Console] (e, 1).print(2)") (codes "a: (_0: Exit[Int]) -> Unit" ∷ [])
+  -- a repetition
+  pub boxed_repetition : Accepts
+      (codes "def a = fun (f: (i: Int) -> Unit) => box repeat(1, f)")
+      (codes "a: (_0: (_0: Int) -> Unit) -> Box[Unit]" ∷ [])
+  pub opened_repetition : Refuses (codes "def a = fun (f: (i: Int) -> Unit) => unbox repeat(1, f)") E13 (place 1 44)
+  pub added_repetition : Refuses (codes "def a = fun (f: (i: Int) -> Unit) => 1 + repeat(1, f)") E14 (place 1 42)
+  pub multiplied_repetition : Refuses (codes "def a = fun (f: (i: Int) -> Unit) => 1 * repeat(1, f)") E14 (place 1 42)
+  pub compared_repetition : Refuses (codes "def a = fun (f: (i: Int) -> Unit) => 1 == repeat(1, f)") E14 (place 1 43)
+  pub repetition_with_an_operator : Refuses
+      (codes "def a = fun (f: (i: Int) -> Unit) => repeat(1, f) * 2") E14 (place 1 38)
+  pub called_repetition : Refuses (codes "def a = fun (f: (i: Int) -> Unit) => repeat(1, f)(2)") E13 (place 1 38)
+  pub repetition_with_a_shape : Refuses
+      (codes "def a = fun (f: (i: Int) -> Unit) => repeat(1, f)[Int]") E13 (place 1 38)
+  pub operated_repetition : Refuses
+      (codes "def a = fun (f: (i: Int) -> Unit) => repeat(1, f).read()") E13 (place 1 38)
+  -- an opened box and a box
+  pub added_unboxing : Accepts
+      (codes "def a = fun (b: Box[Int]) => 1 + unbox b") (codes "a: (_0: Box[Int]) -> Int" ∷ [])
+  pub multiplied_unboxing : Accepts
+      (codes "def a = fun (b: Box[Int]) => 2 * unbox b") (codes "a: (_0: Box[Int]) -> Int" ∷ [])
+  pub unboxing_with_an_operator : Accepts
+      (codes "def a = fun (b: Box[Int]) => unbox b * 2") (codes "a: (_0: Box[Int]) -> Int" ∷ [])
+  pub compared_unboxings : Accepts
+      (codes "def a = fun (b: Box[Int]) => unbox b < unbox b") (codes "a: (_0: Box[Int]) -> Bool" ∷ [])
+  pub boxed_unboxing : Accepts
+      (codes "def a = fun (b: Box[Int]) => box unbox b") (codes "a: (_0: Box[Int]) -> Box[Int]" ∷ [])
+  pub opened_box : Accepts
+      (codes "def a = fun (b: Box[Int]) => unbox box b") (codes "a: (_0: Box[Int]) -> Box[Int]^{_0}" ∷ [])
+  pub multiplied_box : Refuses (codes "def a = fun (b: Box[Int]) => 2 * box b") E14 (place 1 34)
+  pub box_with_an_operator : Refuses (codes "def a = fun (b: Box[Int]) => box b * 2") E14 (place 1 30)
+  pub opened_call : Accepts
+      (codes "def a = fun (f: (i: Int) -> Box[Int]) => unbox f(1)")
+      (codes "a: (_0: (_0: Int) -> Box[Int]) -> Int" ∷ [])
+  pub opened_operation : Refuses (codes "def a = fun (f: File^{cap}) => unbox f.read()") E13 (place 1 38)
+  pub boxed_type_call : Accepts
+      (codes "def a = fun (f: [X <: Any] -> Int) => box f[Int]")
+      (codes "a: (_0: [_T0 <: Any] -> Int) -> Box[Int]" ∷ [])
+  pub opened_chain : Accepts
+      (codes "def a = fun (f: (i: Int) -> [X <: Any] -> Box[Int]) => unbox {} f(1)[Int] + 1")
+      (codes "a: (_0: (_0: Int) -> [_T1 <: Any] -> Box[Int]) -> Int" ∷ [])
+  -- a parenthesis, a literal and a name
+  pub called_parenthesis : Accepts
+      (codes "def a = fun (f: (i: Int) -> Int) => (f)(1)") (codes "a: (_0: (_0: Int) -> Int) -> Int" ∷ [])
+  pub called_box : Refuses (codes "def a = fun (b: Box[Int]) => (unbox b)(1)") E13 (place 1 30)
+  pub call_of_a_call : Accepts
+      (codes "def a = fun (f: (i: Int) -> (j: Int) -> Int) => f(1)(2)")
+      (codes "a: (_0: (_0: Int) -> (_1: Int) -> Int) -> Int" ∷ [])
+  pub type_call_of_a_call : Accepts
+      (codes "def a = fun (f: (i: Int) -> [X <: Any] -> Int) => f(1)[Int]")
+      (codes "a: (_0: (_0: Int) -> [_T1 <: Any] -> Int) -> Int" ∷ [])
+  pub call_of_a_type_call : Accepts
+      (codes "def a = fun (f: [X <: Any] -> (i: Int) -> Int) => f[Int](1)")
+      (codes "a: (_0: [_T0 <: Any] -> (_1: Int) -> Int) -> Int" ∷ [])
+  pub operated_call : Accepts
+      (codes "def a = fun (f: (i: Int) -> File^{cap}) => f(1).read()")
+      (codes "a: (_0: (_0: Int) -> File^{cap}) -> Int" ∷ [])
+  pub call_of_an_operation : Refuses (codes "def a = fun (f: File^{cap}) => f.read()(1)") E13 (place 1 32)
+  pub type_call_of_an_operation : Refuses (codes "def a = fun (f: File^{cap}) => f.write(1)[Int]") E13 (place 1 32)
+  pub called_literal : Refuses (codes "def a = fun (x: Int) => 1(x)") E13 (place 1 25)
+  pub operated_literal : Refuses (codes "def a = fun (x: Int) => \"\".say(\"\")") E13 (place 1 25)
+  pub operands_of_calls : Accepts
+      (codes "def a = fun (f: (i: Int) -> Int) => f(1) * f(2) + f(3) < f(4)")
+      (codes "a: (_0: (_0: Int) -> Int) -> Bool" ∷ [])
+  pub call_in_a_product : Accepts
+      (codes "def a = fun (f: (i: Int) -> Int) => 1 * f(2)") (codes "a: (_0: (_0: Int) -> Int) -> Int" ∷ [])
+  pub type_call_in_a_product : Accepts
+      (codes "def a = fun (f: [X <: Any] -> Int) => 1 * f[Int]") (codes "a: (_0: [_T0 <: Any] -> Int) -> Int" ∷ [])
+  pub operation_in_a_product : Accepts
+      (codes "def a = fun (f: File^{cap}) => 1 * f.read()") (codes "a: (_0: File^{cap}) -> Int" ∷ [])

@@ -1,7 +1,7 @@
 -- Where expressions and shapes start, and which of two unknown names is refused first.
 use Rattle.std.specs.Prelude.{codes}
 use Rattle.cc_base.specs.declared.code.Code.TheVariants.{E09, E10, E11, E12, E13, E14, E16, E17}
-use Rattle.cc_worked_texts.specs.TextVerdicts.{place, repeated, Refuses}
+use Rattle.cc_worked_texts.specs.TextVerdicts.{place, Refuses}
 
 -- Where each form of expression starts, as the branch of a choice whose shape does not match.
 pub record ExpressionStarts : Type 0 where

@@ -1,7 +1,7 @@
 -- Texts whose tokens decide.
 use Rattle.std.specs.Prelude.{codes, [], ◌∷◌, ◌++◌, encode_utf8_all}
 use Rattle.cc_base.specs.declared.code.Code.TheVariants.{E01, E02, E03, E10}
-use Rattle.cc_worked_texts.specs.TextVerdicts.{place, repeated, lines, Refuses, Accepts}
+use Rattle.cc_worked_texts.specs.TextVerdicts.{place, repeated, Refuses, Accepts}
 
 -- Which characters stand in a string, and how many.
 pub record StringTexts : Type 0 where

@@ -25,3 +25,8 @@ pub fn sets()
 pub fn wanted_tokens()
     ensures { example.WantedTokens }
 {}
+
+/// What is an operand wherever one is wanted, without parentheses.
+pub fn whole_operands()
+    ensures { example.WholeOperands }
+{}
