@@ -20,3 +20,4 @@ pub mod WorkedStartPlaces
 pub mod WorkedStringVerdicts
 pub mod WorkedTokenVerdicts
 pub mod WorkedWordVerdicts
+pub mod WorkedWrittenTexts

@@ -20,3 +20,4 @@ pub mod TextMeanings
 pub mod TextVerdicts
 pub mod TokenVerdicts
 pub mod WordVerdicts
+pub mod WrittenTexts

@@ -21,3 +21,4 @@ pub mod start_places;
 pub mod string_verdicts;
 pub mod token_verdicts;
 pub mod word_verdicts;
+pub mod written_texts;
