@@ -24,6 +24,7 @@ types = record {
   unboxing = accepted 9 (codes "def a = fun (b: Box[Int^{out}]) => unbox {out, b} b") (codes "a: ((_0: Box[Int^{out}]) -> Int^{out, _0})^{out}" ∷ []) refl;
   argument = accepted 9 (codes "def a = fun (f: (y: Any) -> Any^{y}) => fun (x: Int) => f(x)") (codes "a: (_0: (_0: Any) -> Any^{_0}) -> ((_1: Int) -> Any^{_1})^{_0}" ∷ []) refl;
   type_argument = accepted 9 (codes "def a = fun (f: [X <: Any] -> Box[X]) => f[Int]") (codes "a: (_0: [_T0 <: Any] -> Box[_T0]) -> Box[Int]" ∷ []) refl;
+  type_argument_behind_a_call = accepted 9 (codes "def a = fun (x: Int) => fun (f: (i: Int) -> [X <: Any] -> X) => f(1)[Box[Int^{x}]]") (codes "a: (_0: Int) -> (_1: (_1: Int) -> [_T2 <: Any] -> _T2) -> Box[Int^{_0}]" ∷ []) refl;
   type_argument_in_a_function = accepted 9 (codes "def a = fun (f: [X <: Any] -> (y: X) -> Box[X^{y}]) => f[Str]") (codes "a: (_0: [_T0 <: Any] -> (_1: _T0) -> Box[_T0^{_1}]) -> (_1: Str) -> Box[Str^{_1}]" ∷ []) refl;
   omitted_of_a_val = accepted 9 (codes "def a = fun (x: Int) => val y: Any^? = x; y") (codes "a: (_0: Int) -> Any^{_0}" ∷ []) refl;
   omitted_of_a_call = accepted 9 (codes "def a = fun (x: Int) => val y: Any^? = (fun (z: Int) => z)(x); y") (codes "a: (_0: Int) -> Any^{_0}" ∷ []) refl;

@@ -38,6 +38,9 @@ pub record WrittenTypes : Type 0 where
   pub type_argument : Accepts
       (codes "def a = fun (f: [X <: Any] -> Box[X]) => f[Int]")
       (codes "a: (_0: [_T0 <: Any] -> Box[_T0]) -> Box[Int]" ∷ [])
+  pub type_argument_behind_a_call : Accepts
+      (codes "def a = fun (x: Int) => fun (f: (i: Int) -> [X <: Any] -> X) => f(1)[Box[Int^{x}]]")
+      (codes "a: (_0: Int) -> (_1: (_1: Int) -> [_T2 <: Any] -> _T2) -> Box[Int^{_0}]" ∷ [])
   pub type_argument_in_a_function : Accepts
       (codes "def a = fun (f: [X <: Any] -> (y: X) -> Box[X^{y}]) => f[Str]")
       (codes "a: (_0: [_T0 <: Any] -> (_1: _T0) -> Box[_T0^{_1}]) -> (_1: Str) -> Box[Str^{_1}]" ∷ [])
