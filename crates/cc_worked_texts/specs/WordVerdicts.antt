@@ -173,15 +173,34 @@ pub record OtherWords : Type 0 where
       ∷ codes "def counter = 1"
       ∷ codes "def EXIT = 1"
       ∷ codes "def BOX = 1"
-      ∷ codes "def INT = 1" ∷ []))
+      ∷ codes "def INT = 1"
+      ∷ codes "def IF = 1"
+      ∷ codes "def VAL = 1"
+      ∷ codes "def DEF = 1"
+      ∷ codes "def REC = 1"
+      ∷ codes "def ELSE = 1"
+      ∷ codes "def THEN = 1"
+      ∷ codes "def STR = 1"
+      ∷ codes "def ANY = 1"
+      ∷ codes "def Exit1 = 1"
+      ∷ codes "def String = 1"
+      ∷ codes "def Number = 1" ∷ []))
       (codes "Import: Int" ∷ codes "Def: Int" ∷ codes "Rec: Int" ∷ codes "Fun: Int" ∷ codes "Val: Int"
       ∷ codes "If: Int" ∷ codes "Then: Int" ∷ codes "Else: Int" ∷ codes "Unbox: Int" ∷ codes "Boundary: Int"
       ∷ codes "Repeat: Int" ∷ codes "True: Int" ∷ codes "False: Int" ∷ codes "UNIT: Int" ∷ codes "Cap: Int"
       ∷ codes "CAP: Int" ∷ codes "bool: Int" ∷ codes "int: Int" ∷ codes "str: Int" ∷ codes "any: Int"
       ∷ codes "console: Int" ∷ codes "file: Int" ∷ codes "counter: Int" ∷ codes "EXIT: Int" ∷ codes "BOX: Int"
-      ∷ codes "INT: Int" ∷ [])
+      ∷ codes "INT: Int" ∷ codes "IF: Int" ∷ codes "VAL: Int" ∷ codes "DEF: Int" ∷ codes "REC: Int"
+      ∷ codes "ELSE: Int" ∷ codes "THEN: Int" ∷ codes "STR: Int" ∷ codes "ANY: Int" ∷ codes "Exit1: Int"
+      ∷ codes "String: Int" ∷ codes "Number: Int" ∷ [])
   pub with_underscores : Accepts
-      (lines (codes "def import_ = 1"
+      (lines (codes "def else_ = 1"
+      ∷ codes "def then_ = 1"
+      ∷ codes "def exit_ = 1"
+      ∷ codes "def Str_ = 1"
+      ∷ codes "def Any_ = 1"
+      ∷ codes "def File_ = 1"
+      ∷ codes "def import_ = 1"
       ∷ codes "def def_ = 1"
       ∷ codes "def rec_ = 1"
       ∷ codes "def fun_ = 1"
@@ -192,9 +211,10 @@ pub record OtherWords : Type 0 where
       ∷ codes "def cap_ = 1"
       ∷ codes "def Int_ = 1"
       ∷ codes "def Box_ = 1" ∷ []))
-      (codes "import_: Int" ∷ codes "def_: Int" ∷ codes "rec_: Int" ∷ codes "fun_: Int" ∷ codes "val_: Int"
-      ∷ codes "if_: Int" ∷ codes "box_: Int" ∷ codes "unit_: Int" ∷ codes "cap_: Int" ∷ codes "Int_: Int"
-      ∷ codes "Box_: Int" ∷ [])
+      (codes "else_: Int" ∷ codes "then_: Int" ∷ codes "exit_: Int" ∷ codes "Str_: Int" ∷ codes "Any_: Int"
+      ∷ codes "File_: Int" ∷ codes "import_: Int" ∷ codes "def_: Int" ∷ codes "rec_: Int" ∷ codes "fun_: Int"
+      ∷ codes "val_: Int" ∷ codes "if_: Int" ∷ codes "box_: Int" ∷ codes "unit_: Int" ∷ codes "cap_: Int"
+      ∷ codes "Int_: Int" ∷ codes "Box_: Int" ∷ [])
   pub other_words : Accepts
       (lines (codes "def let = 1"
       ∷ codes "def in = 1"
@@ -212,11 +232,54 @@ pub record OtherWords : Type 0 where
       ∷ codes "def main = 1"
       ∷ codes "def exitbox = 1"
       ∷ codes "def boxInt = 1"
-      ∷ codes "def Str1 = 1" ∷ []))
+      ∷ codes "def Str1 = 1"
+      ∷ codes "def of = 1"
+      ∷ codes "def string = 1"
+      ∷ codes "def Void = 1"
+      ∷ codes "def Nothing = 1"
+      ∷ codes "def pub = 1"
+      ∷ codes "def do = 1"
+      ∷ codes "def case = 1"
+      ∷ codes "def end = 1"
+      ∷ codes "def where = 1"
+      ∷ codes "def with = 1"
+      ∷ codes "def var = 1"
+      ∷ codes "def const = 1"
+      ∷ codes "def function = 1"
+      ∷ codes "def and = 1"
+      ∷ codes "def or = 1"
+      ∷ codes "def not = 1"
+      ∷ codes "def module = 1"
+      ∷ codes "def export = 1"
+      ∷ codes "def from = 1"
+      ∷ codes "def use = 1"
+      ∷ codes "def self = 1"
+      ∷ codes "def null = 1"
+      ∷ codes "def nil = 1"
+      ∷ codes "def None = 1"
+      ∷ codes "def Some = 1"
+      ∷ codes "def List = 1"
+      ∷ codes "def Char = 1"
+      ∷ codes "def Nat = 1"
+      ∷ codes "def Top = 1"
+      ∷ codes "def Never = 1"
+      ∷ codes "def Object = 1"
+      ∷ codes "def a = 1"
+      ∷ codes "def b = 1"
+      ∷ codes "def x = 1"
+      ∷ codes "def X = 1"
+      ∷ codes "def T = 1" ∷ []))
       (codes "let: Int" ∷ codes "in: Int" ∷ codes "type: Int" ∷ codes "set: Int" ∷ codes "while: Int"
       ∷ codes "for: Int" ∷ codes "match: Int" ∷ codes "return: Int" ∷ codes "print: Int" ∷ codes "say: Int"
       ∷ codes "read: Int" ∷ codes "write: Int" ∷ codes "tick: Int" ∷ codes "main: Int" ∷ codes "exitbox: Int"
-      ∷ codes "boxInt: Int" ∷ codes "Str1: Int" ∷ [])
+      ∷ codes "boxInt: Int" ∷ codes "Str1: Int" ∷ codes "of: Int" ∷ codes "string: Int" ∷ codes "Void: Int"
+      ∷ codes "Nothing: Int" ∷ codes "pub: Int" ∷ codes "do: Int" ∷ codes "case: Int" ∷ codes "end: Int"
+      ∷ codes "where: Int" ∷ codes "with: Int" ∷ codes "var: Int" ∷ codes "const: Int" ∷ codes "function: Int"
+      ∷ codes "and: Int" ∷ codes "or: Int" ∷ codes "not: Int" ∷ codes "module: Int" ∷ codes "export: Int"
+      ∷ codes "from: Int" ∷ codes "use: Int" ∷ codes "self: Int" ∷ codes "null: Int" ∷ codes "nil: Int"
+      ∷ codes "None: Int" ∷ codes "Some: Int" ∷ codes "List: Int" ∷ codes "Char: Int" ∷ codes "Nat: Int"
+      ∷ codes "Top: Int" ∷ codes "Never: Int" ∷ codes "Object: Int" ∷ codes "a: Int" ∷ codes "b: Int"
+      ∷ codes "x: Int" ∷ codes "X: Int" ∷ codes "T: Int" ∷ [])
 
 -- Which symbols there are, and where they end.
 pub record Symbols : Type 0 where
@@ -224,6 +287,11 @@ pub record Symbols : Type 0 where
   pub minus : Refuses (encode_utf8_all (codes "def a = 1 − 2")) E02 (place 1 11)
   pub arrow : Refuses (encode_utf8_all (codes "def a = fun (x: Int) → x")) E02 (place 1 22)
   pub full_width_parenthesis : Refuses (encode_utf8_all (codes "def a = （1)")) E02 (place 1 9)
+  pub bullet : Refuses (encode_utf8_all (codes "def a = 1 • 2")) E02 (place 1 11)
+  pub curly_quotes : Refuses (encode_utf8_all (codes "def a = “x”")) E02 (place 1 9)
+  pub ellipsis : Refuses (encode_utf8_all (codes "def a = …")) E02 (place 1 9)
+  pub euro : Refuses (encode_utf8_all (codes "def a = €")) E02 (place 1 9)
+  pub logical_and : Refuses (encode_utf8_all (codes "def a = true ∧ true")) E02 (place 1 14)
   pub exclamation : Refuses (codes "def a = 1 ! 2") E02 (place 1 11)
   pub number_sign : Refuses (codes "def a = 1 # 2") E02 (place 1 11)
   pub dollar : Refuses (codes "def a = 1 $ 2") E02 (place 1 11)
