@@ -46,6 +46,7 @@ no_strings = record {
   closed_in_the_next_line = refused 9 (codes "def a = \"x\n\"") E02 (place 1 9) refl;
   single_quotes = refused 9 (codes "def a = 'x'") E02 (place 1 9) refl;
   closed_by_a_single_quote = refused 9 (codes "def a = \"x'") E02 (place 1 9) refl;
+  opened_by_a_single_quote = refused 9 (codes "def a = 'x\"") E02 (place 1 9) refl;
   two_quotes = refused 9 (codes "def a = \"x\"\"y\"") E03 (place 1 12) refl;
   delete_behind = refused 9 (codes "def a = \"x\u{7f}\" + \"y\"") E02 (place 1 9) refl;
 }

@@ -89,6 +89,7 @@ symbols = record {
   arrow = refused 9 (encode_utf8_all (codes "def a = fun (x: Int) → x")) E02 (place 1 22) refl;
   full_width_parenthesis = refused 9 (encode_utf8_all (codes "def a = （1)")) E02 (place 1 9) refl;
   bullet = refused 9 (encode_utf8_all (codes "def a = 1 • 2")) E02 (place 1 11) refl;
+  at_most_sign = refused 9 (encode_utf8_all (codes "def a = 1 ≤ 2")) E02 (place 1 11) refl;
   curly_quotes = refused 9 (encode_utf8_all (codes "def a = “x”")) E02 (place 1 9) refl;
   ellipsis = refused 9 (encode_utf8_all (codes "def a = …")) E02 (place 1 9) refl;
   euro = refused 9 (encode_utf8_all (codes "def a = €")) E02 (place 1 9) refl;

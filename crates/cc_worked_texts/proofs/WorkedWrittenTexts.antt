@@ -1,7 +1,7 @@
 -- Texts with types that are written for terms.
 use Rattle.std.proofs.Common.{refl, codes, [], ◌∷◌}
 use Rattle.cc_base.specs.declared.code.Code.TheVariants.{E15}
-use Rattle.cc_worked_texts.specs.TextVerdicts.{place}
+use Rattle.cc_worked_texts.specs.TextVerdicts.{place, lines}
 use Rattle.cc_worked_texts.specs.WrittenTexts as example
 use Rattle.cc_worked_texts.proofs.ComputedModules.{text_computing, refused, accepted}
 
@@ -26,6 +26,8 @@ types = record {
   type_argument = accepted 9 (codes "def a = fun (f: [X <: Any] -> Box[X]) => f[Int]") (codes "a: (_0: [_T0 <: Any] -> Box[_T0]) -> Box[Int]" ∷ []) refl;
   type_argument_behind_a_call = accepted 9 (codes "def a = fun (x: Int) => fun (f: (i: Int) -> [X <: Any] -> X) => f(1)[Box[Int^{x}]]") (codes "a: (_0: Int) -> (_1: (_1: Int) -> [_T2 <: Any] -> _T2) -> Box[Int^{_0}]" ∷ []) refl;
   type_argument_in_a_function = accepted 9 (codes "def a = fun (f: [X <: Any] -> (y: X) -> Box[X^{y}]) => f[Str]") (codes "a: (_0: [_T0 <: Any] -> (_1: _T0) -> Box[_T0^{_1}]) -> (_1: Str) -> Box[Str^{_1}]" ∷ []) refl;
+  own_name = refused 9 (lines (codes "def g = fun (u: Unit) => out.print(1)" ∷ codes "def rec f: (h: Int^{g}) -> Int = fun (h: Int^{g}) => f(h)" ∷ [])) E15 (place 2 56) refl;
+  own_name_with_the_device = accepted 9 (lines (codes "def g = fun (u: Unit) => out.print(1)" ∷ codes "def rec f: (h: Int^{g, out}) -> Int = fun (h: Int^{g, out}) => f(h)" ∷ [])) (codes "g: ((_0: Unit) -> Unit)^{out}" ∷ codes "f: (_0: Int^{out}) -> Int" ∷ []) refl;
   omitted_of_a_val = accepted 9 (codes "def a = fun (x: Int) => val y: Any^? = x; y") (codes "a: (_0: Int) -> Any^{_0}" ∷ []) refl;
   omitted_of_a_call = accepted 9 (codes "def a = fun (x: Int) => val y: Any^? = (fun (z: Int) => z)(x); y") (codes "a: (_0: Int) -> Any^{_0}" ∷ []) refl;
   omitted_of_a_definition = accepted 9 (codes "def a: Any^? = fun (x: Int) => out.print(x)") (codes "a: Any^{out}" ∷ []) refl;

@@ -63,7 +63,8 @@ pub record PositivePlaces : Type 0 where
   pub result_of_a_result : Accepts
       (codes "def a = fun (c: Console^{cap}) => val p = fun (x: Int) => c.print(x); fun (h: (k: (i: Int) -> "
       ++ codes "[X <: Any] -> (j: Int) -> Int^{p}) -> Int) => 1")
-      ((codes "a: (_0: Console^{cap}) -> (_1: (_1: (_1: Int) -> [_T2 <: Any] -> (_3: Int) -> Int^{_0}) " ++ codes "-> Int) -> Int") ∷ [])
+      ((codes "a: (_0: Console^{cap}) -> (_1: (_1: (_1: Int) -> [_T2 <: Any] -> (_3: Int) -> Int^{_0}) "
+      ++ codes "-> Int) -> Int") ∷ [])
   -- a parameter turns it
   pub parameter : Accepts
       (codes "def a = fun (c: Console^{cap}) => val p = fun (x: Int) => c.print(x); fun (h: (k: (i: Int^{p}) "

@@ -131,7 +131,8 @@ pub record TypeParts : Type 0 where
       (codes "def a = fun (f: ((x: Int) -> Int)) => f(1)") (codes "a: (_0: (_0: Int) -> Int) -> Int" ∷ [])
   pub functions_of_functions : Accepts
       (codes "def a = fun (f: (g: (x: Int) -> Int) -> (y: Int) -> Int) => f")
-      ((codes "a: (_0: (_0: (_0: Int) -> Int) -> (_1: Int) -> Int) -> ((_1: (_1: Int) -> Int) -> (_2: " ++ codes "Int) -> Int)^{_0}") ∷ [])
+      ((codes "a: (_0: (_0: (_0: Int) -> Int) -> (_1: Int) -> Int) -> ((_1: (_1: Int) -> Int) -> (_2: "
+      ++ codes "Int) -> Int)^{_0}") ∷ [])
   pub type_function_in_parentheses : Accepts
       (codes "def a = fun (f: ([X <: Any] -> Int)) => f[Int]") (codes "a: (_0: [_T0 <: Any] -> Int) -> Int" ∷ [])
   -- what a type has to have

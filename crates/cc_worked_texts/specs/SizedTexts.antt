@@ -21,10 +21,12 @@ pub record WrittenSizes : Type 0 where
   pub exit : Refuses
       (codes "def a = fun [X <: Any] => fun (e: Exit[Int]) => (exit [" ++ large ++ codes "] (e, 1))") E18 (place 1 49)
   pub choice : Refuses
-      (codes "def a = fun [X <: Any] => (if [" ++ large ++ codes "] true then fun (a: Any) => 1 else fun (a: Any) => 1)")
+      (codes "def a = fun [X <: Any] => (if [" ++ large
+      ++ codes "] true then fun (a: Any) => 1 else fun (a: Any) => 1)")
       E18 (place 1 27)
   pub choice_of_an_omitted_set : Refuses
-      (codes "def a = fun [X <: Any] => (if [(" ++ large ++ codes ")^?] true then fun (a: Any) => 1 else fun (a: Any) => 1)")
+      (codes "def a = fun [X <: Any] => (if [(" ++ large
+      ++ codes ")^?] true then fun (a: Any) => 1 else fun (a: Any) => 1)")
       E18 (place 1 27)
 
 -- A term of each form whose type is too large is refused at its own parenthesis.

@@ -47,6 +47,7 @@ pub record NoStrings : Type 0 where
   pub closed_in_the_next_line : Refuses (codes "def a = \"x\n\"") E02 (place 1 9)
   pub single_quotes : Refuses (codes "def a = 'x'") E02 (place 1 9)
   pub closed_by_a_single_quote : Refuses (codes "def a = \"x'") E02 (place 1 9)
+  pub opened_by_a_single_quote : Refuses (codes "def a = 'x\"") E02 (place 1 9)
   -- two strings, and no quote in one
   pub two_quotes : Refuses (codes "def a = \"x\"\"y\"") E03 (place 1 12)
   -- a string is refused at its quote, wherever the character stands

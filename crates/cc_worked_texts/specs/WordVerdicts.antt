@@ -288,6 +288,7 @@ pub record Symbols : Type 0 where
   pub arrow : Refuses (encode_utf8_all (codes "def a = fun (x: Int) → x")) E02 (place 1 22)
   pub full_width_parenthesis : Refuses (encode_utf8_all (codes "def a = （1)")) E02 (place 1 9)
   pub bullet : Refuses (encode_utf8_all (codes "def a = 1 • 2")) E02 (place 1 11)
+  pub at_most_sign : Refuses (encode_utf8_all (codes "def a = 1 ≤ 2")) E02 (place 1 11)
   pub curly_quotes : Refuses (encode_utf8_all (codes "def a = “x”")) E02 (place 1 9)
   pub ellipsis : Refuses (encode_utf8_all (codes "def a = …")) E02 (place 1 9)
   pub euro : Refuses (encode_utf8_all (codes "def a = €")) E02 (place 1 9)

@@ -1,7 +1,7 @@
 -- Texts with types that are written for terms.
 use Rattle.std.specs.Prelude.{codes, [], ◌∷◌}
 use Rattle.cc_base.specs.declared.code.Code.TheVariants.{E15}
-use Rattle.cc_worked_texts.specs.TextVerdicts.{place, Refuses, Accepts}
+use Rattle.cc_worked_texts.specs.TextVerdicts.{place, lines, Refuses, Accepts}
 
 -- A type that is written is that of the term.
 pub record WrittenTypes : Type 0 where
@@ -44,6 +44,15 @@ pub record WrittenTypes : Type 0 where
   pub type_argument_in_a_function : Accepts
       (codes "def a = fun (f: [X <: Any] -> (y: X) -> Box[X^{y}]) => f[Str]")
       (codes "a: (_0: [_T0 <: Any] -> (_1: _T0) -> Box[_T0^{_1}]) -> (_1: Str) -> Box[Str^{_1}]" ∷ [])
+  -- a recursive name has the type that others see
+  pub own_name : Refuses
+      (lines (codes "def g = fun (u: Unit) => out.print(1)"
+      ∷ codes "def rec f: (h: Int^{g}) -> Int = fun (h: Int^{g}) => f(h)" ∷ []))
+      E15 (place 2 56)
+  pub own_name_with_the_device : Accepts
+      (lines (codes "def g = fun (u: Unit) => out.print(1)"
+      ∷ codes "def rec f: (h: Int^{g, out}) -> Int = fun (h: Int^{g, out}) => f(h)" ∷ []))
+      (codes "g: ((_0: Unit) -> Unit)^{out}" ∷ codes "f: (_0: Int^{out}) -> Int" ∷ [])
   -- where the set is omitted, the shape is what was written
   pub omitted_of_a_val : Accepts
       (codes "def a = fun (x: Int) => val y: Any^? = x; y") (codes "a: (_0: Int) -> Any^{_0}" ∷ [])
