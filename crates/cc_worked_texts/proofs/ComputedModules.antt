@@ -5,6 +5,7 @@ use Rattle.std.specs.Fmt.{digits}
 use lib.Utf8.{encode}
 use Rattle.cc_capture.specs.Elements.{element_order, same_element}
 use Rattle.cc_capture.specs.Rising.{placed}
+use Rattle.cc_capture.specs.Variables.{same_variable}
 use Rattle.cc_capture.specs.Sets.{contains, empty, insert, from_list, retain, remove, union, flat_image, same_set, is_subset}
 use Rattle.cc_grammar.specs.Tests.{operation_named}
 use Rattle.cc_grammar.specs.Reading.{reading_of, module_at, imports_at, import_at, defs_at, def_at, def_rule_at, part_at, expr_over, links_at, next_link, link_at, dot_at, operation_at, link_rule_at, expr_start_at, fun_at, expr_rule_at, type_over, shape_over, shape_start_at, paren_at, named_at, shape_rule_at, one_part_at, written_at, captures_at, set_at, caret_at, elements_at, name_at, placed_name_at, symbol_at, word_at}
@@ -27,7 +28,7 @@ use Rattle.cc_checking.specs.Verdicts as definitions
 use Rattle.cc_verdicts.specs.ModuleVerdicts.{CheckedDefinition, ModuleVerdict, IsAccepted, IsRefused, Refusal, Finding, with_findings, AreJudged, no_more, refused_first, accepted_first, HasModuleVerdict, is_no_module, import_is_missing, is_not_elaborated, is_judged, first_missing, declared_context, to_be_checked, checked_as, after_definition}
 use Rattle.cc_verdicts.specs.Readings.{TextReading, IsTree, IsNoModule, HasReading}
 use Rattle.cc_verdicts.proofs.ReadingLaws.{text_has_one_reading}
-use Rattle.cc_worked_texts.proofs.QuickTokens.{quick_tokens, quick_reading, same_reading}
+use Rattle.cc_worked_texts.proofs.QuickTokens.{quick_tokens, quick_letters, quick_reading, same_reading}
 use Rattle.cc_worked_texts.specs.TextMeanings.{meanings_read, meanings_of, SayTheSame}
 use Rattle.cc_worked_texts.specs.TextVerdicts.{devices, signature_text, RefusesWith, Refuses, AcceptsWith, Accepts}
 
@@ -156,5 +157,10 @@ says text other e f = (ap is_some (same_meanings text) ∙ e, same_meanings text
 
 -- `unfolding text_computing` lets `refl` compute the verdict of a text
 unfoldable pub text_computing : Unit {0}
-unfolding quick_tokens word_of short_symbol pair_symbol number_of encode reading_of module_at imports_at import_at defs_at def_at def_rule_at part_at expr_over links_at next_link link_at dot_at operation_at link_rule_at expr_start_at fun_at expr_rule_at type_over shape_over shape_start_at paren_at named_at shape_rule_at one_part_at written_at captures_at set_at caret_at elements_at name_at placed_name_at symbol_at word_at operation_named followed gives refuses new_hole with_own_holes elaborated_shape elaborated_type with_elements elaborated elaboration ◌>>=◌ comparison by_form same_set contains flat_image from_list union retain remove insert placed element_order same_element empty is_subset digits
+unfolding quick_tokens word_of short_symbol pair_symbol number_of encode reading_of module_at imports_at import_at defs_at def_at def_rule_at part_at expr_over links_at next_link link_at dot_at operation_at link_rule_at expr_start_at fun_at expr_rule_at type_over shape_over shape_start_at paren_at named_at shape_rule_at one_part_at written_at captures_at set_at caret_at elements_at name_at placed_name_at symbol_at word_at operation_named followed gives refuses new_hole with_own_holes elaborated_shape elaborated_type with_elements elaborated elaboration ◌>>=◌ comparison by_form same_variable same_set contains flat_image from_list union retain remove insert placed element_order same_element empty is_subset digits
 text_computing = tt
+
+-- the same where it has other characters than those of ASCII
+unfoldable pub letters_computing : Unit {0}
+unfolding text_computing quick_letters
+letters_computing = tt

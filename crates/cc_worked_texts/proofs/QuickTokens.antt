@@ -1,10 +1,10 @@
--- Reading the tokens of a text of ASCII with less computation: only the branch that is taken is computed, and letters
+-- Reading the tokens of a text with less computation: only the branch that is taken is computed, and letters of ASCII
 -- are told apart without the tables of Unicode.
 use Rattle.std.proofs.Common.{◌≡◌, ◌∙◌, ℕ, zero, suc, ◌+◌, ◌<◌, ◌≤◌, Bool, true, false, ◌&&◌, ◌||◌, ◌==◌, not, if◌then◌else◌, List, [], ◌∷◌, length, take, drop, Option, Some, None, refl, sym, ap, subst, arith}
 use Rattle.std.specs.Prelude.{nat_le, encode_utf8}
 use Rattle.std.specs.Char.{is_ascii_digit, is_ascii_alphabetic, is_ascii_alphanumeric}
 use Rattle.std.specs.List.{prefix_len}
-use Rattle.std.specs.Str.{chars, IsAscii}
+use Rattle.std.specs.Str.{chars, is_utf8, IsAscii}
 use Rattle.std.specs.Str.Lossy.{utf8_valid_len}
 use Rattle.std.proofs.Math.Dec.{ltb}
 use Rattle.std.proofs.lemmas.Bool.{both_ways, ltb-true, ltb-false}
@@ -177,12 +177,24 @@ all_ascii_is [] e = IsAscii-nil
 all_ascii_is (c ∷ cs) e =
     let parts = both_true (ltb c 128) (all_ascii cs) e in IsAscii-cons c cs (ltb-true c 128 parts.0) (all_ascii_is cs parts.1)
 
--- what a text is, with less computation where it is of ASCII
+-- what a text is that may have other characters than those of ASCII
+unfoldable pub quick_utf8_reading : List ℕ → TextReading
+quick_utf8_reading text = elim (is_utf8 text) as (λ _. TextReading) [
+  | true ↦ of_cutting (place_past start (chars text)) (quick_cut 0 start 0 (chars text))
+  | false ↦ IsNoModule E01 (place_past start (chars (take (utf8_valid_len text) text)))
+]
+
+-- what a text is, with less computation
 unfoldable pub quick_reading : List ℕ → TextReading
 quick_reading text = elim (all_ascii text) as (λ _. TextReading) [
   | true ↦ of_cutting (place_past start text) (quick_cut 0 start 0 text)
-  | false ↦ reading_of_text text
+  | false ↦ quick_utf8_reading text
 ]
+
+utf8_reading : (text : List ℕ) → reading_of_text text ≡ quick_utf8_reading text
+unfolding reading_of_text quick_utf8_reading
+utf8_reading text =
+    same_choice (is_utf8 text) (ap (of_cutting (place_past start (chars text))) (same_cut 0 start 0 (chars text))) refl
 
 ascii_reading : (text : List ℕ) → IsAscii text → reading_of_text text ≡ of_cutting (place_past start text) (quick_cut 0 start 0 text)
 unfolding reading_of_text
@@ -196,11 +208,16 @@ pub same_reading : (text : List ℕ) → reading_of_text text ≡ quick_reading 
 unfolding quick_reading
 same_reading text = go (all_ascii text) refl
   where
-    go : (b : Bool) → all_ascii text ≡ b → reading_of_text text ≡ elim b as (λ _. TextReading) [ true ↦ of_cutting (place_past start text) (quick_cut 0 start 0 text) | false ↦ reading_of_text text ]
+    go : (b : Bool) → all_ascii text ≡ b → reading_of_text text ≡ elim b as (λ _. TextReading) [ true ↦ of_cutting (place_past start text) (quick_cut 0 start 0 text) | false ↦ quick_utf8_reading text ]
     go true e = ascii_reading text (all_ascii_is text e)
-    go false e = refl
+    go false e = utf8_reading text
 
 -- all that reading the tokens of a text unfolds
 unfoldable pub quick_tokens : Unit {0}
-unfolding quick_reading all_ascii quick_cut quick_token quick_blank quick_front quick_string quick_prefix quick_start quick_continue
+unfolding quick_reading quick_utf8_reading all_ascii quick_cut quick_token quick_blank quick_front quick_string quick_prefix quick_start quick_continue
 quick_tokens = tt
+
+-- all that it unfolds besides where there are other characters than those of ASCII
+unfoldable pub quick_letters : Unit {0}
+unfolding unicode_ident is_xid_start is_xid_continue is_utf8 chars utf8_valid_len
+quick_letters = tt

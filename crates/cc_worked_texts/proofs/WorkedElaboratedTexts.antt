@@ -77,3 +77,15 @@ type_functions_may_be_recursive = elaborated_to (codes "def rec f: Int = fun [X 
 pub box_of_a_name_is_a_value : example.BoxOfANameIsAValue
 unfolding text_computing
 box_of_a_name_is_a_value = elaborated_to (codes "def a = box (out)") _ refl
+
+pub choices_start_at_their_parentheses : example.ChoicesStartAtTheirParentheses
+unfolding text_computing
+choices_start_at_their_parentheses = elaborated_to (codes "def a = fun (u: Int) => (if [Int] 1 < u then (fun [X <: Any] => 1) else (boundary [Int] z => 2))") _ refl
+
+pub operations_start_at_their_parentheses : example.OperationsStartAtTheirParentheses
+unfolding text_computing
+operations_start_at_their_parentheses = elaborated_to (codes "def a = fun (u: Int) => (out.print((u + u)))") _ refl
+
+pub repetitions_start_at_their_parentheses : example.RepetitionsStartAtTheirParentheses
+unfolding text_computing
+repetitions_start_at_their_parentheses = elaborated_to (codes "def a = fun (u: Int) => (repeat(u, (exit [Int] (u, u))))") _ refl

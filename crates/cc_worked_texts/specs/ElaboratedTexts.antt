@@ -264,3 +264,32 @@ BoxOfANameIsAValue =
     Becomes
     (codes "def a = box (out)")
     (BoxTerm (Free 0)) (alone 9)
+
+-- A construct starts at the parenthesis around it, and so does the `let` of its operand.
+abbrev pub ChoicesStartAtTheirParentheses : Type 0
+ChoicesStartAtTheirParentheses =
+    Becomes
+    (codes "def a = fun (u: Int) => (if [Int] 1 < u then (fun [X <: Any] => 1) else (boundary [Int] z => 2))")
+    (FunctionTerm integer empty
+    (Let Absent (Let Absent (numeral 1) (Primitive operators.Less (Bound 0) (Bound 1)))
+    (Conditional (Written integer empty) (Bound 0) (TypeFunctionTerm core.AnyShape (numeral 1))
+    (Boundary integer (numeral 2)))))
+    (around 9
+    (between 25 35 (between 35 35 (alone 35) (operands 35 35 39))
+    (between 25 35 (around 46 (alone 65)) (around 73 (alone 94)))))
+
+abbrev pub OperationsStartAtTheirParentheses : Type 0
+OperationsStartAtTheirParentheses =
+    Becomes
+    (codes "def a = fun (u: Int) => (out.print((u + u)))")
+    (FunctionTerm integer empty
+    (Let Absent (Primitive operators.Add (Bound 0) (Bound 0)) (Operation operations.Print (Free 0) (Some (Bound 0)))))
+    (around 9 (between 25 36 (operands 36 37 41) (operands 25 26 36)))
+
+abbrev pub RepetitionsStartAtTheirParentheses : Type 0
+RepetitionsStartAtTheirParentheses =
+    Becomes
+    (codes "def a = fun (u: Int) => (repeat(u, (exit [Int] (u, u))))")
+    (FunctionTerm integer empty
+    (Let Absent (Leave integer empty (Bound 0) (Bound 0)) (Repetition (Bound 1) (Bound 0))))
+    (around 9 (between 25 36 (operands 36 49 52) (operands 25 33 36)))

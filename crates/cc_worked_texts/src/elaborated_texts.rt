@@ -20,4 +20,7 @@ pub fn elaborations()
     ensures own_name_is_visible { example.OwnNameIsVisible }
     ensures type_functions_may_be_recursive { example.TypeFunctionsMayBeRecursive }
     ensures box_of_a_name_is_a_value { example.BoxOfANameIsAValue }
+    ensures choices_start_at_their_parentheses { example.ChoicesStartAtTheirParentheses }
+    ensures operations_start_at_their_parentheses { example.OperationsStartAtTheirParentheses }
+    ensures repetitions_start_at_their_parentheses { example.RepetitionsStartAtTheirParentheses }
 {}

@@ -2,10 +2,23 @@
 #![tactic(auto)]
 
 pub mod accepted_texts;
+pub mod avoided_texts;
+pub mod captured_texts;
+pub mod compared_texts;
 pub mod elaborated_texts;
+pub mod exposed_texts;
 pub mod grammar_verdicts;
+pub mod height_verdicts;
 pub mod name_verdicts;
 pub mod named_operands;
+pub mod operand_texts;
+pub mod part_verdicts;
 pub mod refusal_orders;
 pub mod refusal_places;
+pub mod shape_sizes;
+pub mod sized_texts;
+pub mod start_places;
+pub mod string_verdicts;
 pub mod token_verdicts;
+pub mod word_verdicts;
+pub mod written_texts;

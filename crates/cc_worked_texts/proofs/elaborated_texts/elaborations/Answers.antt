@@ -20,4 +20,7 @@ returns c = record {
   own_name_is_visible = worked.own_name_is_visible;
   type_functions_may_be_recursive = worked.type_functions_may_be_recursive;
   box_of_a_name_is_a_value = worked.box_of_a_name_is_a_value;
+  choices_start_at_their_parentheses = worked.choices_start_at_their_parentheses;
+  operations_start_at_their_parentheses = worked.operations_start_at_their_parentheses;
+  repetitions_start_at_their_parentheses = worked.repetitions_start_at_their_parentheses;
 }

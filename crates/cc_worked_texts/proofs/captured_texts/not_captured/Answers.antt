@@ -1,0 +1,5 @@
+use Rattle.cc_worked_texts.proofs.WorkedCapturedTexts as worked
+use Rattle.cc_worked_texts.proofs.captured_texts.not_captured.Goals as goal
+
+pub returns : goal.returns
+returns c = worked.not_captured

@@ -1,0 +1,5 @@
+use Rattle.cc_worked_texts.proofs.WorkedComparedTexts as worked
+use Rattle.cc_worked_texts.proofs.compared_texts.shapes.Goals as goal
+
+pub returns : goal.returns
+returns c = worked.shapes

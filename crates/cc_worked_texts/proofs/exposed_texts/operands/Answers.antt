@@ -1,0 +1,5 @@
+use Rattle.cc_worked_texts.proofs.WorkedExposedTexts as worked
+use Rattle.cc_worked_texts.proofs.exposed_texts.operands.Goals as goal
+
+pub returns : goal.returns
+returns c = worked.operands

@@ -1,0 +1,5 @@
+use Rattle.cc_worked_texts.proofs.WorkedOperandTexts as worked
+use Rattle.cc_worked_texts.proofs.operand_texts.operations.Goals as goal
+
+pub returns : goal.returns
+returns c = worked.operations

@@ -1,0 +1,5 @@
+use Rattle.cc_worked_texts.proofs.WorkedPartVerdicts as worked
+use Rattle.cc_worked_texts.proofs.part_verdicts.no_operands.Goals as goal
+
+pub returns : goal.returns
+returns c = worked.no_operands

@@ -1,0 +1,5 @@
+use Rattle.cc_worked_texts.proofs.WorkedSizedTexts as worked
+use Rattle.cc_worked_texts.proofs.sized_texts.terms.Goals as goal
+
+pub returns : goal.returns
+returns c = worked.terms

@@ -1,0 +1,5 @@
+use Rattle.cc_worked_texts.proofs.WorkedWordVerdicts as worked
+use Rattle.cc_worked_texts.proofs.word_verdicts.symbols.Goals as goal
+
+pub returns : goal.returns
+returns c = worked.symbols
