@@ -37,6 +37,7 @@ module _ (devices : List DeviceDecl) (state : JobState) (differ : NamesOfDevices
       → are_allowed (device_names devices) state.rules entry.module_name entry.authority ≡ true
       → IsShownGuardedRun devices state module_name name fuel entry.authority (declared_run devices fuel entry).events
       (declared_run devices fuel entry).ending (declared_run devices fuel entry).steps
+  unfolding entry_shown
   permitted_shown module_name name fuel entry has allowed =
       let shown = entry_shown devices state.texts differ sorted verdicts are module_name name fuel entry has in
       let of_entry = (permission_is_tested (device_names devices) state.rules entry.module_name entry.authority).0 allowed in
@@ -67,7 +68,7 @@ not_permitted devices state verdicts are module_name name entry has denied = rec
 }
   where
     clash : (b : Bool) → b ≡ false → b ≡ true → ⊥
-    clash b no yes = cc
+    clash b denied allowed = cc
 
 -- no definition is not to be started for want of a permission
 not_started_or : (o : Option CheckedDefinition) → started_or o ≡ Err E37 → ⊥

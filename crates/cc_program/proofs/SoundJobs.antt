@@ -53,11 +53,11 @@ as_present devices texts verdicts are module_name name entry has = record {
 
 module _ (devices : List DeviceDecl) (texts : Texts) (differ : NamesOfDevicesDiffer devices) (sorted : ArePresent texts)
     (verdicts : List ℕ → ModuleVerdict) (are : AreVerdicts devices texts verdicts) where
-  files : AreSoundFiles devices texts
+  pub files : AreSoundFiles devices texts
   files = present_files_are_sound devices texts differ sorted
 
   -- what is told of the run of an entry is shown of that run
-  pub entry_shown : (module_name name : List ℕ) (fuel : ℕ) (entry : CheckedEntry) → HasEntry devices texts verdicts (module_name, name) entry
+  unfoldable pub entry_shown : (module_name name : List ℕ) (fuel : ℕ) (entry : CheckedEntry) → HasEntry devices texts verdicts (module_name, name) entry
       → IsShownRun devices texts module_name name fuel entry.authority (declared_run devices fuel entry).events (declared_run devices fuel entry).ending
       (declared_run devices fuel entry).steps
   entry_shown module_name name fuel entry has = record {

@@ -132,22 +132,20 @@ module _ (devices : List DeviceDecl) (texts : Texts) (differ : NamesOfDevicesDif
   module_says name text there (IsRefused code at) same =
       λ is. refusal_says name code at (shown_refusals_are_judged devices texts verdicts are name text code at there same is)
 
-  modules_say : (others : Texts) → AllByRecursion (λ one. text_of texts one.0 ≡ Some one.1) others
-      → AllByRecursion (λ one. SaysOfModule devices texts verdicts one.0 one.1) (map (λ one. (one.0, verdicts one.0)) others)
+  modules_say : (others : Texts) → AllByRecursion (λ (one : List ℕ × List ℕ). text_of texts one.0 ≡ Some one.1) others
+      → AllByRecursion (λ (one : List ℕ × ModuleVerdict). SaysOfModule devices texts verdicts one.0 one.1)
+      (map (λ (one : List ℕ × List ℕ). (one.0, verdicts one.0)) others)
   modules_say [] all = tt
   modules_say (first ∷ rest) all = (module_says first.0 first.1 all.0 (verdicts first.0) refl, modules_say rest all.1)
 
 -- ---- audits
 listed_all : (P : ℕ → Type 0) (test : ℕ → Bool) (xs : List ℕ) → AllByRecursion P xs → AllByRecursion P (filter test xs)
 listed_all P test [] all = tt
-listed_all P test (x ∷ xs) all = at (test x)
+listed_all P test (x ∷ xs) all = at (test x) (listed_all P test xs all.1)
   where
-    rest : AllByRecursion P (filter test xs)
-    rest = listed_all P test xs all.1
-
-    at : (b : Bool) → AllByRecursion P (cond b (x ∷ filter test xs) (filter test xs))
-    at true = (all.0, rest)
-    at false = rest
+    at : (b : Bool) → AllByRecursion P (filter test xs) → AllByRecursion P (cond b (x ∷ filter test xs) (filter test xs))
+    at true rest = (all.0, rest)
+    at false rest = rest
 
 -- the number has a name
 abbrev IsNamed : List (List ℕ) → ℕ → Type 0
@@ -214,26 +212,21 @@ module _ (devices : List DeviceDecl) (state : JobState) (differ : NamesOfDevices
       subst (SaysRun devices state module_name name fuel) (sym same) ((refl, refl), not_started module_name name code starts)
 
   -- the first that is not started is not
+  unstarted_at : (task : List ℕ × List ℕ) (others : Option Unstarted) (first : Unstarted)
+      → (others ≡ Some first → IsNotStarted devices state.texts first.module_name first.name first.code)
+      → (r : Result CheckedDefinition Code) → started_in state.texts verdicts task.0 task.1 ≡ r
+      → unstarted_or task.0 task.1 r others ≡ Some first → IsNotStarted devices state.texts first.module_name first.name first.code
+  unstarted_at task others first later (Ok started) starts is = later is
+  unstarted_at task others first later (Err code) starts is =
+      let P : Unstarted → Type 0 = λ (it : Unstarted). IsNotStarted devices state.texts it.module_name it.name it.code in
+      subst P (same_Some (record { module_name = task.0; name = task.1; code = code }) first is) (not_started task.0 task.1 code starts)
+
   unstarted_is : (tasks : List (List ℕ × List ℕ)) (first : Unstarted) → first_unstarted state.texts verdicts tasks ≡ Some first
       → IsNotStarted devices state.texts first.module_name first.name first.code
   unstarted_is [] first same = cc
-  unstarted_is (task ∷ tasks) first same = at (started_in state.texts verdicts task.0 task.1) refl same
-    where
-      later : first_unstarted state.texts verdicts tasks ≡ Some first → IsNotStarted devices state.texts first.module_name first.name first.code
-      later = unstarted_is tasks first
-
-      named : (code : Code) → started_in state.texts verdicts task.0 task.1 ≡ Err code
-          → ◌≡◌ {A = Option Unstarted} (Some (record { module_name = task.0; name = task.1; code = code })) (Some first)
-          → IsNotStarted devices state.texts first.module_name first.name first.code
-      named code starts is =
-          let P : Unstarted → Type 0 = λ (it : Unstarted). IsNotStarted devices state.texts it.module_name it.name it.code in
-          subst P (same_Some (record { module_name = task.0; name = task.1; code = code }) is) (not_started task.0 task.1 code starts)
-
-      at : (r : Result CheckedDefinition Code) → started_in state.texts verdicts task.0 task.1 ≡ r
-          → unstarted_or task.0 task.1 r (first_unstarted state.texts verdicts tasks) ≡ Some first
-          → IsNotStarted devices state.texts first.module_name first.name first.code
-      at (Ok started) starts is = later is
-      at (Err code) starts is = named code starts is
+  unstarted_is (task ∷ tasks) first same =
+      unstarted_at task (first_unstarted state.texts verdicts tasks) first (unstarted_is tasks first)
+      (started_in state.texts verdicts task.0 task.1) refl same
 
   tasks_say : (fuel : ℕ) (schedule : List ℕ) (tasks : List (List ℕ × List ℕ)) (reply : Reply) (o : Option Unstarted)
       → first_unstarted state.texts verdicts tasks ≡ o → IsTasksAnswer devices state.texts verdicts fuel schedule tasks o reply
