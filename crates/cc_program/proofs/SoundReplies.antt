@@ -354,12 +354,12 @@ module _ (devices : List DeviceDecl) (state : JobState) (differ : NamesOfDevices
       → Says devices state question reply
   question_says named CheckModules reply same =
       subst (SaysVerdicts devices state) (sym same) (
-        record {
-          verdicts = verdicts;
-          are = are;
-          of_modules = refl;
-          say = modules_say devices state.texts differ sorted verdicts are state.texts (texts_are state.texts sorted);
-        }
+      record {
+        verdicts = verdicts;
+        are = are;
+        of_modules = refl;
+        say = modules_say devices state.texts differ sorted verdicts are state.texts (texts_are state.texts sorted);
+      }
       )
   question_says named (ShowSignature name) reply same =
       subst (SaysSignatures devices state name) (sym same) (signatures_say name (verdicts name) refl (text_of state.texts name) refl)
