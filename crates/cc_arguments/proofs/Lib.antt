@@ -1,1 +1,1 @@
-mod WordLaws
+pub mod WordLaws

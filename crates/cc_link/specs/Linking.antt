@@ -2,6 +2,7 @@
 use Rattle.std.specs.Prelude.{◌≡◌, ℕ, List, map, reverse, take, length}
 use Rattle.std.specs.List.{range_with_len}
 use Rattle.cc_base.specs.declared.literal.Base.{Base}
+use Rattle.cc_core.specs.Contexts.{Context}
 use Rattle.cc_core.specs.Programs.{Import, Definition, Module, Entry}
 use Rattle.cc_session.specs.declared.entry.Entry.{Entry as DeclaredEntry}
 use Rattle.cc_session.specs.declared.modules.EntryModule.{EntryModule}
@@ -14,8 +15,10 @@ use Rattle.cc_verdicts.specs.ModuleVerdicts.{in_program}
 use Rattle.cc_runs.specs.Links.{linked_position, linked_store, linked_context}
 use Rattle.cc_module.specs.declared.judgement.CheckedDef.{CheckedDef}
 use Rattle.cc_module.specs.Judgements.{checked_definition_of}
+use Rattle.cc_machine.specs.declared.program.Program.{Program}
 use Rattle.cc_machine.specs.declared.values.TypedValue.{TypedValue}
-use Rattle.cc_machine.specs.Starts.{value_store, value_context}
+use Rattle.cc_machine.specs.Programs.{shapes_of, values_of}
+use Rattle.cc_machine.specs.Starts.{value_store, value_context, program_context}
 
 -- a definition, as one of a program
 abbrev pub definition_of : CheckedDef → Definition
@@ -28,6 +31,10 @@ module_in_program it = program_module (module_of it)
 -- an entry, as that of a program
 abbrev pub entry_in_program : DeclaredEntry → Entry
 entry_in_program it = program_entry (entry_of it)
+
+-- the declared types of the cells of a program, the newest first: of its devices, of its values, and of the cell with unit
+abbrev pub types_in : Program → Context
+types_in program = program_context (shapes_of program) (values_of program)
 
 -- The list has, in order, where the positions of a module's context stand in the store: beside so many devices, behind
 -- earlier modules, which are turned round, and with these imports.

@@ -7,8 +7,8 @@ ghost use Rattle.cc_core.specs.Terms.{Application};
 ghost use Rattle.cc_core.specs.TermViews.{term_of};
 ghost use Rattle.cc_session.specs.Entries.{entry_of};
 ghost use Rattle.cc_entry_laws.specs.PresentEntries.{program_entry};
-ghost use Rattle.cc_link.specs.Linking.{definition_of, modules_before, IsLinked};
-ghost use Rattle.cc_runs.specs.Links.{linked_cell, program_start};
+ghost use Rattle.cc_link.specs.Linking.{definition_of, modules_before, types_in, IsLinked};
+ghost use Rattle.cc_runs.specs.Links.{linked_cell, program_start, program_context};
 ghost use Rattle.cc_machine.specs.Programs.{shapes_of, start_of};
 ghost use Rattle.cc_machine.specs.Starts.{value_cell, value_entry};
 
@@ -95,6 +95,9 @@ fn application(alloc: Global, function: u32, argument: u32) -> Result<Rc<Node>, 
 pub fn link(alloc: Global, entry: &Entry) -> Result<Program, AllocError>
     ensures devices { IfOk result (λ program. shapes_of program ≡ (program_entry (entry_of entry.now)).devices) }
     ensures start { IfOk result (λ program. start_of program ≡ program_start (program_entry (entry_of entry.now))) }
+
+    // The declared types of its cells are those of the devices, the signatures of the definitions, and that of unit.
+    ensures types { IfOk result (λ program. types_in program ≡ program_context (program_entry (entry_of entry.now))) }
 {
     let mut values = Vec::new(alloc);
     let mut table = ModuleTable::new(alloc);

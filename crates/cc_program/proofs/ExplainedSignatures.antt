@@ -1,7 +1,6 @@
 -- What is told of a signature explains it.
-use Rattle.std.proofs.Common.{◌≡◌, ℕ, zero, suc, List, [], ◌∷◌, length, Some, Result, Ok, Err, refl, sym, ap, subst, ◌∙◌, arith}
+use Rattle.std.proofs.Common.{◌≡◌, ℕ, zero, suc, List, [], ◌∷◌, length, Some, Ok, refl, sym, ap, subst, ◌∙◌, arith}
 use Rattle.std.specs.List.{Contains}
-use Rattle.cc_base.specs.declared.code.Code.{Code}
 use Rattle.cc_base.specs.declared.device.DeviceDecl.{DeviceDecl}
 use Rattle.cc_capture.proofs.Membership.{Member-list}
 use Rattle.cc_capture.specs.Sets.{Member}
@@ -10,15 +9,11 @@ use Rattle.cc_entry_laws.proofs.Linked.{elements_are_linked}
 use Rattle.cc_entry_laws.specs.PresentLinks.{Target, DefinitionOf, element_of, entry_in}
 use Rattle.cc_verdicts.specs.ModuleLaws.{NamesOfDevicesDiffer}
 use Rattle.cc_verdicts.specs.ModuleVerdicts.{ModuleVerdict}
-use Rattle.cc_verdicts.specs.PresentTexts.{ArePresent, AreVerdicts}
+use Rattle.cc_verdicts.specs.PresentTexts.{Texts, ArePresent, AreVerdicts}
 use Rattle.cc_verdicts.specs.StandingDefinitions.{Standing, standing_in}
-use Rattle.cc_replies.specs.ExplainReplies.{Explains, AreExplained, IsExplainAnswer}
-use Rattle.cc_replies.specs.ReplyTexts.{Explanation, Explained}
-use Rattle.cc_replies.specs.Requests.{JobState}
-use Rattle.cc_program.specs.ExplainedSignatures.{HasLine, ExplainsSignature, ExplainedSignaturesAreExplained}
-
-same_lines : (o d m n : List ℕ) (a b : List Explanation) → Explained o d a ≡ Explained m n b → a ≡ b
-same_lines o d m n a b e = cc
+use Rattle.cc_replies.specs.ExplainReplies.{Explains, AreExplained}
+use Rattle.cc_replies.specs.ReplyTexts.{Explanation}
+use Rattle.cc_program.specs.ExplainedSignatures.{HasLine, ExplainsSignature}
 
 some_same : (a b : Elem) → Some a ≡ Some b → a ≡ b
 some_same a b h = cc
@@ -56,32 +51,25 @@ module _ (entry : Target → List Target) (from : Target) where
       one_line first others it later one e explains.is_element is (λ there. is_listed others later rest one there e is)
       (subst (λ es. Contains es one) same among)
 
-explains_at : (devices : List DeviceDecl) (state : JobState) → NamesOfDevicesDiffer devices → ArePresent state.texts
-    → (verdicts : List ℕ → ModuleVerdict) → AreVerdicts devices state.texts verdicts
-    → (module_name name owner definition : List ℕ) (explanations : List Explanation) (r : Result Standing Code)
-    → standing_in state.texts verdicts module_name name ≡ r
-    → IsExplainAnswer devices state.texts verdicts module_name name r (Explained owner definition explanations)
-    → ExplainsSignature devices state.texts module_name name explanations
-explains_at devices state differ sorted verdicts are module_name name owner definition explanations (Ok it) stands (told, explained, same) =
-    let entry = entry_in devices state.texts verdicts in
+-- the explanations of a definition where it stands explain its signature
+pub explains_at : (devices : List DeviceDecl) (texts : Texts) → NamesOfDevicesDiffer devices → ArePresent texts
+    → (verdicts : List ℕ → ModuleVerdict) → AreVerdicts devices texts verdicts
+    → (module_name name : List ℕ) (it : Standing) → standing_in texts verdicts module_name name ≡ Ok it
+    → (explanations : List Explanation)
+    → AreExplained (entry_in devices texts verdicts) (DefinitionOf module_name name) it.definition.accepted.signature.set.list explanations
+    → ExplainsSignature devices texts module_name name explanations
+explains_at devices texts differ sorted verdicts are module_name name it stands explanations explained =
+    let entry = entry_in devices texts verdicts in
     let from = DefinitionOf module_name name in
     let set = it.definition.accepted.signature.set in
-    let lines : AreExplained entry from set.list explanations =
-    subst (AreExplained entry from set.list) (sym (same_lines owner definition module_name name explanations told same)) explained in
     record {
       verdicts = verdicts;
       are = are;
       it = it;
       stands = stands;
       lines = λ e. (
-        λ member. has_line entry from set.list explanations lines e ((Member-list e set).0 member),
-        λ line. (Member-list e set).1 (is_listed entry from set.list explanations lines line.0 line.1 e line.2.is_element),
+        λ member. has_line entry from set.list explanations explained e ((Member-list e set).0 member),
+        λ line. (Member-list e set).1 (is_listed entry from set.list explanations explained line.0 line.1 e line.2.is_element),
       );
-      chains = λ e. elements_are_linked devices state.texts verdicts differ sorted are module_name name it stands e;
+      chains = λ e. elements_are_linked devices texts verdicts differ sorted are module_name name it stands e;
     }
-explains_at devices state differ sorted verdicts are module_name name owner definition explanations (Err code) stands same = cc
-
-pub explained_signatures : ExplainedSignaturesAreExplained
-explained_signatures devices state differ sorted module_name name owner definition explanations (verdicts, are, is) =
-    explains_at devices state differ sorted verdicts are module_name name owner definition explanations
-    (standing_in state.texts verdicts module_name name) refl is

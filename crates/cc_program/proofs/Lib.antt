@@ -8,3 +8,5 @@ mod GuardedRuns
 mod ExplainedSignatures
 mod ReplayedRuns
 mod VerifiedTexts
+mod SoundReplies
+mod UniqueAnswers

@@ -1,4 +1,4 @@
--- What agrees is a safe trace, and the lines of shown runs agree.
+-- What agrees is a safe trace, what differs does so first, and the lines of shown runs agree.
 use Rattle.std.proofs.Common.{◌≡◌, ℕ, ◌<◌, ◌^◌, Bool, true, false, ◌||◌, List, [], ◌∷◌, ◌++◌, length, map, reverse, Result, Ok, Err, refl, sym, ap, ◌∙◌, subst, append_assoc, arith}
 use Rattle.std.specs.Prelude.{pos, negsuc, IsTrue}
 use Rattle.std.specs.List.{AllByRecursion}
@@ -39,6 +39,7 @@ use Rattle.cc_runs.specs.Links.{linked_cell, linked_position, device_cells, link
 use Rattle.cc_runs.specs.Runs.{Ending}
 use Rattle.cc_runs.specs.SoundRuns.{IsSoundState}
 use Rattle.cc_mnf.specs.ElaboratedModules.{device_names}
+use Rattle.cc_replay.proofs.FirstDifferences.{replays_differ_first}
 use Rattle.cc_replay.proofs.LineSteps.{acted_literals}
 use Rattle.cc_replay.proofs.SafeTraces.{agreeing_traces_are_safe, agreeing_traces_keep_the_authority}
 use Rattle.cc_replay.proofs.WrittenRuns.{written_runs_are_replayed}
@@ -46,20 +47,16 @@ use Rattle.cc_replay.specs.AnsweredRuns.{trace_lines}
 use Rattle.cc_replay.specs.LineLiterals.{StandsInLine, HasLineLiterals, IsLineCell, IsLineDevice, IsLineState}
 use Rattle.cc_replay.specs.ReplayLaws.{written_lines}
 use Rattle.cc_replay.specs.Replays.{replay}
-use Rattle.cc_replay.specs.declared.replaying.Replayed.{Replayed as Outcome}
-use Rattle.cc_replay.specs.declared.replaying.Replayed.TheVariants.{Agrees}
+use Rattle.cc_replay.specs.declared.replaying.Replayed.TheVariants.{Agrees, Differs}
 use Rattle.cc_replies.proofs.ReplyLaws.{replies_are_unique}
 use Rattle.cc_replies.specs.ReplayReplies.{IsReplayAnswer}
 use Rattle.cc_replies.specs.ReplyTexts.{Reply, Ran, Replayed}
 use Rattle.cc_replies.specs.Replies.{Replies}
 use Rattle.cc_replies.specs.Requests.{JobState, ReplayDefinition, Ask}
-use Rattle.cc_replies.specs.RunReplies.{declared_run, IsRunAnswer}
+use Rattle.cc_replies.specs.RunReplies.{declared_run, HasEntry, IsRunAnswer}
 use Rattle.cc_words.specs.Lines.{Line, lines_of}
 use Rattle.cc_words.specs.Words.{has_64_bits}
-use Rattle.cc_program.specs.ReplayedRuns.{IsSafeTraceOf, AgreeingTracesKeepTheAuthority, ShownRunsAreReplayed}
-
-same_outcome : (o d m n : List ℕ) (a b : Outcome) → Replayed o d a ≡ Replayed m n b → a ≡ b
-same_outcome o d m n a b e = cc
+use Rattle.cc_program.specs.ReplayedRuns.{IsSafeTraceOf, DiffersFirst, ShownRunsAreReplayed}
 
 -- the program of an entry of present texts starts soundly
 module _ (devices : List DeviceDecl) (texts : Texts) (differ : NamesOfDevicesDiffer devices) (sorted : ArePresent texts)
@@ -74,18 +71,19 @@ module _ (devices : List DeviceDecl) (texts : Texts) (differ : NamesOfDevicesDif
       (program_starts (program_entry entry) is_entry (declared_devices devices)
       ((present_files_are_sound devices texts differ sorted).declared ∙ sym entered.shapes)).sound
 
-  safe_trace : (fuel : ℕ) (text : List ℕ)
+  pub safe_trace : (fuel : ℕ) (text : List ℕ)
       → replay (device_names devices) fuel (program_start (program_entry entry)) (lines_of text) ≡ Agrees
-      → IsSafeTraceOf devices texts module_name fuel text
+      → IsSafeTraceOf devices texts module_name name fuel text
   safe_trace fuel text agrees =
       let kept = agreeing_traces_keep_the_authority (program_entry entry) is_entry (device_names devices) fuel (lines_of text) agrees in
       let (it, is_trace, authority, scopes, not_stopped) = kept in
       let safe = (agreeing_traces_are_safe (device_names devices) fuel (program_start (program_entry entry)) (lines_of text)
       starts_soundly.configuration agrees).2 in
       record {
+        verdicts = verdicts;
+        are = are;
         entry = entry;
-        present = record { verdicts = verdicts; are = are; module_name = module_name; name = name; started = started; starts = starts; entered = entered };
-        of_module = entered.of_module;
+        of_definition = (started, starts, entered);
         it = it;
         is_trace = is_trace;
         authority = authority;
@@ -94,21 +92,19 @@ module _ (devices : List DeviceDecl) (texts : Texts) (differ : NamesOfDevicesDif
         not_stopped = not_stopped;
       }
 
-trace_at : (devices : List DeviceDecl) (state : JobState) → NamesOfDevicesDiffer devices → ArePresent state.texts
-    → (verdicts : List ℕ → ModuleVerdict) → AreVerdicts devices state.texts verdicts
-    → (module_name name owner definition : List ℕ) (fuel : ℕ) (text : List ℕ) (r : Result CheckedDefinition Code)
-    → started_in state.texts verdicts module_name name ≡ r
-    → IsReplayAnswer devices state.texts verdicts module_name name fuel text r (Replayed owner definition Agrees)
-    → IsSafeTraceOf devices state.texts module_name fuel text
-trace_at devices state differ sorted verdicts are module_name name owner definition fuel text (Ok started) starts (entry, entered, same) =
-    safe_trace devices state.texts differ sorted verdicts are module_name name started starts entry entered fuel text
-    (sym (same_outcome owner definition module_name name Agrees _ same))
-trace_at devices state differ sorted verdicts are module_name name owner definition fuel text (Err code) starts same = cc
-
-pub agreeing_traces_keep : AgreeingTracesKeepTheAuthority
-agreeing_traces_keep devices state differ sorted module_name name owner definition fuel text (verdicts, are, is) =
-    trace_at devices state differ sorted verdicts are module_name name owner definition fuel text
-    (started_in state.texts verdicts module_name name) refl is
+-- what differs first
+pub first_difference : (devices : List DeviceDecl) (texts : Texts) (verdicts : List ℕ → ModuleVerdict) → AreVerdicts devices texts verdicts
+    → (module_name name : List ℕ) (entry : CheckedEntry) → HasEntry devices texts verdicts (module_name, name) entry
+    → (fuel : ℕ) (text : List ℕ) (line : ℕ)
+    → replay (device_names devices) fuel (program_start (program_entry entry)) (lines_of text) ≡ Differs line
+    → DiffersFirst devices texts module_name name fuel text line
+first_difference devices texts verdicts are module_name name entry has fuel text line differs = record {
+  verdicts = verdicts;
+  are = are;
+  entry = entry;
+  of_definition = has;
+  first = (replays_differ_first (device_names devices) fuel (program_start (program_entry entry)) (lines_of text) line).0 differs;
+}
 
 -- LITERALS OF PROGRAMS
 

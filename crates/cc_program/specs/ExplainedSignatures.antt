@@ -14,6 +14,7 @@ use Rattle.cc_replies.specs.ExplainReplies.{Explains}
 use Rattle.cc_replies.specs.Replies.{Replies}
 use Rattle.cc_replies.specs.ReplyTexts.{Explanation, Explained}
 use Rattle.cc_replies.specs.Requests.{JobState, ExplainDefinition, Ask}
+use Rattle.cc_program.specs.SoundJobs.{NamesDefinition}
 
 -- There is a line for the element, with the first of the shortest chains that lead to it from another target.
 abbrev pub HasLine : (Target → List Target) → Target → List Explanation → Elem → Type 0
@@ -36,10 +37,11 @@ pub record ExplainsSignature (devices : List DeviceDecl) (texts : Texts) (module
       ↔ ((target : Target) × (chain : List Target) × (element_of target ≡ Some element)
       × IsChain (entry_in devices texts verdicts) (DefinitionOf module_name name) target chain)
 
--- So does each reply that explains a signature.
+-- So does each reply that explains a signature, of the definition that is asked for.
 abbrev pub ExplainedSignaturesAreExplained : Type 0
 ExplainedSignaturesAreExplained =
     (devices : List DeviceDecl) (state : JobState) → NamesOfDevicesDiffer devices → ArePresent state.texts
     → (module_name name owner definition : List ℕ) (explanations : List Explanation)
     → Replies devices state (Ask (ExplainDefinition module_name name)) (Explained owner definition explanations)
-    → ExplainsSignature devices state.texts module_name name explanations
+    → NamesDefinition owner definition module_name name
+    × ExplainsSignature devices state.texts module_name name explanations

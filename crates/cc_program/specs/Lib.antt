@@ -11,3 +11,5 @@ pub mod Exactness
 pub mod Endings
 pub mod ExplainedSignatures
 pub mod StatusTable
+pub mod SoundReplies
+pub mod UniqueAnswers

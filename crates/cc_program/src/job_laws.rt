@@ -4,7 +4,9 @@ ghost use Rattle.cc_program.specs.StatusTable.{StatusesShow, JobsHaveSoManyBytes
 ghost use Rattle.cc_program.specs.SoundJobs.{EveryJobIsSound, ShownRunsAreSafe, ShownTasksAreSafe};
 ghost use Rattle.cc_program.specs.ExplainedSignatures.{ExplainedSignaturesAreExplained};
 ghost use Rattle.cc_program.specs.GuardedRuns.{ShownGuardedRunsArePermitted, RefusedEntriesAreNotPermitted};
-ghost use Rattle.cc_program.specs.ReplayedRuns.{AgreeingTracesKeepTheAuthority, ShownRunsAreReplayed};
+ghost use Rattle.cc_program.specs.ReplayedRuns.{AgreeingTracesKeepTheAuthority, DifferencesAreFirst, ShownRunsAreReplayed};
+ghost use Rattle.cc_program.specs.SoundReplies.{EveryOutputIsSound};
+ghost use Rattle.cc_program.specs.UniqueAnswers.{AnswersAreUnique};
 ghost use Rattle.cc_program.specs.VerifiedTexts.{VerifiedTypesAreProved, ShownCertificatesAreValid};
 ghost use Rattle.cc_program.specs.Exactness.{AJobIsAnswered, WhatIsNoJobIsRefused, WhatIsTooLongIsRefused, AFaultIsTold, OnlyTheOutputIsWritten, OnlyStaleModulesAreJudged, AWorkloadIsSummarized, AFaultOfAWorkloadIsTold};
 
@@ -58,19 +60,30 @@ pub fn jobs_have_so_many_bytes()
     ensures { JobsHaveSoManyBytes }
 {}
 
-/// The files of every job are sound, at every moment of it.
+/// The files of every job are sound, at every moment of it, and each definition that may be run then has one entry.
 pub fn every_job_is_sound()
     ensures { EveryJobIsSound }
 {}
 
-/// What is shown of runs and of tasks is shown of runs of present entries, which are safe.
+/// What the replies to the commands of every job say is so, each in the state in which it is given.
+pub fn every_output_is_sound()
+    ensures { EveryOutputIsSound }
+{}
+
+/// What the contract of a call names by its existence is one thing alone.
+pub fn answers_are_unique()
+    ensures { AnswersAreUnique }
+{}
+
+/// What is shown of runs and of tasks is shown of runs of the definitions that are asked for, which are safe.
 pub fn shown_runs_are_safe()
     ensures runs { ShownRunsAreSafe }
     ensures tasks { ShownTasksAreSafe }
 {}
 
-/// What is shown of guarded runs is shown of runs of present entries, which are safe and which the rules in force permit:
-/// each device that is operated is allowed to the module. Where one is refused for that, its entry is not permitted.
+/// What is shown of guarded runs is shown of runs of the definitions that are asked for, which are safe and which the rules
+/// in force permit: each device that is operated is allowed to the module. Where one is refused for that, its entry is not
+/// permitted.
 pub fn shown_guarded_runs_are_permitted()
     ensures shown { ShownGuardedRunsArePermitted }
     ensures refused { RefusedEntriesAreNotPermitted }
@@ -84,9 +97,10 @@ pub fn shown_certificates_are_valid()
 {}
 
 /// Lines that are said to agree with a definition are the trace of a run of its program that is answered from outside, and
-/// that is safe. What is shown of a run agrees with its definition.
+/// that is safe; lines that are said to differ first do so at that line. What is shown of a run agrees with its definition.
 pub fn shown_runs_are_replayed()
     ensures traces { AgreeingTracesKeepTheAuthority }
+    ensures differences { DifferencesAreFirst }
     ensures runs { ShownRunsAreReplayed }
 {}
 

@@ -1,5 +1,5 @@
 //! One call of the program, with whatever streams and words it is given.
-ghost use Rattle.std.specs.Prelude.{◌≡◌, ◌-◌, ◌^◌, ◌<◌, ℕ, List, Option, map};
+ghost use Rattle.std.specs.Prelude.{◌≡◌, ◌-◌, ◌^◌, ◌<◌, ℕ, List, Option, map, min};
 ghost use Rattle.std.specs.Process.{exit_status};
 ghost use Rattle.std.specs.String.{string_bytes};
 ghost use Rattle.cc_io.specs.Messages.{IsTold};
@@ -21,9 +21,11 @@ use std::io::{self, Eprint};
 use std::process::{ExitCode, Termination};
 use std::sync::ledger::{Blank, Ledger};
 
-/// That the program was called, and how that ended. There is no other way to one than `program`, and none is dropped.
+/// That the program was called, how that ended, and how many modules were judged, or the greatest `u64` where they were
+/// more. There is no other way to one than `program`, and none is dropped.
 pub struct Ending {
     status: Status,
+    judged: u64,
 }
 
 impl Termination for Ending {
@@ -31,7 +33,7 @@ impl Termination for Ending {
     fn report<R: Eprint>(self, _rt: &R) -> ExitCode
         ensures { exit_status result ≡ number_of self.status }
     {
-        let Ending { status } = self;
+        let Ending { status, judged: _ } = self;
         ExitCode::from(status.number())
     }
 }
@@ -118,8 +120,9 @@ pub fn program<S: Source, K: Sink, E: Messages, L: Ledger>(
     requires source { S.faults source.old < 2 ^ 64 - 1 }
     requires sink { K.faults sink.old < 2 ^ 64 - 1 }
 
-    // The source was read and the sink was written as a call of `capc` with these words does, which ended with the status.
-    ensures call { (judged : ℕ) × EndsBy
+    // The source was read and the sink was written as a call of `capc` with these words does, which ended with the status
+    // and judged so many modules.
+    ensures call { (judged : ℕ) × (result.judged ≡ min judged (2 ^ 64 - 1)) × EndsBy
         (λ words status. IsCall (source.new ≡ source.old) (sink.new ≡ sink.old)
         (ends (S.left source.old) (S.faults source.old) (K.written sink.old) (K.faults sink.old) 0)
         (ends (S.left source.new) (S.faults source.new) (K.written sink.new) (K.faults sink.new) judged)
@@ -134,5 +137,6 @@ pub fn program<S: Source, K: Sink, E: Messages, L: Ledger>(
     let mut steps = Steps::<L>::new(blank);
     let status = carried(alloc, answer, source, sink, &mut steps);
     tell(alloc, errors, status);
-    Ending { status }
+    let judged = steps.count();
+    Ending { status, judged }
 }

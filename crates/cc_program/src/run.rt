@@ -4,8 +4,9 @@ ghost use Rattle.cc_arguments.specs.Words.{AsksFor};
 ghost use Rattle.cc_program.specs.Calls.{IsCall};
 ghost use Rattle.cc_program.specs.Outcome.{Outcome, ends};
 ghost use Rattle.cc_program.specs.SoundJobs.{EveryJobIsSound};
+ghost use Rattle.cc_program.specs.UniqueAnswers.{AnswersAreUnique};
 
-use crate::job_laws::every_job_is_sound;
+use crate::job_laws::{answers_are_unique, every_job_is_sound, every_output_is_sound};
 use crate::status::Status;
 use crate::workload::summarize;
 use cc_answers::commands::carry_out;
@@ -45,6 +46,7 @@ fn carry_out_source<S: Source, K: Sink, L: Ledger>(
         Err(JobError::BadJob { line }) => return Status::BadJob(line),
         Err(JobError::NoMemory) => return Status::NoMemory,
     };
+    every_output_is_sound();
     match carry_out(alloc, job, sink, steps) {
         Ok(false) => Status::Clean,
         Ok(true) => Status::Refusals,
@@ -71,8 +73,13 @@ pub fn capc<S: Source, K: Sink, L: Ledger>(
     // The words are bad exactly where they ask for nothing.
     ensures words { (result ≡ Status.BadWords) ↔ AsksFor (map string_bytes words.now) Asked.Nothing }
 
-    // The files of every job are sound, at every moment of it: what definitions deserve and what their runs do.
+    // The files of every job are sound, at every moment of it: what definitions deserve and what their runs do. Of this
+    // job's replies `call` says that what each of them tells is so.
     ensures sound { EveryJobIsSound }
+
+    // What the other clauses name by its existence is one thing alone: what the words ask for, the job of bytes or their
+    // bad line, the output of a job, and how many modules it finds stale.
+    ensures unique { AnswersAreUnique }
 
     // What was read and written, and how many modules were judged, by what the words ask for, for each status.
     ensures call { IsCall (source.new ≡ source.old) (sink.new ≡ sink.old)
@@ -81,6 +88,7 @@ pub fn capc<S: Source, K: Sink, L: Ledger>(
         (map string_bytes words.now) result }
 {
     every_job_is_sound();
+    answers_are_unique();
     match asked_by(words) {
         Asked::Job => carry_out_source(alloc, source, sink, steps),
         Asked::Workload(number) => summarize(alloc, number, sink, steps),

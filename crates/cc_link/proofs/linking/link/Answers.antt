@@ -1,13 +1,17 @@
-use Rattle.std.proofs.Common.{◌≡◌, ◌<◌, ◌≤◌, ◌+◌, ◌∙◌, List, length, sym, ap, subst, arith}
+use Rattle.std.proofs.Common.{◌≡◌, ◌<◌, ◌≤◌, ◌+◌, ◌∙◌, List, ◌∷◌, length, sym, ap, subst, arith}
 use Rattle.std.specs.Prelude.{reverse}
 use Rattle.std.specs.Option.{unwrap_or}
 use Rattle.std.proofs.Math.Logic.{∥∥₁_map}
 use Rattle.cc_base.specs.declared.literal.Base.{Base}
+use Rattle.cc_base.specs.declared.literal.Base.TheVariants as bases
+use Rattle.cc_capture.specs.Sets.{empty}
+use Rattle.cc_core.specs.Contexts.{TermEntry}
+use Rattle.cc_core.specs.Shapes.{BaseShape}
 use Rattle.cc_core.specs.TermViews.{term_of}
 use Rattle.cc_link.specs.Linking.{entry_in_program, IsLinked}
 use Rattle.cc_link.proofs.LinkedEntries.{nothing_linked, few_cells, modules_all, application_linked, start_linked, start_typed}
 use Rattle.cc_runs.specs.Links.{program_start as linked_start}
-use Rattle.cc_machine.specs.Starts.{program_store, program_start, IsTyped}
+use Rattle.cc_machine.specs.Starts.{program_store, program_start, program_context, IsTyped}
 use Rattle.cc_link.proofs.linking.link.Goals as goal
 
 pub loop-index-init : goal.loop-index-init
@@ -59,4 +63,7 @@ returns c =
       start =
           (λ j. program_start (devices j) (c.new.ensures.cells j) (c.new.ensures.term j))
           ∙ start_linked (entry_in_program entry) values term linked.store linked.context is_term;
+      types =
+          (λ j. program_context (devices j) (c.new.ensures.cells j))
+          ∙ ap (λ g. TermEntry (BaseShape bases.Unit) empty ∷ g) linked.context;
     }

@@ -1,4 +1,4 @@
-use Rattle.cc_program.proofs.GuardedRuns as law
+use Rattle.cc_program.proofs.SoundReplies as law
 use Rattle.cc_program.proofs.job_laws.shown_guarded_runs_are_permitted.Goals as goal
 
 pub returns-clause-shown : goal.returns-clause-shown

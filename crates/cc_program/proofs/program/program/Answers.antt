@@ -10,6 +10,7 @@ pub returns-clause-call : goal.returns-clause-call
 returns-clause-call g c =
     let counted = c.carried-status.new.steps in (
       counted,
+      c.count-judged.ensures,
       subst (λ begun.
           EndsBy
           (λ words status.
