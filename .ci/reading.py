@@ -112,7 +112,7 @@ class Specs:
         self.said = said(text)
         blocks, current = [], []  # what stands before the first item is no block
         for line in re.sub(r"^infix.*\n|^-- ----.*\n", "", text, flags=re.M).split("\n"):
-            if re.match(OPENERS, line) and not re.match(r"(?:pub )?(?:use|mod)\b", line) or re.match(rf"{NAME} :", line):
+            if re.match(OPENERS, line) and not re.match(r"(?:pub )?(?:use|mod)\b", line) or re.match(rf"(?:{NAME} :|module _ )", line):
                 behind = current
                 current = [line]
                 blocks.append(current)
@@ -133,13 +133,15 @@ class Specs:
         """The names that a block of lines gives, each with whether the block is taken to be meant where one stands bare."""
         lines = [line for line in block if not line.lstrip().startswith("--")]
         first = lines[0]
-        many = re.search(r"\b(?:mutual|data|record)\b", first)
-        if "mutual" not in first:
+        # what stands in a block with parameters of its own is taken together, as what is mutual is
+        together = re.match(r"(?:.*\bmutual\b|module _ )", first)
+        many = together or re.search(r"\b(?:data|record)\b", first)
+        if not together:
             yield re.match(NAME, re.sub(OPENERS, "", first)).group(0), True
         for line in lines[1:] if many else []:
             inner = re.match(rf"\s+(pub )?(?:(?:data|record) ({NAME})|((?:{NAME} )+):\s)", line)
             for name in (inner.group(2) or inner.group(3)).split() if inner else []:
-                is_type_or_function = inner.group(2) or (inner.group(1) and "mutual" in first)
+                is_type_or_function = inner.group(2) or (inner.group(1) and together)
                 yield name, bool(is_type_or_function or name[0].isupper() or "-" in name) and "record" not in first
 
 

@@ -15,8 +15,8 @@ use Rattle.cc_runs.specs.Machine.{Configuration, step, Stuck}
 use Rattle.cc_runs.specs.Runs.{Ending, IsStopped}
 use Rattle.cc_runs.specs.SafeRuns.{IsListed, IsAmong}
 use Rattle.cc_mnf.specs.ElaboratedModules.{device_names}
-use Rattle.cc_replay.specs.AnsweredRuns.{GoesOnTo, AnsweredRun, ending_after, trace_lines, trace_of}
-use Rattle.cc_replay.specs.ReplayLaws.{IsFirstDifference, written_lines}
+use Rattle.cc_replay.specs.AnsweredRuns.{GoesOnTo, AnsweredRun, ending_after, trace_lines, trace_of, IsFirstDifference}
+use Rattle.cc_replay.specs.ReplayLaws.{written_lines}
 use Rattle.cc_replay.specs.declared.replaying.Replayed.TheVariants.{Agrees, Differs}
 use Rattle.cc_replies.specs.Replies.{Replies}
 use Rattle.cc_replies.specs.ReplyTexts.{Reply, Ran, Replayed}

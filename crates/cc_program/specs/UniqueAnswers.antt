@@ -1,7 +1,8 @@
 -- What the contract of a call names by its existence is one thing alone: no other would do as well.
 use Rattle.cc_arguments.specs.Words.{WordsAskForOneThing}
 use Rattle.cc_job.specs.Jobs.{BytesHaveOneJob, BytesHaveOneBadLine}
-use Rattle.cc_replies.specs.ReplyLaws.{OutputsAreUnique, StaleModulesAreCountedOnce}
+use Rattle.cc_replies.specs.Outputs.{OutputsAreUnique}
+use Rattle.cc_replies.specs.StaleModules.{StaleModulesAreCountedOnce}
 
 -- The words ask for one thing; bytes are the text of one job, or have one bad line; the commands of a job have one output,
 -- of which it is told in one way whether a reply is a refusal; and they find one number of modules stale.

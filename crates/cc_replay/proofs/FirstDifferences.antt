@@ -10,8 +10,8 @@ use Rattle.cc_base.specs.declared.literal.Op.TheVariants as operations
 use Rattle.cc_core.specs.Typing.{base_taken}
 use Rattle.cc_device.specs.Events.{Event, Operated, literal_shown}
 use Rattle.cc_runs.specs.Machine.{Configuration, StepOutcome, Stuck, Final, Next, Ask, is_taken, step}
-use Rattle.cc_replay.specs.AnsweredRuns.{IsAnswerOf, AnsweredRun, trace_of}
-use Rattle.cc_replay.specs.ReplayLaws.{BeginTrace, BeginNoTraceWith, IsFirstDifference, ReplaysDifferFirst}
+use Rattle.cc_replay.specs.AnsweredRuns.{IsAnswerOf, AnsweredRun, trace_of, BeginTrace, BeginNoTraceWith, IsFirstDifference}
+use Rattle.cc_replay.specs.ReplayLaws.{ReplaysDifferFirst}
 use Rattle.cc_replay.specs.Replays.{Comparison, behind_line, no_line, others_decide, text_next, event_next, answer_in, answered_next, operation_next, ending_in, end_next, replay_on, replay_from, replay}
 use Rattle.cc_replay.specs.declared.replaying.Replayed.{Replayed}
 use Rattle.cc_replay.specs.declared.replaying.Replayed.TheVariants.{Agrees, Differs}

@@ -1,5 +1,5 @@
 -- Runs whose devices are answered from outside, and the lines that are told of them.
-use Rattle.std.specs.Prelude.{◌≡◌, ◌⊎◌, ◌≤◌, ℕ, zero, suc, Bool, true, List, [], ◌∷◌, ◌++◌, map, Option, Some, IsTrue}
+use Rattle.std.specs.Prelude.{◌≡◌, ◌≢◌, ◌⊎◌, ◌≤◌, ℕ, zero, suc, Bool, true, List, [], ◌∷◌, ◌++◌, length, map, Option, Some, IsTrue}
 use Rattle.cc_base.specs.Literals.{Literal, UnitLiteral, TruthLiteral, NumberLiteral, TextLiteral}
 use Rattle.cc_base.specs.declared.literal.Op.{Op}
 use Rattle.cc_core.specs.Typing.{base_of, base_answered}
@@ -64,3 +64,24 @@ ending_after run = ending_in run.last (step run.last)
 -- its trace
 abbrev pub trace_of : {fuel : ℕ} {start : Configuration} → List (List ℕ) → AnsweredRun fuel start → List Line
 trace_of names run = trace_lines names run.events (ending_after run) run.steps
+
+-- the lines begin the trace of such a run
+abbrev pub BeginTrace : List (List ℕ) → ℕ → Configuration → List (List ℕ) → Type 0
+BeginTrace names fuel start front =
+    (it : AnsweredRun fuel start) × (behind : List (List ℕ)) × (trace_of names it ≡ front ++ behind)
+
+-- with the lines and the next one no trace begins, or where no line is left, they are none
+abbrev pub BeginNoTraceWith : List (List ℕ) → ℕ → Configuration → List (List ℕ) → List (List ℕ) → Type 0
+BeginNoTraceWith names fuel start front [] = (it : AnsweredRun fuel start) → trace_of names it ≢ front
+BeginNoTraceWith names fuel start front (next ∷ others) = BeginTrace names fuel start (front ++ next ∷ []) → ⊥
+
+-- The line, from 1 on, is the first with which no trace goes on: a trace begins with the lines before it, and none with
+-- it too. Where it is behind the last line, one is needed there.
+pub record IsFirstDifference (names : List (List ℕ)) (fuel : ℕ) (start : Configuration) (lines : List (List ℕ))
+    (line : ℕ) : Type 0 where
+  pub front : List (List ℕ)
+  pub rest : List (List ℕ)
+  pub split : lines ≡ front ++ rest
+  pub counted : line ≡ suc (length front)
+  pub begins : BeginTrace names fuel start front
+  pub differs : BeginNoTraceWith names fuel start front rest

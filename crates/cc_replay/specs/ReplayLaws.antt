@@ -17,7 +17,7 @@ use Rattle.cc_runs.specs.Runs.{State, IsStopped, Run, run}
 use Rattle.cc_runs.specs.Soundness.{IsSound}
 use Rattle.cc_runs.specs.SafeRuns.{scopes_of, IsListed, IsAmong}
 use Rattle.cc_runs.specs.SoundRuns.{IsSoundState}
-use Rattle.cc_replay.specs.AnsweredRuns.{GoesOnTo, AnsweredRun, ending_after, trace_lines, trace_of}
+use Rattle.cc_replay.specs.AnsweredRuns.{GoesOnTo, AnsweredRun, ending_after, trace_lines, trace_of, IsFirstDifference}
 use Rattle.cc_replay.specs.LineLiterals.{IsLineState}
 use Rattle.cc_replay.specs.Replays.{replay}
 use Rattle.cc_replay.specs.declared.replaying.Replayed.TheVariants.{Agrees, Differs}
@@ -30,27 +30,6 @@ AgreeingLinesAreTraces =
     (names : List (List ℕ)) (fuel : ℕ) (start : Configuration) (lines : List (List ℕ))
     → (replay names fuel start lines ≡ Agrees → (it : AnsweredRun fuel start) × (lines ≡ trace_of names it))
     × ((it : AnsweredRun fuel start) → lines ≡ trace_of names it → replay names fuel start lines ≡ Agrees)
-
--- the lines begin the trace of such a run
-abbrev pub BeginTrace : List (List ℕ) → ℕ → Configuration → List (List ℕ) → Type 0
-BeginTrace names fuel start front =
-    (it : AnsweredRun fuel start) × (behind : List (List ℕ)) × (trace_of names it ≡ front ++ behind)
-
--- with the lines and the next one no trace begins, or where no line is left, they are none
-abbrev pub BeginNoTraceWith : List (List ℕ) → ℕ → Configuration → List (List ℕ) → List (List ℕ) → Type 0
-BeginNoTraceWith names fuel start front [] = (it : AnsweredRun fuel start) → trace_of names it ≢ front
-BeginNoTraceWith names fuel start front (next ∷ others) = BeginTrace names fuel start (front ++ next ∷ []) → ⊥
-
--- The line, from 1 on, is the first with which no trace goes on: a trace begins with the lines before it, and none with
--- it too. Where it is behind the last line, one is needed there.
-pub record IsFirstDifference (names : List (List ℕ)) (fuel : ℕ) (start : Configuration) (lines : List (List ℕ))
-    (line : ℕ) : Type 0 where
-  pub front : List (List ℕ)
-  pub rest : List (List ℕ)
-  pub split : lines ≡ front ++ rest
-  pub counted : line ≡ suc (length front)
-  pub begins : BeginTrace names fuel start front
-  pub differs : BeginNoTraceWith names fuel start front rest
 
 -- A replay differs exactly at that line.
 abbrev pub ReplaysDifferFirst : Type 0

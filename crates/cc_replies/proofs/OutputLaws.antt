@@ -3,8 +3,8 @@ use Rattle.std.proofs.Common.{◌≡◌, Bool, true, false, ◌||◌, [], ◌∷
 use Rattle.cc_mnf.specs.ElaboratedModules.{device_names}
 use Rattle.cc_replies.specs.ReplyTexts.{reply_text, is_refusal}
 use Rattle.cc_replies.specs.Replies.{after}
-use Rattle.cc_replies.specs.Outputs.{IsOutput}
-use Rattle.cc_replies.specs.ReplyLaws.{OutputsExist, OutputsAreUnique, OutputsAreJoined}
+use Rattle.cc_replies.specs.Outputs.{IsOutput, OutputsAreUnique}
+use Rattle.cc_replies.specs.ReplyLaws.{OutputsExist, OutputsAreJoined}
 use Rattle.cc_replies.proofs.PresentAfter.{texts_stay_present}
 use Rattle.cc_replies.proofs.ReplyLaws.{replies_exist, replies_are_unique}
 

@@ -14,10 +14,10 @@ use Rattle.cc_verdicts.proofs.PresentLaws.{present_verdicts_exist, present_verdi
 use Rattle.cc_verdicts.specs.ModuleVerdicts.{Finding, InCycle, NoModule, ModuleVerdict}
 use Rattle.cc_verdicts.specs.PresentTexts.{Texts, ArePresent, text_of, graph_of, finding_in, finding_for, findings_for, AreVerdicts}
 use Rattle.cc_verdicts.specs.Readings.{imports_of}
-use Rattle.cc_replies.specs.ReplyLaws.{StaleModulesAreCounted, StaleModulesAreCountedOnce}
+use Rattle.cc_replies.specs.ReplyLaws.{StaleModulesAreCounted}
 use Rattle.cc_replies.specs.Replies.{after}
 use Rattle.cc_replies.specs.Requests.{Request, PutText, DropModule, SetPolicy, VerifyText, Ask, JobState}
-use Rattle.cc_replies.specs.StaleModules.{Checks, FindsStale, AreStale}
+use Rattle.cc_replies.specs.StaleModules.{Checks, FindsStale, AreStale, StaleModulesAreCountedOnce}
 use Rattle.cc_replies.proofs.PresentAfter.{texts_stay_present}
 use Rattle.cc_replies.proofs.ReplyLaws.{some_of, found_first, found_later}
 

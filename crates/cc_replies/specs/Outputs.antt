@@ -1,6 +1,7 @@
 -- What is written for the commands of a job, one after another.
 use Rattle.std.specs.Prelude.{◌≡◌, ℕ, Bool, false, ◌||◌, List, [], ◌∷◌, ◌++◌}
 use Rattle.cc_base.specs.declared.device.DeviceDecl.{DeviceDecl}
+use Rattle.cc_verdicts.specs.PresentTexts.{ArePresent}
 use Rattle.cc_mnf.specs.ElaboratedModules.{device_names}
 use Rattle.cc_replies.specs.ReplyTexts.{Reply, reply_text, is_refusal}
 use Rattle.cc_replies.specs.Requests.{Request, JobState}
@@ -19,3 +20,11 @@ IsOutput devices state (first ∷ others) text refused =
 abbrev pub after_all : JobState → List Request → JobState
 after_all state [] = state
 after_all state (first ∷ others) = after_all (after state first) others
+
+-- Commands have one output, and one answer to whether a reply is a refusal.
+abbrev pub OutputsAreUnique : Type 0
+OutputsAreUnique =
+    (devices : List DeviceDecl) (state : JobState) (requests : List Request) (first second : List ℕ)
+    (first_refused second_refused : Bool) → ArePresent state.texts
+    → IsOutput devices state requests first first_refused → IsOutput devices state requests second second_refused
+    → (first ≡ second) × (first_refused ≡ second_refused)

@@ -67,14 +67,6 @@ OutputsExist =
     (devices : List DeviceDecl) (state : JobState) (requests : List Request) → NamesOfDevicesDiffer devices
     → ArePresent state.texts → (text : List ℕ) × (refused : Bool) × IsOutput devices state requests text refused
 
--- and no other
-abbrev pub OutputsAreUnique : Type 0
-OutputsAreUnique =
-    (devices : List DeviceDecl) (state : JobState) (requests : List Request) (first second : List ℕ)
-    (first_refused second_refused : Bool) → ArePresent state.texts
-    → IsOutput devices state requests first first_refused → IsOutput devices state requests second second_refused
-    → (first ≡ second) × (first_refused ≡ second_refused)
-
 -- The output of commands and then of others is that of the first, and behind it that of the others, in the state that
 -- the first leave.
 abbrev pub OutputsAreJoined : Type 0
@@ -89,10 +81,3 @@ abbrev pub StaleModulesAreCounted : Type 0
 StaleModulesAreCounted =
     (devices : List DeviceDecl) (state : JobState) (last : List Judgement) (requests : List Request)
     → NamesOfDevicesDiffer devices → ArePresent state.texts → (sum : ℕ) × AreStale devices state last requests sum
-
--- and no other number
-abbrev pub StaleModulesAreCountedOnce : Type 0
-StaleModulesAreCountedOnce =
-    (devices : List DeviceDecl) (state : JobState) (last : List Judgement) (requests : List Request) (first second : ℕ)
-    → ArePresent state.texts → AreStale devices state last requests first → AreStale devices state last requests second
-    → first ≡ second

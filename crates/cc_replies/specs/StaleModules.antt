@@ -3,7 +3,7 @@ use Rattle.std.specs.Prelude.{◌≡◌, ℕ, ◌+◌, List, [], ◌∷◌}
 use Rattle.cc_base.specs.declared.device.DeviceDecl.{DeviceDecl}
 use Rattle.cc_judge.specs.Judgements.{Judgement, judgements, stale_count}
 use Rattle.cc_verdicts.specs.ModuleVerdicts.{ModuleVerdict}
-use Rattle.cc_verdicts.specs.PresentTexts.{Texts, AreVerdicts}
+use Rattle.cc_verdicts.specs.PresentTexts.{Texts, ArePresent, AreVerdicts}
 use Rattle.cc_replies.specs.Requests.{Request, PutText, DropModule, SetPolicy, VerifyText, Ask, JobState}
 use Rattle.cc_replies.specs.Replies.{after}
 
@@ -28,3 +28,10 @@ AreStale devices state last [] sum = sum ≡ 0
 AreStale devices state last (first ∷ others) sum =
     (count : ℕ) × (next : List Judgement) × (later : ℕ) × FindsStale devices state last first count next
     × AreStale devices (after state first) next others later × (sum ≡ count + later)
+
+-- Commands find one number of modules stale.
+abbrev pub StaleModulesAreCountedOnce : Type 0
+StaleModulesAreCountedOnce =
+    (devices : List DeviceDecl) (state : JobState) (last : List Judgement) (requests : List Request) (first second : ℕ)
+    → ArePresent state.texts → AreStale devices state last requests first → AreStale devices state last requests second
+    → first ≡ second

@@ -1,5 +1,7 @@
 //! The laws of replies and of outputs. The functions do nothing.
+ghost use Rattle.cc_replies.specs.Outputs.{OutputsAreUnique};
 ghost use Rattle.cc_replies.specs.ReplyLaws as law;
+ghost use Rattle.cc_replies.specs.StaleModules.{StaleModulesAreCountedOnce};
 
 /// A command has one reply, and leaves texts in order of name, one for each name.
 pub fn commands_have_one_reply()
@@ -19,12 +21,12 @@ pub fn permitted_entries_are_run()
 /// The commands of a job have one output.
 pub fn commands_have_one_output()
     ensures exist { law.OutputsExist }
-    ensures unique { law.OutputsAreUnique }
+    ensures unique { OutputsAreUnique }
     ensures joined { law.OutputsAreJoined }
 {}
 
 /// The commands of a job find some number of modules stale, and no other.
 pub fn stale_modules_are_counted()
     ensures exist { law.StaleModulesAreCounted }
-    ensures unique { law.StaleModulesAreCountedOnce }
+    ensures unique { StaleModulesAreCountedOnce }
 {}
