@@ -145,7 +145,8 @@ pub record WrittenCertificates : Type 0 where
       (BoxTerm (Free 1))
       (Node t-box (one (Node t-var NoPremise (OfType (capturing number (position 1)))))
       (OfType (capturing (BoxShape number (position 1)) empty)))
-      ≡ codes "cert 1\nbind x: Any^{cap}\nbind y: Int^{x}\nterm box y\n1 t-var [] : Int^{y}\n2 t-box [1] : Box[Int^{y}]\n"
+      ≡ codes "cert 1\nbind x: Any^{cap}\nbind y: Int^{x}\nterm box y\n"
+      ++ codes "1 t-var [] : Int^{y}\n2 t-box [1] : Box[Int^{y}]\n"
   pub bind_of_a_type_variable : bind_line (codes "x" ∷ []) 2 (TypeEntry number) ≡ codes "bind _T1 <: Int"
   pub binds_in_order :
       bind_lines (codes "x" ∷ codes "y" ∷ []) (TermEntry number empty ∷ TermEntry AnyShape empty ∷ [])
