@@ -1,6 +1,6 @@
 -- Worked parts of judging, and of what is written: how numbers are read at a place, where binders stand, in which order
 -- nodes are listed, and what is said in the end.
-use Rattle.std.specs.Prelude.{◌≡◌, ℕ, true, false, [], ◌∷◌, Some, None, codes}
+use Rattle.std.specs.Prelude.{◌≡◌, ℕ, true, false, [], ◌∷◌, ◌++◌, Some, None, codes}
 use Rattle.cc_base.specs.declared.literal.Base.TheVariants as bases
 use Rattle.cc_capture.specs.declared.var.Elem.TheVariants.{Var as Variable, Cap}
 use Rattle.cc_capture.specs.declared.var.Var.TheVariants.{Bound, Free}
