@@ -119,3 +119,18 @@ canonical_boxes_and_boundaries = record {
   exit = refl;
   exit_of_a_type_variable = refl;
 }
+
+pub terms_without_a_derivation : example.TermsWithoutADerivation
+unfolding nodes_computing
+terms_without_a_derivation = record {
+  application_of_a_number = refl;
+  type_application_of_a_number = refl;
+  unboxing_of_a_number = refl;
+  exit_by_a_number = refl;
+  printing_nothing = refl;
+  ticking_something = refl;
+  choice_of_no_type = refl;
+  choice_of_an_omitted_set = refl;
+  variable_that_is_a_type = refl;
+  of_a_type_without_its_set = refl;
+}

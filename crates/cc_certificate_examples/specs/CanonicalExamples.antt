@@ -12,7 +12,8 @@ use Rattle.cc_core.specs.Shapes.{Shape, BaseShape, AnyShape, TypeVariable, Funct
 use Rattle.cc_core.specs.Shapes.{ExitShape, CapturingType, capturing}
 use Rattle.cc_core.specs.Contexts.{TermEntry, TypeEntry, Context}
 use Rattle.cc_core.specs.Substitution.{single}
-use Rattle.cc_core.specs.Terms.{Note, Absent, Written, Term, VariableTerm, LiteralTerm, FunctionTerm, TypeFunctionTerm}
+use Rattle.cc_core.specs.Terms.{Note, Absent, Written, Own, Term, VariableTerm, LiteralTerm, FunctionTerm}
+use Rattle.cc_core.specs.Terms.{TypeFunctionTerm}
 use Rattle.cc_core.specs.Terms.{BoxTerm, Application, TypeApplication, Unboxing, Let, Primitive, Conditional}
 use Rattle.cc_core.specs.Terms.{Repetition, Operation, Boundary, Leave}
 use Rattle.cc_checking.specs.CanonicalDerivations.{canonical_shapes, type_derived, definition_derived}
@@ -806,3 +807,41 @@ pub record CanonicalBoxesAndBoundaries : Type 0 where
       codes "16 t-exit [8 15] : Int^{x}" ∷
       codes "17 t-abs [16] : ((_1: _T0) -> Int^{x})^{b}" ∷
       codes "18 t-tabs [17] : ([_T0 <: Exit[Bool]] -> ((_1: _T0) -> Int^{x})^{b})^{b}" ∷ [])
+
+-- Where a head is not of the shape that its construct wants, or a choice has no type, the node is no instance of its
+-- rule.
+pub record TermsWithoutADerivation : Type 0 where
+  pub application_of_a_number :
+      Derives Absent (Application (Free 2) (Free 2)) (capturing nothing empty) (
+      codes "1 t-sub [] : Unit" ∷ [])
+  pub type_application_of_a_number :
+      Derives Absent (TypeApplication (Free 2) number) (capturing nothing empty) (
+      codes "1 t-sub [] : Unit" ∷ [])
+  pub unboxing_of_a_number :
+      Derives Absent (Unboxing (Some empty) (Free 2)) (capturing nothing empty) (
+      codes "1 t-sub [] : Unit" ∷ [])
+  pub exit_by_a_number :
+      Derives Absent (Leave number empty (Free 2) (Free 2)) (capturing nothing empty) (
+      codes "1 t-sub [] : Unit" ∷ [])
+  pub printing_nothing :
+      Derives Absent (Operation operations.Print (Free 0) None) (capturing nothing empty) (
+      codes "1 t-sub [] : Unit" ∷ [])
+  pub ticking_something :
+      Derives Absent (Operation operations.Tick (Free 1) (Some (Free 2))) (capturing nothing empty) (
+      codes "1 t-sub [] : Unit" ∷ [])
+  pub choice_of_no_type :
+      Derives Absent (Conditional Absent (Free 3) one one) (capturing nothing empty) (
+      codes "1 t-sub [] : Unit" ∷ [])
+  pub choice_of_an_omitted_set :
+      Derives Absent (Conditional (Own number) (Free 3) one one) (capturing nothing empty) (
+      codes "1 t-sub [] : Unit" ∷ [])
+  -- it is of the greatest shape
+  pub variable_that_is_a_type :
+      Derives Absent (TypeFunctionTerm number (VariableTerm (Bound 0)))
+      (capturing (TypeFunctionShape number AnyShape (bound 0)) empty) (
+      codes "1 t-var [] : Any^{_0}" ∷
+      codes "2 t-tabs [1] : [_T0 <: Int] -> Any^{_0}" ∷ [])
+  -- nothing is widened to it
+  pub of_a_type_without_its_set :
+      Derives (Own AnyShape) one (capturing number empty) (
+      codes "1 t-lit [] : Int" ∷ [])

@@ -1,6 +1,6 @@
 -- Worked parts of judging, and of what is written: how numbers are read at a place, where binders stand, in which order
 -- nodes are listed, and what is said in the end.
-use Rattle.std.specs.Prelude.{◌≡◌, ℕ, true, false, [], ◌∷◌, Some, None, codes}
+use Rattle.std.specs.Prelude.{◌≡◌, ℕ, true, false, [], ◌∷◌, ◌++◌, Some, None, codes}
 use Rattle.cc_base.specs.declared.literal.Base.TheVariants as bases
 use Rattle.cc_capture.specs.declared.var.Elem.TheVariants.{Var as Variable, Cap}
 use Rattle.cc_capture.specs.declared.var.Var.TheVariants.{Bound, Free}
@@ -145,7 +145,8 @@ pub record WrittenCertificates : Type 0 where
       (BoxTerm (Free 1))
       (Node t-box (one (Node t-var NoPremise (OfType (capturing number (position 1)))))
       (OfType (capturing (BoxShape number (position 1)) empty)))
-      ≡ codes "cert 1\nbind x: Any^{cap}\nbind y: Int^{x}\nterm box y\n1 t-var [] : Int^{y}\n2 t-box [1] : Box[Int^{y}]\n"
+      ≡ codes "cert 1\nbind x: Any^{cap}\nbind y: Int^{x}\nterm box y\n"
+      ++ codes "1 t-var [] : Int^{y}\n2 t-box [1] : Box[Int^{y}]\n"
   pub bind_of_a_type_variable : bind_line (codes "x" ∷ []) 2 (TypeEntry number) ≡ codes "bind _T1 <: Int"
   pub binds_in_order :
       bind_lines (codes "x" ∷ codes "y" ∷ []) (TermEntry number empty ∷ TermEntry AnyShape empty ∷ [])

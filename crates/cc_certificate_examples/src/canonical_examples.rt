@@ -40,3 +40,9 @@ pub fn canonical_operands()
 pub fn canonical_boxes_and_boundaries()
     ensures { example.CanonicalBoxesAndBoundaries }
 {}
+
+/// Where a head is not of the shape that its construct wants, or a choice has no type, the node is no instance of its
+/// rule.
+pub fn terms_without_a_derivation()
+    ensures { example.TermsWithoutADerivation }
+{}
