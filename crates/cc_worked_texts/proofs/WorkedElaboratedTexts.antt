@@ -1,5 +1,5 @@
 -- What texts are elaborated to, by computation.
-use Rattle.std.proofs.Common.{◌≡◌, ◌∙◌, refl, ap, codes, ℕ, List, Some}
+use Rattle.std.proofs.Common.{◌≡◌, ◌∙◌, refl, ap, codes, ◌++◌, ℕ, List, Some}
 use Rattle.cc_mnf.specs.ElaboratedModules.{CoreDefinition}
 use Rattle.cc_worked_texts.specs.ElaboratedTexts.{definitions_read, IsElaboratedTo}
 use Rattle.cc_worked_texts.specs.ElaboratedTexts as example
@@ -89,3 +89,7 @@ operations_start_at_their_parentheses = elaborated_to (codes "def a = fun (u: In
 pub repetitions_start_at_their_parentheses : example.RepetitionsStartAtTheirParentheses
 unfolding text_computing
 repetitions_start_at_their_parentheses = elaborated_to (codes "def a = fun (u: Int) => (repeat(u, (exit [Int] (u, u))))") _ refl
+
+pub short_right_sides : example.ShortRightSides
+unfolding text_computing
+short_right_sides = elaborated_to (codes "def a = true def b = false def c = unit def d = \"xy\" def e = fun (x: Int) => x - x def " ++ codes "f = fun (x: Int) => x == x def g = fun (x: Int) => out.say(x) def h = fun (x: Int) => " ++ codes "x.write(x) def i = fun (x: Int) => hits.tick()") _ refl

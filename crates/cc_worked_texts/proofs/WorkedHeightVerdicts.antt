@@ -130,6 +130,9 @@ linked = record {
   higher_printed = refused 9 (codes "def a = 1.print(" ++ repeated 98 (codes "(") ++ codes "2" ++ repeated 98 (codes ")") ++ codes ").read()") E04 (place 1 215) refl;
   higher_right_operand = refused 9 (codes "def a = 1 + " ++ repeated 98 (codes "(") ++ codes "2" ++ repeated 98 (codes ")") ++ codes " + 3") E04 (place 1 211) refl;
   higher_left_operand = refused 9 (codes "def a = " ++ repeated 98 (codes "(") ++ codes "2" ++ repeated 98 (codes ")") ++ codes " + 3 + 4") E04 (place 1 211) refl;
+  one_behind = refused 9 (codes "def a = 1 + " ++ repeated 97 (codes "(") ++ codes "2" ++ repeated 97 (codes ")") ++ codes " + 3") E12 (place 1 9) refl;
+  two_behind = refused 9 (codes "def a = 1 + " ++ repeated 97 (codes "(") ++ codes "2" ++ repeated 97 (codes ")") ++ codes " + 3 + 4") E04 (place 1 213) refl;
+  two_calls_behind = refused 9 (codes "def a = 1(" ++ repeated 97 (codes "(") ++ codes "2" ++ repeated 97 (codes ")") ++ codes ")(3)(4)") E04 (place 1 210) refl;
   higher_content_of_a_box = refused 9 (codes "def a = box " ++ repeated 98 (codes "(") ++ codes "1" ++ repeated 98 (codes ")") ++ codes " + 2") E04 (place 1 211) refl;
   higher_opened = refused 9 (codes "def a = unbox " ++ repeated 98 (codes "(") ++ codes "1" ++ repeated 98 (codes ")") ++ codes " + 2") E04 (place 1 213) refl;
 }

@@ -1,7 +1,7 @@
 -- What texts are elaborated to, whole: each definition with its name, the type that is written for it, its right side in
 -- monadic normal form, and the places of all its parts.
-use Rattle.std.specs.Prelude.{◌≡◌, ℕ, pos, true, false, codes, List, [], ◌∷◌, Option, Some, None}
-use Rattle.cc_base.specs.Literals.{NumberLiteral}
+use Rattle.std.specs.Prelude.{◌≡◌, ℕ, pos, true, false, codes, List, [], ◌∷◌, ◌++◌, Option, Some, None}
+use Rattle.cc_base.specs.Literals.{UnitLiteral, TruthLiteral, NumberLiteral, TextLiteral}
 use Rattle.cc_base.specs.declared.literal.Base.TheVariants as bases
 use Rattle.cc_base.specs.declared.literal.Op.TheVariants as operations
 use Rattle.cc_base.specs.declared.literal.Operator.TheVariants as operators
@@ -293,3 +293,26 @@ RepetitionsStartAtTheirParentheses =
     (FunctionTerm integer empty
     (Let Absent (Leave integer empty (Bound 0) (Bound 0)) (Repetition (Bound 1) (Bound 0))))
     (around 9 (between 25 36 (operands 36 49 52) (operands 25 33 36)))
+
+-- Each literal, and the operators and operations that stand in no text above.
+abbrev pub ShortRightSides : Type 0
+ShortRightSides =
+    IsElaboratedTo
+    (codes "def a = true def b = false def c = unit def d = \"xy\" def e = fun (x: Int) => x - x def "
+    ++ codes "f = fun (x: Int) => x == x def g = fun (x: Int) => out.say(x) def h = fun (x: Int) => "
+    ++ codes "x.write(x) def i = fun (x: Int) => hits.tick()")
+    (defined (at 5) (codes "a") Absent (LiteralTerm (TruthLiteral true)) (alone 9)
+    ∷ defined (at 18) (codes "b") Absent (LiteralTerm (TruthLiteral false)) (alone 22)
+    ∷ defined (at 32) (codes "c") Absent (LiteralTerm UnitLiteral) (alone 36)
+    ∷ defined (at 45) (codes "d") Absent (LiteralTerm (TextLiteral (codes "xy"))) (alone 49)
+    ∷ defined (at 58) (codes "e") Absent (FunctionTerm integer empty (Primitive operators.Sub (Bound 0) (Bound 0)))
+    (around 62 (operands 78 78 82))
+    ∷ defined (at 88) (codes "f") Absent (FunctionTerm integer empty (Primitive operators.Equal (Bound 0) (Bound 0)))
+    (around 92 (operands 108 108 113))
+    ∷ defined (at 119) (codes "g") Absent (FunctionTerm integer empty (Operation operations.Say (Free 0) (Some (Bound 0))))
+    (around 123 (operands 139 139 147))
+    ∷ defined (at 154) (codes "h") Absent (FunctionTerm integer empty (Operation operations.Write (Bound 0) (Some (Bound 0))))
+    (around 158 (operands 174 174 182))
+    ∷ defined (at 189) (codes "i") Absent (FunctionTerm integer empty (Operation operations.Tick (Free 1) None))
+    (around 193 (operands 209 209 209))
+    ∷ [])

@@ -377,6 +377,16 @@ pub record LinkedHeights : Type 0 where
   pub higher_left_operand : Refuses
       (codes "def a = " ++ repeated 98 (codes "(") ++ codes "2" ++ repeated 98 (codes ")") ++ codes " + 3 + 4")
       E04 (place 1 211)
+  -- each link is one higher
+  pub one_behind : Refuses
+      (codes "def a = 1 + " ++ repeated 97 (codes "(") ++ codes "2" ++ repeated 97 (codes ")") ++ codes " + 3")
+      E12 (place 1 9)
+  pub two_behind : Refuses
+      (codes "def a = 1 + " ++ repeated 97 (codes "(") ++ codes "2" ++ repeated 97 (codes ")") ++ codes " + 3 + 4")
+      E04 (place 1 213)
+  pub two_calls_behind : Refuses
+      (codes "def a = 1(" ++ repeated 97 (codes "(") ++ codes "2" ++ repeated 97 (codes ")") ++ codes ")(3)(4)")
+      E04 (place 1 210)
   pub higher_content_of_a_box : Refuses
       (codes "def a = box " ++ repeated 98 (codes "(") ++ codes "1" ++ repeated 98 (codes ")") ++ codes " + 2")
       E04 (place 1 211)

@@ -23,4 +23,5 @@ pub fn elaborations()
     ensures choices_start_at_their_parentheses { example.ChoicesStartAtTheirParentheses }
     ensures operations_start_at_their_parentheses { example.OperationsStartAtTheirParentheses }
     ensures repetitions_start_at_their_parentheses { example.RepetitionsStartAtTheirParentheses }
+    ensures short_right_sides { example.ShortRightSides }
 {}

@@ -23,4 +23,5 @@ returns c = record {
   choices_start_at_their_parentheses = worked.choices_start_at_their_parentheses;
   operations_start_at_their_parentheses = worked.operations_start_at_their_parentheses;
   repetitions_start_at_their_parentheses = worked.repetitions_start_at_their_parentheses;
+  short_right_sides = worked.short_right_sides;
 }
