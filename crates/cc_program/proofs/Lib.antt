@@ -8,3 +8,7 @@ mod GuardedRuns
 mod ExplainedSignatures
 mod ReplayedRuns
 mod VerifiedTexts
+mod CallsInBytes
+mod EndingsInWords
+mod JobTexts
+mod ReplyPairs

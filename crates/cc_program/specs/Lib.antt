@@ -11,3 +11,7 @@ pub mod Exactness
 pub mod Endings
 pub mod ExplainedSignatures
 pub mod StatusTable
+pub mod CallLaws
+pub mod EndingLaws
+pub mod JobTexts
+pub mod ReplyPairs
