@@ -1,6 +1,7 @@
 -- What a call does, in bytes and numbers.
 use Rattle.std.proofs.Common.{◌≡◌, ◌↔◌, ◌⊎◌, ℕ, ◌+◌, ◌<◌, ◌≤◌, Bool, true, false, if◌then◌else◌, List, [], ◌∷◌, ◌++◌, length, take, codes, Option, Some, None, refl, sym, ap, ◌∙◌, subst, inl, inr, ⊎_elim, arith}
-use Rattle.std.specs.Fmt.{decimal}
+use Rattle.std.specs.Fmt.{decimal, digits}
+use lib.Utf8.{encode}
 use Rattle.std.specs.Io.KnownBytes.{Appends, Consumes, IsAtEnd, Keeps}
 use Rattle.std.proofs.lemmas.List.{append-nil, length-append}
 use Rattle.cc_arguments.specs.Words.{AsksFor, WordsAskForOneThing, WordsInNoForm}
@@ -23,7 +24,7 @@ use Rattle.cc_answers.specs.Requests.{requests_of}
 use Rattle.cc_program.proofs.Exact.{fault_is_told}
 use Rattle.cc_program.specs.declared.status.Status.{Status}
 use Rattle.cc_program.specs.declared.status.Status.TheVariants as statuses
-use Rattle.cc_program.specs.CallLaws.{JobsInBytes, BadJobsInBytes, TooLongJobsInBytes, ReadFaultsInBytes, WriteFaultsInBytes, FaultsInNumbers, WorkloadsInBytes, IsCallInMemory, NoWordAsksForTheJob, AreWorkloadWords, WorkloadsLeaveTheSource, OtherWordsTouchNothing, BadWordsTouchNothing}
+use Rattle.cc_program.specs.CallLaws.{JobsInBytes, BadJobsInBytes, TooLongJobsInBytes, ReadFaultsInBytes, WriteFaultsInBytes, FaultsInNumbers, WorkloadsInBytes, SummariesInBytes, IsCallInMemory, NoWordAsksForTheJob, AreWorkloadWords, WorkloadsLeaveTheSource, OtherWordsTouchNothing, BadWordsTouchNothing}
 use Rattle.cc_program.specs.Calls.{Does}
 use Rattle.cc_program.specs.Outcome.{Ends, ends, ReadsWhole, ReadsJob, JudgesStale, IsCarriedOut, IsCutOff, Outcome}
 use Rattle.cc_program.specs.Status.{number_of, message_of}
@@ -422,6 +423,10 @@ pub workloads_in_bytes : WorkloadsInBytes
 workloads_in_bytes number held text refused sum reads more_reads writes more_writes judged later left left_later written status output stale o =
     workload_ends number held text refused sum reads more_reads writes more_writes judged later left left_later written
     (record { output = output; stale = stale }) status o
+
+pub summaries_in_bytes : SummariesInBytes
+unfolding digits encode
+summaries_in_bytes = (refl, refl)
 
 -- what a call does, where its words ask for this
 module _ (one_thing : WordsAskForOneThing) (source source_later : SourceInMemory) (sink sink_later : SinkInMemory) (judged later : ℕ)

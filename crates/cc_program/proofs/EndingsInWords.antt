@@ -13,7 +13,7 @@ use Rattle.cc_io.specs.Messages.{IsTold}
 use Rattle.cc_program.specs.declared.status.Status.{Status}
 use Rattle.cc_program.specs.declared.status.Status.TheVariants as statuses
 use Rattle.cc_program.specs.CallLaws.{IsCallInMemory}
-use Rattle.cc_program.specs.EndingLaws.{SystemWords, TheNameIsNoWord, NoNameIsNoWord, ThreeWordsAreTwo, ErrorsTouchNothing, KindsInNumbers, keeps_all, MessagesInTexts}
+use Rattle.cc_program.specs.EndingLaws.{SystemWords, TheNameIsNoWord, NoNameIsNoWord, ThreeWordsAreTwo, ErrorsTouchNothing, KindsInNumbers, KeepsAll, MessagesInTexts}
 use Rattle.cc_program.specs.Endings.{EndsBy}
 use Rattle.cc_program.specs.Status.{number_of}
 use Rattle.cc_program.specs.Words.{status_without_words}
@@ -54,7 +54,7 @@ errors_touch_nothing source source_later sink sink_later judged later error stat
 
 -- behind bad words nothing more is said, or one text
 bad_words_say : (old between new : List (List ℕ)) → between ≡ old ++ codes "capc: bad words\n" ∷ []
-    → (usage : Option (List ℕ)) × IsTold keeps_all usage between new
+    → (usage : Option (List ℕ)) × IsTold KeepsAll usage between new
     → (new ≡ old ++ codes "capc: bad words\n" ∷ [])
     ⊎ ((usage : List ℕ) × (new ≡ old ++ codes "capc: bad words\n" ∷ (usage ++ codes "\n") ∷ []))
 bad_words_say old between new said (None, same) = inl (same ∙ said)

@@ -119,6 +119,18 @@ WorkloadsInBytes =
     × (((number_of status ≡ 5) × (more_writes ≡ writes)) ⊎ ((number_of status ≡ 4) × (writes < more_writes)))))
     × (later ≤ judged + sum)
 
+-- The summaries of two texts, which are the outputs of the workloads of one module and of two.
+abbrev pub SummariesInBytes : Type 0
+SummariesInBytes =
+    (summary_text 1
+    (codes "put m1\nput app\ncheck\n  app ok\n  m1 ok\nput m1\ncheck\n  app ok\n  m1 ok\n"
+    ++ codes "run app.main\n  authority {out, hits}\n  hits tick 1\n  out print 0\n  done unit after 7 steps\n")
+    ≡ codes "workload 1\nlines 14\nbytes 159\nlast done unit after 7 steps\n")
+    × (summary_text 2
+    (codes "put m1\nput m2\nput app\ncheck\n  app ok\n  m1 ok\n  m2 ok\nput m1\ncheck\n  app ok\n  m1 ok\n  m2 ok\n"
+    ++ codes "run app.main\n  authority {out, hits}\n  hits tick 1\n  out print 2\n  done unit after 12 steps\n")
+    ≡ codes "workload 2\nlines 17\nbytes 183\nlast done unit after 12 steps\n")
+
 -- The call, with these words, of a source and a sink in memory, which were so before it and behind it, as was the count of
 -- the modules that were judged.
 abbrev pub IsCallInMemory : SourceInMemory → SourceInMemory → SinkInMemory → SinkInMemory → ℕ → ℕ → List (List ℕ)

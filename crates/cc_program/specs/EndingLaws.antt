@@ -67,13 +67,13 @@ KindsInNumbers =
     × ((kind : ErrorKind) → (kind ≡ OutOfMemory → ⊥) → number_of (status_without_words kind) ≡ 6)
 
 -- A writer of messages that keeps in order all that it is given, whatever it answers.
-abbrev pub keeps_all : List (List ℕ) → List ℕ → Result (Unit {0}) Error → List (List ℕ) → Type 0
-keeps_all old text answer new = new ≡ old ++ text ∷ []
+abbrev pub KeepsAll : List (List ℕ) → List ℕ → Result (Unit {0}) Error → List (List ℕ) → Type 0
+KeepsAll old text answer new = new ≡ old ++ text ∷ []
 
 -- Such a writer, which had been given this before, was given just these texts where the program ended so.
 abbrev pub Says : Status → List (List ℕ) → Type 0
 Says status texts =
-    (old new : List (List ℕ)) → IsSaid keeps_all status old new → new ≡ old ++ texts
+    (old new : List (List ℕ)) → IsSaid KeepsAll status old new → new ≡ old ++ texts
 
 -- What is said for each status: one text with a line feed, or none. Behind bad words one text more may be said, with its
 -- line feed.
@@ -87,6 +87,6 @@ pub record MessagesInTexts : Type 0 where
   pub write_fault : Says statuses.WriteFault (codes "capc: write fault\n" ∷ [])
   pub no_memory : Says statuses.NoMemory (codes "capc: out of memory\n" ∷ [])
   pub too_long : Says statuses.TooLong (codes "capc: job too long\n" ∷ [])
-  pub bad_words : (old new : List (List ℕ)) → IsSaid keeps_all statuses.BadWords old new
+  pub bad_words : (old new : List (List ℕ)) → IsSaid KeepsAll statuses.BadWords old new
       → (new ≡ old ++ codes "capc: bad words\n" ∷ [])
       ⊎ ((usage : List ℕ) × (new ≡ old ++ codes "capc: bad words\n" ∷ (usage ++ codes "\n") ∷ []))

@@ -1,5 +1,5 @@
 //! What a call does, in bytes and numbers, and how the program ends, in words and texts.
-ghost use Rattle.cc_program.specs.CallLaws.{JobsInBytes, BadJobsInBytes, TooLongJobsInBytes, ReadFaultsInBytes, WriteFaultsInBytes, FaultsInNumbers, WorkloadsInBytes, NoWordAsksForTheJob, WorkloadsLeaveTheSource, OtherWordsTouchNothing, BadWordsTouchNothing};
+ghost use Rattle.cc_program.specs.CallLaws.{JobsInBytes, BadJobsInBytes, TooLongJobsInBytes, ReadFaultsInBytes, WriteFaultsInBytes, FaultsInNumbers, WorkloadsInBytes, SummariesInBytes, NoWordAsksForTheJob, WorkloadsLeaveTheSource, OtherWordsTouchNothing, BadWordsTouchNothing};
 ghost use Rattle.cc_program.specs.JobTexts.{JobsHaveTexts, WorkloadsAreJobs, TextOfOneModule};
 ghost use Rattle.cc_program.specs.EndingLaws.{TheNameIsNoWord, NoNameIsNoWord, ThreeWordsAreTwo, ErrorsTouchNothing, KindsInNumbers, MessagesInTexts};
 
@@ -21,9 +21,10 @@ pub fn faults_in_bytes()
     ensures numbers { FaultsInNumbers }
 {}
 
-/// What a call does that carries a workload out.
+/// What a call does that carries a workload out, and the summaries of two outputs.
 pub fn workloads_in_bytes()
-    ensures { WorkloadsInBytes }
+    ensures calls { WorkloadsInBytes }
+    ensures summaries { SummariesInBytes }
 {}
 
 /// What the words of a call decide, with a source and a sink in memory: with no word the job of the source is carried out,

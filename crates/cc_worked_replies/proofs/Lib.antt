@@ -7,3 +7,4 @@ pub mod WorkedCertificates
 pub mod WorkedReplays
 pub mod ComputedChains
 pub mod WorkedExplanations
+pub mod WorkedOutputs

@@ -1,5 +1,6 @@
 pub mod CertificateExamples
 pub mod ExplainExamples
+pub mod OutputExamples
 pub mod PolicyExamples
 pub mod ReplayExamples
 pub mod RunExamples

@@ -4,6 +4,7 @@
 
 pub mod certificates;
 pub mod explanations;
+pub mod outputs;
 pub mod policies;
 pub mod replays;
 pub mod runs;
