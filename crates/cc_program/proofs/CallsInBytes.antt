@@ -1,5 +1,5 @@
 -- What a call does, in bytes and numbers.
-use Rattle.std.proofs.Common.{◌≡◌, ◌↔◌, ◌⊎◌, ℕ, ◌+◌, ◌<◌, ◌≤◌, Bool, true, false, if◌then◌else◌, List, [], ◌∷◌, ◌++◌, length, take, codes, Option, Some, None, refl, sym, ap, ◌∙◌, subst, inl, inr, ⊎_elim, arith}
+use Rattle.std.proofs.Common.{◌≡◌, ◌⊎◌, ℕ, ◌+◌, ◌<◌, ◌≤◌, Bool, true, false, if◌then◌else◌, List, [], ◌∷◌, ◌++◌, length, take, codes, Option, Some, None, refl, sym, ap, ◌∙◌, subst, inl, inr, ⊎_elim, arith}
 use Rattle.std.specs.Fmt.{decimal, digits}
 use lib.Utf8.{encode}
 use Rattle.std.specs.Io.KnownBytes.{Appends, Consumes, IsAtEnd, Keeps}
@@ -24,7 +24,7 @@ use Rattle.cc_answers.specs.Requests.{requests_of}
 use Rattle.cc_program.proofs.Exact.{fault_is_told}
 use Rattle.cc_program.specs.declared.status.Status.{Status}
 use Rattle.cc_program.specs.declared.status.Status.TheVariants as statuses
-use Rattle.cc_program.specs.CallLaws.{JobsInBytes, BadJobsInBytes, TooLongJobsInBytes, ReadFaultsInBytes, WriteFaultsInBytes, FaultsInNumbers, WorkloadsInBytes, SummariesInBytes, IsCallInMemory, NoWordAsksForTheJob, AreWorkloadWords, WorkloadsLeaveTheSource, OtherWordsTouchNothing, BadWordsTouchNothing}
+use Rattle.cc_program.specs.CallLaws.{JobsInBytes, BadJobsInBytes, TooLongJobsInBytes, ReadFaultsInBytes, WriteFaultsInBytes, FaultsInNumbers, WorkloadsInBytes, SummariesInBytes, IsCallInMemory, NoWordAsksForTheJob, WorkloadsLeaveTheSource, OtherWordsTouchNothing, BadWordsTouchNothing}
 use Rattle.cc_program.specs.Calls.{Does}
 use Rattle.cc_program.specs.Outcome.{Ends, ends, ReadsWhole, ReadsJob, JudgesStale, IsCarriedOut, IsCutOff, Outcome}
 use Rattle.cc_program.specs.Status.{number_of, message_of}

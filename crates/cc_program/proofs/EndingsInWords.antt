@@ -1,17 +1,14 @@
 -- How the program ends for what the system answers, and what it says.
-use Rattle.std.proofs.Common.{◌≡◌, ◌↔◌, ◌⊎◌, ℕ, List, [], ◌∷◌, ◌++◌, drop, codes, Option, Some, None, Result, Ok, Err, refl, sym, ap, ◌∙◌, subst, inl, inr, ⊎_elim}
-use Rattle.std.specs.Fmt.{decimal, digits}
+use Rattle.std.proofs.Common.{◌≡◌, ◌↔◌, ◌⊎◌, ℕ, List, [], ◌∷◌, ◌++◌, drop, codes, Option, Some, None, Ok, refl, sym, ap, ◌∙◌, subst, inl, inr, ⊎_elim}
+use Rattle.std.specs.Fmt.{digits}
 use lib.Utf8.{encode}
 use Rattle.std.proofs.lemmas.List.{append_assoc, append-nil}
 use Rattle.std.specs.IoError.{error_kind}
 use Rattle.std.specs.Vec.Iter.{into_iter_items}
-use Rattle.std.specs.declared.io.Error.{Error}
 use Rattle.std.specs.declared.io.ErrorKind.{ErrorKind}
 use Rattle.std.specs.declared.io.ErrorKind.TheVariants as kinds
-use Rattle.cc_io.specs.CallPlans.{SourceInMemory, SinkInMemory}
 use Rattle.cc_io.specs.Messages.{IsTold}
 use Rattle.cc_program.specs.declared.status.Status.{Status}
-use Rattle.cc_program.specs.declared.status.Status.TheVariants as statuses
 use Rattle.cc_program.specs.CallLaws.{IsCallInMemory}
 use Rattle.cc_program.specs.EndingLaws.{SystemWords, TheNameIsNoWord, NoNameIsNoWord, ThreeWordsAreTwo, ErrorsTouchNothing, KindsInNumbers, KeepsAll, MessagesInTexts}
 use Rattle.cc_program.specs.Endings.{EndsBy}

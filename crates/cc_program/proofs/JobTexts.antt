@@ -1,9 +1,8 @@
 -- The text of a job is one of that job.
-use Rattle.std.proofs.Common.{◌≡◌, ℕ, suc, ◌+◌, ◌^◌, ◌<◌, ◌≤◌, Bool, true, false, ◌==◌, List, [], ◌∷◌, ◌++◌, map, length, codes, Option, Some, None, refl, sym, ap, ◌∙◌, subst, inl, arith}
+use Rattle.std.proofs.Common.{◌≡◌, ℕ, suc, ◌<◌, ◌≤◌, List, [], ◌∷◌, ◌++◌, map, length, codes, refl, sym, ap, ◌∙◌, subst, inl, arith}
 use Rattle.std.specs.Prelude.{ℤ, pos, negsuc, IsTrue, encode_utf8_all}
-use Rattle.std.specs.List.{AllByRecursion, IsDistinct, flat_map}
+use Rattle.std.specs.List.{AllByRecursion, flat_map}
 use Rattle.std.specs.Fmt.{decimal, signed_decimal, digits}
-use Rattle.std.specs.Str.{bytes_eq}
 use lib.Utf8.{encode}
 use Rattle.std.proofs.lemmas.Bool.Decides.{nat_tests}
 use Rattle.cc_base.specs.Names.{IsName}
@@ -11,17 +10,16 @@ use Rattle.cc_base.specs.declared.device.Kind.{Kind}
 use Rattle.cc_base.specs.declared.device.Kind.TheVariants.{Console, File, Counter}
 use Rattle.cc_job.specs.declared.job.Command.{Command}
 use Rattle.cc_job.specs.declared.job.Command.TheVariants.{Put, Drop, Check, Sig, Derive, Run, Tasks, Verify, Policy, Audit, Guard, Explain, Replay}
-use Rattle.cc_job.specs.declared.job.Job.{Job}
 use Rattle.cc_job.proofs.ItemLists.{rules_are}
 use Rattle.cc_job.proofs.RuleLaws.{rules-lack}
-use Rattle.cc_job.specs.Jobs.{Item, Declares, Commands, kind_words, command_words, item_words, item_lines, item_text, item_rules, rule_line, IsKind, IsCommand, IsItem, IsJob, AreItems, skipped, items_of, first_line, text}
+use Rattle.cc_job.specs.Jobs.{Item, Declares, Commands, kind_words, command_words, item_words, item_lines, item_text, item_rules, rule_line, IsKind, IsCommand, IsItem, AreItems, skipped, items_of, first_line, text}
 use Rattle.cc_words.proofs.LineLists.{terminated, whole-terminated, lines_of-whole, lines-lack, AllLack-append}
 use Rattle.cc_words.proofs.NameBytes.{Lacks-name}
 use Rattle.cc_words.proofs.Numbers.{Lacks-decimal}
 use Rattle.cc_words.proofs.Splits.{AllLack, Lacks-test, Lacks-joined}
 use Rattle.cc_words.proofs.Steps.{Lacks, Lacks-append}
 use Rattle.cc_words.specs.Lines.{Line, lines_of, AreWholeLines}
-use Rattle.cc_words.specs.Words.{joined, has_64_bits, IsPair, pair_text}
+use Rattle.cc_words.specs.Words.{has_64_bits, IsPair, pair_text}
 use Rattle.cc_workload.specs.Workloads.{workload, DevicesDiffer, WorkloadItems}
 use Rattle.cc_program.proofs.SoundJobs.{every_job_is_sound}
 use Rattle.cc_program.specs.JobTexts.{job_text, JobsHaveTexts, WorkloadsAreJobs, TextOfOneModule}

@@ -1,6 +1,6 @@
 -- What replies to several commands about one definition have to do with each other.
-use Rattle.std.proofs.Common.{◌≡◌, ◌↔◌, ◌⊎◌, ℕ, ◌+◌, ◌<◌, zero, suc, Bool, true, false, cond, ◌&&◌, List, [], ◌∷◌, length, map, Option, Some, None, Result, Ok, Err, refl, sym, ap, ◌∙◌, subst, if◌then◌else◌, inl, inr, get_or, arith}
-use Rattle.std.specs.Prelude.{IsTrue, slice_get}
+use Rattle.std.proofs.Common.{◌≡◌, ◌↔◌, ◌⊎◌, ℕ, ◌+◌, ◌<◌, zero, suc, Bool, true, false, cond, ◌&&◌, List, [], ◌∷◌, length, map, Some, Result, Ok, Err, refl, sym, ap, ◌∙◌, subst, if◌then◌else◌, inl, inr, get_or, arith}
+use Rattle.std.specs.Prelude.{slice_get}
 use Rattle.std.specs.List.{AllByRecursion, filter, range_with_len}
 use Rattle.std.proofs.lemmas.Option.{slice_get-get_or}
 use Rattle.std.proofs.lemmas.List.{length-map}
@@ -9,8 +9,7 @@ use Rattle.cc_base.specs.declared.code.Code.TheVariants.{E37}
 use Rattle.cc_base.specs.declared.device.DeviceDecl.{DeviceDecl}
 use Rattle.cc_core.specs.Stores.{is_permitted}
 use Rattle.cc_device.specs.Events.{Event}
-use Rattle.cc_entry_laws.proofs.AnyVerdicts.{started_definitions_are_one, entries_are_one}
-use Rattle.cc_entry_laws.specs.PresentEntries.{CheckedEntry, program_entry, started_in, IsEntryOf}
+use Rattle.cc_entry_laws.specs.PresentEntries.{CheckedEntry, program_entry, started_in}
 use Rattle.cc_verdicts.specs.ModuleVerdicts.{CheckedDefinition, ModuleVerdict}
 use Rattle.cc_verdicts.specs.PresentTexts.{Texts, ArePresent, AreVerdicts}
 use Rattle.cc_runs.specs.Links.{program_start}
@@ -26,11 +25,11 @@ use Rattle.cc_replay.specs.Replays.{replay}
 use Rattle.cc_replay.specs.declared.replaying.Replayed.{Replayed as Outcome}
 use Rattle.cc_replay.specs.declared.replaying.Replayed.TheVariants.{Agrees, Differs}
 use Rattle.cc_replies.proofs.ReplyLaws.{replies_are_unique}
-use Rattle.cc_replies.specs.PolicyReplies.{decision_named, decision_for, decisions, are_allowed, audit_told, permitted_told, guard_told, IsAuditAnswer, IsGuardAnswer}
+use Rattle.cc_replies.specs.PolicyReplies.{decision_named, decision_for, decisions, are_allowed, audit_told, permitted_told, guard_told, IsGuardAnswer}
 use Rattle.cc_replies.specs.Replies.{Replies, IsAnswer}
-use Rattle.cc_replies.specs.ReplayReplies.{replay_told, IsReplayAnswer}
+use Rattle.cc_replies.specs.ReplayReplies.{replay_told}
 use Rattle.cc_replies.specs.ReplyTexts.{Reply, Ran, RunRefused, Audited, AuditRefused, Guarded, GuardRefused, Replayed, ReplayRefused}
-use Rattle.cc_replies.specs.Requests.{JobState, Question, RunDefinition, AuditDefinition, GuardDefinition, ReplayDefinition, Ask}
+use Rattle.cc_replies.specs.Requests.{JobState, RunDefinition, AuditDefinition, GuardDefinition, ReplayDefinition, Ask}
 use Rattle.cc_replies.specs.RunReplies.{declared_run, run_told, IsEntryAnswer, IsRunAnswer, HasEntry}
 use Rattle.cc_words.specs.Lines.{lines_of}
 use Rattle.cc_program.proofs.ReplayedRuns.{shown_runs_are_replayed}
