@@ -10,3 +10,7 @@ mod ReplayedRuns
 mod VerifiedTexts
 mod SoundReplies
 mod UniqueAnswers
+mod CallsInBytes
+mod EndingsInWords
+mod JobTexts
+mod ReplyPairs

@@ -13,3 +13,7 @@ pub mod ExplainedSignatures
 pub mod StatusTable
 pub mod SoundReplies
 pub mod UniqueAnswers
+pub mod CallLaws
+pub mod EndingLaws
+pub mod JobTexts
+pub mod ReplyPairs

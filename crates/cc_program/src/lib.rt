@@ -2,8 +2,10 @@
 //! whatever streams it is given, and says how that ended.
 #![tactic(auto)]
 
+pub mod call_laws;
 pub mod job_laws;
 pub mod program;
+pub mod reply_laws;
 pub mod run;
 pub mod status;
 mod usage;

@@ -12,3 +12,4 @@ pub mod WorkedRuns
 pub mod WorkedShownTexts
 pub mod WorkedSignatures
 pub mod WorkedTasks
+pub mod WorkedOutputs

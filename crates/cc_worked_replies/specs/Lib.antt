@@ -2,6 +2,7 @@ pub mod CertificateExamples
 pub mod CommandExamples
 pub mod DerivationExamples
 pub mod ExplainExamples
+pub mod OutputExamples
 pub mod PolicyExamples
 pub mod ReplayExamples
 pub mod RunExamples

@@ -7,6 +7,7 @@ pub mod certificates;
 pub mod commands;
 pub mod derivations;
 pub mod explanations;
+pub mod outputs;
 pub mod policies;
 pub mod replays;
 pub mod runs;
