@@ -3,3 +3,4 @@ pub mod Calls
 pub mod Wholes
 pub mod HandedOn
 pub mod Messages
+pub mod Pieces

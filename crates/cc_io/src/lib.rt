@@ -6,6 +6,7 @@
 mod copy;
 mod memory;
 mod never;
+mod pieces;
 mod plan;
 mod standard;
 mod streams;
@@ -16,6 +17,7 @@ mod whole;
 
 pub use memory::{MemSink, MemSource};
 pub use never::{NeverSink, NeverSource};
+pub use pieces::{pass_on, spill};
 pub use standard::{StdSink, StdSource};
 pub use streams::{Messages, Reader, Writer};
 pub use traits::{Failed, Sink, Source, WriteError};
