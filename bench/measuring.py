@@ -8,7 +8,7 @@ def measured(program, job, runs, words=()):
     best, most = None, 0
     with tempfile.TemporaryDirectory() as folder:
         path, out = os.path.join(folder, 'job'), os.path.join(folder, 'out')
-        with open(path, 'w') as file:
+        with open(path, 'w', encoding='utf8') as file:
             file.write(job)
         for _ in range(runs):
             child = os.fork()
@@ -20,6 +20,8 @@ def measured(program, job, runs, words=()):
             took = (used.ru_utime + used.ru_stime) * 1000
             best = took if best is None else min(best, took)
             most = max(most, used.ru_maxrss / 1024)
-        with open(out) as file:
-            lines = file.read().split('\n')
+        with open(out, 'rb') as file:
+            # the last line, or its end where it is long
+            file.seek(max(0, os.path.getsize(out) - 1000000))
+            lines = file.read().decode('utf8', 'replace').split('\n')
     return best, most, os.waitstatus_to_exitcode(status), lines[-2] if len(lines) > 1 else ''

@@ -15,7 +15,7 @@ def measured(job, last):
     global failed
     best, most, _, line = measuring.measured(program, job, runs)
     if not line.endswith(last):
-        print('another answer:', line)
+        print('another answer:', line[:100])
         failed = True
     return best, most
 
@@ -119,6 +119,51 @@ def audits(count):
     return measured(hosted + 'audit m.main\n' * count, 'd15 allow 256')
 
 
+def sums(text, count):
+    """A sum of so many of these, as shallow as may be."""
+    return text if count == 1 else '(%s+%s)' % (sums(text, count // 2), sums(text, count - count // 2))
+
+
+def saying(text):
+    """A run of a million steps, a third of which say this text."""
+    return ''.join(repeating(332000, 'out.say("%s")' % text)), 'steps'
+
+
+def long_device(tasks):
+    """A run of a million steps that operate a device with a name of 4,000 letters, or so many tasks of them."""
+    name = 'd' * 4000
+    job = ('capc 1\ndevice %s console\nput m 1\ndef main = fun (u: Unit) => val f = fun (i: Int) => %s.print(i); repeat(33200, f)\n'
+           % (name, name))
+    if tasks:
+        return job + 'tasks 100000 %s%s\n' % (','.join(str(i) for i in range(tasks)), ' m.main' * tasks), 'steps'
+    return job + 'run m.main 100000\n', 'after 99604 steps'
+
+
+def long_derivation(count):
+    """The derivation of so many calls, at each of which a device with a name of 10,000 letters is in a type."""
+    name = 'd' * 10000
+    lines = ['def p = fun (n: Int) => %s.print(n)' % name, 'def k = fun (f: ((n: Int) -> Unit)^{%s}) => 1' % name,
+             'def f = fun (u: Unit) => ' + sums('k(p)', count)]
+    return 'capc 1\ndevice %s console\nput m 3\n%s\nderive m.f\n' % (name, '\n'.join(lines)), '((_0: Unit) -> Int)^{%s}' % name
+
+
+def long_chain(count):
+    """Why a device is in a signature, by way of so many definitions of a module with a name of 200,000 letters."""
+    lines = ['def f0 = fun (x: Int) => out.print(x)'] + ['def f%d = fun (x: Int) => f%d(x)' % (i + 1, i) for i in range(count)]
+    name = 'm' * 200000
+    return 'capc 1\ndevice out console\nput %s %d\n%s\nexplain %s.f%d\n' % (name, len(lines), '\n'.join(lines), name, count), '.f0 out'
+
+
+def held(name, job, last, bar=64):
+    """One row of a reply that is large beside its job: its time, and whether its memory is within the bar in MB."""
+    global failed
+    took, most = measured(job, last)
+    print('%-52s         %7.0f ms         %6.0f MB' % (name, took, most))
+    if most > bar:
+        print('  more than %d MB' % bar)
+        failed = True
+
+
 shown('a million steps of a repetition', run_of(249998, 'unit', 500000), run_of(499998, 'unit', 1000000), 100)
 shown('a million steps that print all along', run_of(166000, 'out.print(i)', 498004), run_of(332000, 'out.print(i)', 996004), 300)
 shown('a million steps of nested closures', nested(closures, 500000), nested(closures, 1000000), 1000)
@@ -133,4 +178,10 @@ base = measured(wide(128), ' ok')[0], measured(wide(256), ' ok')[0]
 shown('linking 256 modules of 200 definitions',
       measured(wide(128) + 'run m127.main 2000\n', 'after 130 steps'),
       measured(wide(256) + 'run m255.main 2000\n', 'after 258 steps'), 200, base)
+held('a million steps that say 200 letters', *saying('x' * 200))
+held('a million steps that say 800 bytes', *saying('\U0001F600' * 200))
+held('33,200 events of a device with a long name', *long_device(0))
+held('8 tasks that operate a device with a long name', *long_device(8))
+held('a derivation with a long name at each node', *long_derivation(4000))
+held('an explanation with a long name at each link', *long_chain(1200))
 sys.exit(1 if failed else 0)

@@ -1,29 +1,36 @@
 //! Explaining the signatures of definitions.
 
-ghost use Rattle.std.specs.Prelude.{◌≡◌, ◌++◌, ◌<◌, ◌&&◌, ℕ, List, map, length, Ok, IsTrue, IfOk, OnOk};
+ghost use Rattle.std.specs.Prelude.{◌≡◌, ◌++◌, ◌-◌, ◌^◌, ◌<◌, ◌&&◌, ℕ, List, map, length, Ok, IsTrue, IfOk, OnOk};
 ghost use Rattle.std.specs.Option.{option_to_list};
 ghost use Rattle.std.specs.Str.{bytes_eq};
-ghost use Rattle.std.specs.String.{string_bytes};
 ghost use Rattle.cc_capture.specs.Sets.{Set};
+ghost use Rattle.cc_io.specs.Wholes.{WriteAllCause};
+ghost use Rattle.cc_mnf.specs.ElaboratedModules.{device_names};
+ghost use Rattle.cc_policy.specs.declared.policy.Rule.{Rule};
 ghost use Rattle.cc_session.specs.Modules.{module_of};
 ghost use Rattle.cc_verdicts.specs.ModuleLaws.{NamesOfDevicesDiffer};
 ghost use Rattle.cc_verdicts.specs.ModuleVerdicts.{ModuleVerdict};
 ghost use Rattle.cc_verdicts.specs.PresentTexts.{ArePresent, AreVerdicts};
 ghost use Rattle.cc_verdicts.specs.StandingDefinitions.{Standing, standing_in};
-ghost use Rattle.cc_replies.specs.Explanations.{names_of};
+ghost use Rattle.cc_replies.specs.Explanations.{explanation_named, names_of};
+ghost use Rattle.cc_replies.specs.Requests.{ExplainDefinition, Ask, holding_under};
+ghost use Rattle.cc_replies.specs.ReplyTexts.{Explained as TellsExplained, reply_text};
+ghost use Rattle.cc_answers.specs.Carried.{IsReplied};
 ghost use Rattle.cc_answers.specs.Explaining as plain;
-ghost use Rattle.cc_answers.specs.Explaining.{StandsAt, FindsChain, FindsAll, ExplainsLinked, TellsExplanations};
+ghost use Rattle.cc_answers.specs.Explaining.{StandsAt, FindsChain, FindsAll, ExplainsLinked};
 
+use crate::replies::told;
 use cc_base::name::Name;
 use cc_capture::{CapSet, Elem, Var};
 use cc_explain::chain::chain;
 use cc_explain::links::Links;
 use cc_explain::target::Target;
+use cc_io::{Sink, WriteAll};
 use cc_link::module_links::links_of;
 use cc_module::judgement::CheckedDef;
 use cc_print::Names;
 use cc_replies::chains::{DefinitionName, FoundChain};
-use cc_replies::explanations::explain_reply;
+use cc_replies::explanations::write_explanation;
 use cc_session::modules::EntryModule;
 use cc_session::session::Session;
 use std::alloc::{AllocError, Global};
@@ -156,17 +163,18 @@ fn narrow(number: usize) -> Result<u32, AllocError>
     }
 }
 
-// The reply, where these modules are linked for the definition, beside so many devices.
-fn explain_linked(
+// The names of the definitions of modules that are linked for the definition beside so many devices, and the chains to the
+// elements of the set.
+fn explain_linked<'a>(
     alloc: Global,
-    names: &Names,
     devices: u32,
-    modules: &[EntryModule],
+    modules: &'a [EntryModule],
     module: &Name,
     def: &Name,
     set: &CapSet,
-) -> Result<String, AllocError>
-    ensures { IfOk result (λ text. ExplainsLinked devices (map module_of modules.now) names.now.names.items «module».now def.now set.now.list (string_bytes text)) }
+) -> Result<(Vec<DefinitionName<'a>>, Vec<FoundChain>), AllocError>
+    ensures { IfOk result (λ it. (names : List (List ℕ)) → ExplainsLinked devices (map module_of modules.now) names «module».now def.now set.now.list
+        (reply_text names (TellsExplained «module».now def.now (map (explanation_named (map names_of it.0.items)) it.1.items)))) }
 {
     let links = links_of(alloc, devices, modules)?;
     let definitions = definition_names(alloc, modules)?;
@@ -179,30 +187,47 @@ fn explain_linked(
         return Err(AllocError);
     }
     let found = find_chains(alloc, &links, from, set)?;
-    explain_reply(alloc, module, def, names, &definitions, &found)
+    Ok((definitions, found))
 }
 
-/// The reply to a command that explains the definition of an accepted module, which has this outermost set in its
-/// signature: why each element is in it.
+/// Writes the reply to a command that explains the definition of an accepted module, which has this outermost set in its
+/// signature: why each element is in it. The answer tells that this is no refusal.
 ///
-/// Fails only for want of memory, as which 2^32 - 1 definitions or more count.
-pub fn explained_reply(
+/// 2^32 - 1 definitions or more count as want of memory, for which nothing is written.
+pub fn tell_explanation<K: Sink>(
     alloc: Global,
     names: &Names,
     session: &Session,
     module: &Name,
     def: &Name,
     set: &CapSet,
-) -> Result<String, AllocError>
+    sink: &mut K,
+) -> Result<bool, WriteAll>
+    requires count { K.faults sink.old < 2 ^ 64 - 1 }
     requires checked { IsTrue session.now.checked }
     requires differ { NamesOfDevicesDiffer session.now.devices }
     requires present { ArePresent session.now.present }
-    ensures { IfOk result (λ text. (verdicts : List ℕ → ModuleVerdict) → AreVerdicts session.now.devices session.now.present verdicts
+    requires names { names.now.names.items ≡ device_names session.now.devices }
+    ensures replied { (rules : List Rule) (verdicts : List ℕ → ModuleVerdict) → AreVerdicts session.now.devices session.now.present verdicts
         → (it : Standing) → standing_in session.now.present verdicts «module».now def.now ≡ Ok it
         → set.now ≡ it.definition.accepted.signature.set
-        → TellsExplanations session.now.devices session.now.present verdicts names.now.names.items «module».now def.now set.now.list (string_bytes text)) }
+        → IsReplied session.now.devices (holding_under rules session.now.present) (Ask (ExplainDefinition «module».now def.now))
+        (K.written sink.old) (K.written sink.new) result }
+    ensures cause { WriteAllCause (K.faults sink.old) (K.faults sink.new) result }
 {
-    let modules = session.linked(module)?;
-    let devices = narrow(session.devices().len())?;
-    explain_linked(alloc, names, devices, &modules, module, def, set)
+    let modules = match session.linked(module) {
+        Ok(modules) => modules,
+        Err(AllocError) => return Err(WriteAll::NoMemory),
+    };
+    let devices = match narrow(session.devices().len()) {
+        Ok(devices) => devices,
+        Err(AllocError) => return Err(WriteAll::NoMemory),
+    };
+    match explain_linked(alloc, devices, &modules, module, def, set) {
+        Ok((definitions, found)) => told(
+            write_explanation(alloc, sink, module, def, names, &definitions, &found),
+            false,
+        ),
+        Err(AllocError) => Err(WriteAll::NoMemory),
+    }
 }

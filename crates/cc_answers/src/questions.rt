@@ -10,9 +10,9 @@ ghost use Rattle.cc_policy.specs.declared.policy.Rule.{Rule};
 ghost use Rattle.cc_answers.specs.Carried.{IsReplied};
 ghost use Rattle.cc_answers.specs.Requests.{request_of, question_in};
 
-use crate::explaining::explained_reply;
+use crate::explaining::tell_explanation;
 use crate::replies::write_reply;
-use crate::running::{Started, entry_reply, guarded_reply, replayed_reply, start_all, tasks_text};
+use crate::running::{Started, replayed_reply, start_all, tell_guarded, tell_run, tell_tasks};
 use cc_base::code::Code;
 use cc_base::name::Name;
 use cc_base::text::Text;
@@ -127,21 +127,17 @@ fn show_run<K: Sink>(
     ensures cause { WriteAllCause (K.faults sink.old) (K.faults sink.new) result }
 {
     match session.entry(module, def) {
-        Ok(entry) => {
-            match entry_reply(
-                alloc,
-                "run",
-                names,
-                session.devices(),
-                module,
-                def,
-                fuel,
-                &entry,
-            ) {
-                Ok((text, refused)) => write_reply(sink, Ok(text), refused),
-                Err(AllocError) => Err(WriteAll::NoMemory),
-            }
-        }
+        Ok(entry) => tell_run(
+            alloc,
+            "run",
+            names,
+            session.devices(),
+            module,
+            def,
+            fuel,
+            &entry,
+            sink,
+        ),
         Err(EntryError::Refused(refused)) => write_reply(
             sink,
             run_refusal(alloc, module, def, refused.code),
@@ -171,12 +167,15 @@ fn show_tasks<K: Sink>(
     ensures cause { WriteAllCause (K.faults sink.old) (K.faults sink.new) result }
 {
     match start_all(alloc, session, tasks) {
-        Ok(Started::All(entries)) => {
-            match tasks_text(alloc, names, session.devices(), fuel, schedule, &entries) {
-                Ok((text, refused)) => write_reply(sink, Ok(text), refused),
-                Err(AllocError) => Err(WriteAll::NoMemory),
-            }
-        }
+        Ok(Started::All(entries)) => tell_tasks(
+            alloc,
+            names,
+            session.devices(),
+            fuel,
+            schedule,
+            &entries,
+            sink,
+        ),
         Ok(Started::Refused { code, task }) => {
             match tasks.get(task) {
                 Some(one) => write_reply(sink, tasks_refusal(alloc, code, &one.0, &one.1), true),
@@ -250,21 +249,17 @@ fn show_guarded<K: Sink>(
     ensures cause { WriteAllCause (K.faults sink.old) (K.faults sink.new) result }
 {
     match session.entry(module, def) {
-        Ok(entry) => {
-            match guarded_reply(
-                alloc,
-                names,
-                session.devices(),
-                policy,
-                module,
-                def,
-                fuel,
-                &entry,
-            ) {
-                Ok((text, refused)) => write_reply(sink, Ok(text), refused),
-                Err(AllocError) => Err(WriteAll::NoMemory),
-            }
-        }
+        Ok(entry) => tell_guarded(
+            alloc,
+            names,
+            session.devices(),
+            policy,
+            module,
+            def,
+            fuel,
+            &entry,
+            sink,
+        ),
         Err(EntryError::Refused(refused)) => write_reply(
             sink,
             guard_refusal(alloc, module, def, refused.code),
@@ -293,12 +288,15 @@ fn show_explanation<K: Sink>(
     ensures cause { WriteAllCause (K.faults sink.old) (K.faults sink.new) result }
 {
     match session.standing(module, def) {
-        Ok(it) => {
-            match explained_reply(alloc, names, session, module, def, &it.def.checked.sig.set) {
-                Ok(text) => write_reply(sink, Ok(text), false),
-                Err(AllocError) => Err(WriteAll::NoMemory),
-            }
-        }
+        Ok(it) => tell_explanation(
+            alloc,
+            names,
+            session,
+            module,
+            def,
+            &it.def.checked.sig.set,
+            sink,
+        ),
         Err(StandingError::Refused(refused)) => write_reply(
             sink,
             explain_refusal(alloc, module, def, refused.code),

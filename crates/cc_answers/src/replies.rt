@@ -1,6 +1,6 @@
 //! Writing replies.
 
-ghost use Rattle.std.specs.Prelude.{◌≡◌, ◌-◌, ◌^◌, ◌<◌, ℕ, List, IfOk};
+ghost use Rattle.std.specs.Prelude.{◌≡◌, ◌-◌, ◌^◌, ◌<◌, ℕ, List, Option, IfOk};
 ghost use Rattle.std.specs.String.{string_bytes};
 ghost use Rattle.cc_io.specs.Wholes.{WritesWhole, WriteAllCause};
 
@@ -25,5 +25,17 @@ pub fn write_reply<K: Sink>(
             Ok(refused)
         }
         Err(AllocError) => Err(WriteAll::NoMemory),
+    }
+}
+
+/// Tells of a reply that was written in pieces whether it is a refusal, as it is told.
+pub fn told(written: Result<(), WriteAll>, refused: bool) -> Result<bool, WriteAll>
+    ensures written { (old new : Option (List ℕ)) (text : List ℕ) → WritesWhole old new written text → WritesWhole old new result text }
+    ensures refused { IfOk result (λ answer. answer ≡ refused) }
+    ensures cause { (before after : ℕ) → WriteAllCause before after written → WriteAllCause before after result }
+{
+    match written {
+        Ok(()) => Ok(refused),
+        Err(error) => Err(error),
     }
 }

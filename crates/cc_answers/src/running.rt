@@ -1,48 +1,78 @@
 //! Running the programs of entries on the declared devices.
 
-ghost use Rattle.std.specs.Prelude.{◌≡◌, ◌+◌, ◌<◌, ℕ, List, [], map, length, IsTrue, IfOk};
+ghost use Rattle.std.specs.Prelude.{◌≡◌, ◌+◌, ◌-◌, ◌^◌, ◌<◌, ℕ, List, [], map, length, IsTrue, IfOk};
 ghost use Rattle.std.specs.List.{AllByRecursion};
 ghost use Rattle.std.specs.String.{string_bytes};
 ghost use Rattle.cc_device.specs.Declarations.{declared_bases, declared_devices};
+ghost use Rattle.cc_device.specs.Devices.{Devices as DevicesHeld};
+ghost use Rattle.cc_device.specs.DeviceViews.{end_of};
+ghost use Rattle.cc_io.specs.Wholes.{WritesWhole, WriteAllCause};
 ghost use Rattle.cc_session.specs.Entries.{entry_of};
 ghost use Rattle.cc_entry_laws.specs.PresentEntries.{program_entry};
 ghost use Rattle.cc_verdicts.specs.ModuleVerdicts.{ModuleVerdict};
 ghost use Rattle.cc_verdicts.specs.PresentTexts.{AreVerdicts};
+ghost use Rattle.cc_runs.specs.Interleavings.{interleave, report_of, state_of};
 ghost use Rattle.cc_runs.specs.Links.{program_start};
+ghost use Rattle.cc_runs.specs.Runs.{Ends, run};
 ghost use Rattle.cc_runs.specs.SafeRuns.{HaveShapes};
 ghost use Rattle.cc_runs.specs.SoundRuns.{HasShapesOfCells};
 ghost use Rattle.cc_machine.specs.Programs.{shapes_of, start_of};
+ghost use Rattle.cc_machine.specs.Reports.{events_of};
 ghost use Rattle.cc_mnf.specs.ElaboratedModules.{device_names};
 ghost use Rattle.cc_replies.specs.PolicyReplies.{guard_told};
 ghost use Rattle.cc_replies.specs.ReplayReplies.{replay_told};
 ghost use Rattle.cc_replies.specs.ReplyTexts.{reply_text, is_refusal, is_unfinished};
 ghost use Rattle.cc_replies.specs.RunReplies.{declared_run, tasks_told};
+ghost use Rattle.cc_tasks.specs.Reports.{told_by, world_in};
 ghost use Rattle.cc_answers.specs.Running.{AreStarted, entry_text};
 
+use crate::replies::{told, write_reply};
 use cc_base::code::Code;
 use cc_base::device::DeviceDecl;
 use cc_base::name::Name;
 use cc_device::Devices;
+use cc_io::{Sink, WriteAll};
 use cc_link::link;
-use cc_machine::{Machine, Program};
+use cc_machine::{Machine, Program, RunReport};
 use cc_policy::policy::Policy;
 use cc_print::Names;
 use cc_replay::replay;
 use cc_replies::policies::{are_allowed, guard_refusal};
 use cc_replies::replays::{is_different, replay_reply};
-use cc_replies::runs::{is_cut_short, run_reply};
-use cc_replies::tasks::{tasks_cut_short, tasks_reply};
+use cc_replies::runs::{is_cut_short, write_run};
+use cc_replies::tasks::{tasks_cut_short, write_tasks};
 use cc_session::Entry;
 use cc_session::present_entries::EntryError;
 use cc_session::session::Session;
-use cc_tasks::run_tasks;
+use cc_tasks::{TaskReport, run_tasks};
 use std::alloc::{AllocError, Global};
 
-/// The reply of this word to a run of the definition, which has this entry, on the declared devices, and whether that is
-/// a refusal.
+// The report of the run of a program on the declared devices. Fails only for want of memory, as which 2^32 cells count.
+fn run_program<'a>(
+    alloc: Global,
+    declared: &[DeviceDecl],
+    fuel: u32,
+    program: &'a Program,
+) -> Result<RunReport<'a>, AllocError>
+    requires { shapes_of program.now ≡ declared_bases declared.now }
+    ensures events { IfOk result (λ report. events_of report ≡ (run fuel (state_of (declared_devices declared.now) (start_of program.now))).events) }
+    ensures ending { IfOk result (λ report. Ends (end_of report.end) ≡ (run fuel (state_of (declared_devices declared.now) (start_of program.now))).ending) }
+    ensures steps { IfOk result (λ report. report.steps ≡ (run fuel (state_of (declared_devices declared.now) (start_of program.now))).steps) }
+{
+    if !program.has_positions(fuel) {
+        return Err(AllocError);
+    }
+    program.starts_soundly();
+    let mut devices = Devices::new(alloc, declared)?;
+    let mut machine = Machine::load(alloc, program)?;
+    machine.run(alloc, &mut devices, fuel)
+}
+
+/// Writes the reply of this word to a run of the definition, which has this entry, on the declared devices, and tells
+/// whether that is a refusal.
 ///
-/// Fails only for want of memory, as which 2^32 cells count.
-pub fn entry_reply(
+/// 2^32 cells count as want of memory, for which nothing is written.
+pub fn tell_run<K: Sink>(
     alloc: Global,
     word: &str,
     names: &Names,
@@ -51,29 +81,45 @@ pub fn entry_reply(
     def: &Name,
     fuel: u32,
     entry: &Entry,
-) -> Result<(String, bool), AllocError>
-    requires { entry.now.devices.items ≡ declared_bases declared.now }
-    ensures text { IfOk result (λ it. string_bytes it.0
-        ≡ entry_text word.now names.now.names.items «module».now def.now declared.now fuel (entry_of entry.now)) }
-    ensures refused { IfOk result (λ it. it.1 ≡ is_unfinished (declared_run declared.now fuel (entry_of entry.now)).ending) }
+    sink: &mut K,
+) -> Result<bool, WriteAll>
+    requires count { K.faults sink.old < 2 ^ 64 - 1 }
+    requires devices { entry.now.devices.items ≡ declared_bases declared.now }
+    ensures written { WritesWhole (K.written sink.old) (K.written sink.new) result
+        (entry_text word.now names.now.names.items «module».now def.now declared.now fuel (entry_of entry.now)) }
+    ensures refused { IfOk result (λ refused. refused ≡ is_unfinished (declared_run declared.now fuel (entry_of entry.now)).ending) }
+    ensures cause { WriteAllCause (K.faults sink.old) (K.faults sink.new) result }
 {
-    let program = link(alloc, entry)?;
-    if !program.has_positions(fuel) {
-        return Err(AllocError);
+    let program = match link(alloc, entry) {
+        Ok(program) => program,
+        Err(AllocError) => return Err(WriteAll::NoMemory),
+    };
+    match run_program(alloc, declared, fuel, &program) {
+        Ok(report) => {
+            let refused = is_cut_short(report.end);
+            told(
+                write_run(
+                    alloc,
+                    sink,
+                    word,
+                    module,
+                    def,
+                    &entry.authority,
+                    &report,
+                    names,
+                ),
+                refused,
+            )
+        }
+        Err(AllocError) => Err(WriteAll::NoMemory),
     }
-    program.starts_soundly();
-    let mut devices = Devices::new(alloc, declared)?;
-    let mut machine = Machine::load(alloc, &program)?;
-    let report = machine.run(alloc, &mut devices, fuel)?;
-    let text = run_reply(alloc, word, module, def, &entry.authority, &report, names)?;
-    Ok((text, is_cut_short(report.end)))
 }
 
-/// The reply to a guarded run of the definition, which has this entry, on the declared devices, which have the names, and
-/// whether that is a refusal: it runs if the policy permits it.
+/// Writes the reply to a guarded run of the definition, which has this entry, on the declared devices, which have the
+/// names, and tells whether that is a refusal: it runs if the policy permits it.
 ///
-/// Fails only for want of memory, as which 2^32 cells count.
-pub fn guarded_reply(
+/// 2^32 cells count as want of memory, for which nothing is written.
+pub fn tell_guarded<K: Sink>(
     alloc: Global,
     names: &Names,
     declared: &[DeviceDecl],
@@ -82,18 +128,22 @@ pub fn guarded_reply(
     def: &Name,
     fuel: u32,
     entry: &Entry,
-) -> Result<(String, bool), AllocError>
+    sink: &mut K,
+) -> Result<bool, WriteAll>
+    requires count { K.faults sink.old < 2 ^ 64 - 1 }
     requires devices { entry.now.devices.items ≡ declared_bases declared.now }
     requires names { names.now.names.items ≡ device_names declared.now }
-    ensures text { IfOk result (λ it. string_bytes it.0 ≡ reply_text names.now.names.items
-        (guard_told declared.now policy.now «module».now def.now fuel (entry_of entry.now))) }
-    ensures refused { IfOk result (λ it. it.1 ≡ is_refusal (guard_told declared.now policy.now «module».now def.now fuel (entry_of entry.now))) }
+    ensures written { WritesWhole (K.written sink.old) (K.written sink.new) result
+        (reply_text names.now.names.items (guard_told declared.now policy.now «module».now def.now fuel (entry_of entry.now))) }
+    ensures refused { IfOk result (λ refused. refused ≡ is_refusal (guard_told declared.now policy.now «module».now def.now fuel (entry_of entry.now))) }
+    ensures cause { WriteAllCause (K.faults sink.old) (K.faults sink.new) result }
 {
     if are_allowed(policy, &entry.module, names, &entry.authority) {
-        entry_reply(alloc, "guard", names, declared, module, def, fuel, entry)
+        tell_run(
+            alloc, "guard", names, declared, module, def, fuel, entry, sink,
+        )
     } else {
-        let text = guard_refusal(alloc, module, def, Code::E37)?;
-        Ok((text, true))
+        write_reply(sink, guard_refusal(alloc, module, def, Code::E37), true)
     }
 }
 
@@ -196,30 +246,54 @@ fn fit_all(programs: &[Program], devices: &Devices)
     }
 }
 
-/// The reply to an interleaved run of the definitions that have these entries, on the declared devices, and whether that
-/// is a refusal.
+// The report of the interleaved run of programs on the declared devices.
+fn run_programs<'a>(
+    alloc: Global,
+    declared: &[DeviceDecl],
+    fuel: u32,
+    schedule: &[u32],
+    programs: &'a [Program],
+) -> Result<TaskReport<'a>, AllocError>
+    requires { (devices : DevicesHeld) → HaveShapes devices (declared_bases declared.now) → AllByRecursion (λ program. HaveShapes devices (shapes_of program)) programs.now }
+    ensures { IfOk result (λ report. told_by report ≡ report_of (interleave fuel schedule.now (world_in programs.now (declared_devices declared.now)))) }
+{
+    if !have_positions(programs, fuel) {
+        return Err(AllocError);
+    }
+    let mut devices = Devices::new(alloc, declared)?;
+    fit_all(programs, &devices);
+    run_tasks(alloc, programs, &mut devices, schedule, fuel)
+}
+
+/// Writes the reply to an interleaved run of the definitions that have these entries, on the declared devices, and tells
+/// whether that is a refusal.
 ///
-/// Fails only for want of memory, as which 2^32 cells count.
-pub fn tasks_text(
+/// 2^32 cells count as want of memory, for which nothing is written.
+pub fn tell_tasks<K: Sink>(
     alloc: Global,
     names: &Names,
     declared: &[DeviceDecl],
     fuel: u32,
     schedule: &[u32],
     entries: &[Entry],
-) -> Result<(String, bool), AllocError>
-    requires { AllByRecursion (λ entry. entry.devices.items ≡ declared_bases declared.now) entries.now }
-    ensures text { IfOk result (λ it. string_bytes it.0 ≡ reply_text names.now.names.items
-        (tasks_told declared.now fuel schedule.now (map entry_of entries.now))) }
-    ensures refused { IfOk result (λ it. it.1 ≡ is_refusal (tasks_told declared.now fuel schedule.now (map entry_of entries.now))) }
+    sink: &mut K,
+) -> Result<bool, WriteAll>
+    requires count { K.faults sink.old < 2 ^ 64 - 1 }
+    requires devices { AllByRecursion (λ entry. entry.devices.items ≡ declared_bases declared.now) entries.now }
+    ensures written { WritesWhole (K.written sink.old) (K.written sink.new) result
+        (reply_text names.now.names.items (tasks_told declared.now fuel schedule.now (map entry_of entries.now))) }
+    ensures refused { IfOk result (λ refused. refused ≡ is_refusal (tasks_told declared.now fuel schedule.now (map entry_of entries.now))) }
+    ensures cause { WriteAllCause (K.faults sink.old) (K.faults sink.new) result }
 {
-    let programs = link_all(alloc, entries)?;
-    if !have_positions(&programs, fuel) {
-        return Err(AllocError);
+    let programs = match link_all(alloc, entries) {
+        Ok(programs) => programs,
+        Err(AllocError) => return Err(WriteAll::NoMemory),
+    };
+    match run_programs(alloc, declared, fuel, schedule, &programs) {
+        Ok(report) => {
+            let refused = tasks_cut_short(&report);
+            told(write_tasks(alloc, sink, entries, &report, names), refused)
+        }
+        Err(AllocError) => Err(WriteAll::NoMemory),
     }
-    let mut devices = Devices::new(alloc, declared)?;
-    fit_all(&programs, &devices);
-    let report = run_tasks(alloc, &programs, &mut devices, schedule, fuel)?;
-    let text = tasks_reply(alloc, entries, &report, names)?;
-    Ok((text, tasks_cut_short(&report)))
 }

@@ -1,2 +1,3 @@
 mod Fronts
 mod Acknowledgements
+pub mod PassedPieces

@@ -4,3 +4,4 @@ pub mod Wholes
 pub mod HandedOn
 pub mod Acknowledged
 pub mod Messages
+pub mod Pieces

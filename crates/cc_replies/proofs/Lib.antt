@@ -12,3 +12,4 @@ pub mod WorkedRefusals
 pub mod WorkedStaleModules
 pub mod RunLines
 pub mod TaskLines
+pub mod StreamedLines

@@ -6,6 +6,7 @@ pub mod certificates;
 pub mod chains;
 pub mod derivations;
 pub mod explanations;
+mod heads;
 pub mod modules;
 pub mod policies;
 pub mod replays;

@@ -1,9 +1,11 @@
 //! The reply to a command that runs definitions interleaved.
 
-ghost use Rattle.std.specs.Prelude.{◌≡◌, ◌++◌, ℕ, List, [], map, codes, IfOk, OnOk};
+ghost use Rattle.std.specs.Prelude.{◌≡◌, ◌-◌, ◌^◌, ◌<◌, ◌++◌, ℕ, List, [], map, codes, IfOk, OnOk};
 ghost use Rattle.std.specs.Fmt.{decimal};
 ghost use Rattle.std.specs.List.{flat_map, list_any};
 ghost use Rattle.std.specs.String.{string_bytes};
+ghost use Rattle.cc_io.specs.Pieces.{Streams};
+ghost use Rattle.cc_io.specs.Wholes.{WritesWhole, WriteAllCause};
 ghost use Rattle.cc_replies.specs.ReplyTexts.{TasksRan, TasksRefused, inner_line, pair_text, reply_text, is_refusal, is_unfinished};
 ghost use Rattle.cc_replies.specs.TaskTexts as plain;
 ghost use Rattle.cc_replay.specs.RunTexts.{authority_text};
@@ -14,6 +16,7 @@ use cc_base::code::Code;
 use cc_base::name::Name;
 use cc_certificate_writing::writing::put;
 use cc_device::{End, Event};
+use cc_io::{Sink, WriteAll, pass_on, write_all};
 use cc_print::Names;
 use cc_replay::run_texts::{put_authority, put_end, put_event};
 use cc_session::Entry;
@@ -58,6 +61,23 @@ fn put_authorities(
     Ok(())
 }
 
+// Writes a line about each task, with what it may operate.
+fn write_authorities<K: Sink>(
+    alloc: Global,
+    sink: &mut K,
+    waiting: &mut String,
+    names: &Names,
+    entries: &[Entry],
+) -> Result<(), WriteAll>
+    requires { K.faults sink.old < 2 ^ 64 - 1 }
+    ensures streams { Streams (K.written sink.old) (K.written sink.new) (string_bytes waiting.old) (string_bytes waiting.new) result
+        (flat_map inner_line (plain.by_task 0 (map (authority_text names.now.names.items) (map (λ entry. entry.authority.items) entries.now)))) }
+    ensures cause { WriteAllCause (K.faults sink.old) (K.faults sink.new) result }
+{
+    let put = put_authorities(alloc, waiting, names, entries);
+    pass_on(sink, waiting, put)
+}
+
 // Adds the line of an event of a task.
 fn put_task_event(
     alloc: Global,
@@ -72,17 +92,38 @@ fn put_task_event(
     put(out, "\n")
 }
 
-// Adds the lines of events, in order.
-fn put_task_events(
+// Writes the line of an event of a task.
+fn write_task_event<K: Sink>(
     alloc: Global,
-    out: &mut String,
+    sink: &mut K,
+    waiting: &mut String,
+    names: &Names,
+    one: &(u32, Event),
+) -> Result<(), WriteAll>
+    requires { K.faults sink.old < 2 ^ 64 - 1 }
+    ensures streams { Streams (K.written sink.old) (K.written sink.new) (string_bytes waiting.old) (string_bytes waiting.new) result
+        (inner_line (plain.task_event_text names.now.names.items (told_event one.now))) }
+    ensures cause { WriteAllCause (K.faults sink.old) (K.faults sink.new) result }
+{
+    let put = put_task_event(alloc, waiting, names, one);
+    pass_on(sink, waiting, put)
+}
+
+// Writes the lines of events, in order.
+fn write_task_events<K: Sink>(
+    alloc: Global,
+    sink: &mut K,
+    waiting: &mut String,
     names: &Names,
     events: &[(u32, Event)],
-) -> Result<(), AllocError>
-    ensures { OnOk result (string_bytes out.new ≡ string_bytes out.old ++ flat_map inner_line (map (plain.task_event_text names.now.names.items) (map told_event events.now))) }
+) -> Result<(), WriteAll>
+    requires { K.faults sink.old < 2 ^ 64 - 1 }
+    ensures streams { Streams (K.written sink.old) (K.written sink.new) (string_bytes waiting.old) (string_bytes waiting.new) result
+        (flat_map inner_line (map (plain.task_event_text names.now.names.items) (map told_event events.now))) }
+    ensures cause { WriteAllCause (K.faults sink.old) (K.faults sink.new) result }
 {
     for one in events {
-        put_task_event(alloc, out, names, one)?;
+        write_task_event(alloc, sink, waiting, names, one)?;
     }
     Ok(())
 }
@@ -117,23 +158,79 @@ fn put_ends(
     Ok(())
 }
 
-/// The reply to a command that runs the programs of entries interleaved: a line for each task with what it may operate,
-/// one for each event, and one for each task with its end. Devices have their names.
-///
-/// Fails only for want of memory.
-pub fn tasks_reply(
+// Writes a line about each task, with its end.
+fn write_ends<K: Sink>(
     alloc: Global,
+    sink: &mut K,
+    waiting: &mut String,
+    names: &Names,
+    ends: &[(End, u32)],
+) -> Result<(), WriteAll>
+    requires { K.faults sink.old < 2 ^ 64 - 1 }
+    ensures streams { Streams (K.written sink.old) (K.written sink.new) (string_bytes waiting.old) (string_bytes waiting.new) result
+        (flat_map inner_line (plain.by_task 0 (map (plain.task_end_text names.now.names.items) (map told_end ends.now)))) }
+    ensures cause { WriteAllCause (K.faults sink.old) (K.faults sink.new) result }
+{
+    let put = put_ends(alloc, waiting, names, ends);
+    pass_on(sink, waiting, put)
+}
+
+// Writes all lines about tasks.
+fn write_lines<K: Sink>(
+    alloc: Global,
+    sink: &mut K,
+    waiting: &mut String,
+    names: &Names,
+    entries: &[Entry],
+    report: &TaskReport,
+) -> Result<(), WriteAll>
+    requires { K.faults sink.old < 2 ^ 64 - 1 }
+    ensures streams { Streams (K.written sink.old) (K.written sink.new) (string_bytes waiting.old) (string_bytes waiting.new) result
+        (flat_map inner_line (plain.task_lines names.now.names.items (map (λ entry. entry.authority.items) entries.now) (told_by report.now))) }
+    ensures cause { WriteAllCause (K.faults sink.old) (K.faults sink.new) result }
+{
+    write_authorities(alloc, sink, waiting, names, entries)?;
+    write_task_events(alloc, sink, waiting, names, &report.trace)?;
+    write_ends(alloc, sink, waiting, names, &report.ends)
+}
+
+// Writes what waits, and the lines about tasks behind it.
+fn write_behind<K: Sink>(
+    alloc: Global,
+    sink: &mut K,
+    waiting: &mut String,
+    names: &Names,
+    entries: &[Entry],
+    report: &TaskReport,
+) -> Result<(), WriteAll>
+    requires { K.faults sink.old < 2 ^ 64 - 1 }
+    ensures written { WritesWhole (K.written sink.old) (K.written sink.new) result (string_bytes waiting.old
+        ++ flat_map inner_line (plain.task_lines names.now.names.items (map (λ entry. entry.authority.items) entries.now) (told_by report.now))) }
+    ensures cause { WriteAllCause (K.faults sink.old) (K.faults sink.new) result }
+{
+    write_lines(alloc, sink, waiting, names, entries, report)?;
+    write_all(sink, waiting.as_bytes())
+}
+
+/// Writes the reply to a command that runs the programs of entries interleaved: a line for each task with what it may
+/// operate, one for each event, and one for each task with its end. Devices have their names. The text is written in
+/// pieces.
+pub fn write_tasks<K: Sink>(
+    alloc: Global,
+    sink: &mut K,
     entries: &[Entry],
     report: &TaskReport,
     names: &Names,
-) -> Result<String, AllocError>
-    ensures { IfOk result (λ text. string_bytes text ≡ reply_text names.now.names.items (TasksRan (map (λ entry. entry.authority.items) entries.now) (told_by report.now))) }
+) -> Result<(), WriteAll>
+    requires { K.faults sink.old < 2 ^ 64 - 1 }
+    ensures written { WritesWhole (K.written sink.old) (K.written sink.new) result
+        (reply_text names.now.names.items (TasksRan (map (λ entry. entry.authority.items) entries.now) (told_by report.now))) }
+    ensures cause { WriteAllCause (K.faults sink.old) (K.faults sink.new) result }
 {
-    let mut out = String::from_str(alloc, "tasks\n")?;
-    put_authorities(alloc, &mut out, names, entries)?;
-    put_task_events(alloc, &mut out, names, &report.trace)?;
-    put_ends(alloc, &mut out, names, &report.ends)?;
-    Ok(out)
+    match String::from_str(alloc, "tasks\n") {
+        Ok(mut head) => write_behind(alloc, sink, &mut head, names, entries, report),
+        Err(AllocError) => Err(WriteAll::NoMemory),
+    }
 }
 
 // Adds the names of a module and of its definition.

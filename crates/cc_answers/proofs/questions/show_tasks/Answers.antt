@@ -1,14 +1,14 @@
-use Rattle.std.proofs.Common.{◌≡◌, Bool, true, false, List, [], length, map, Some, ap, ◌∙◌, sym, subst, arith}
+use Rattle.std.proofs.Common.{◌≡◌, Bool, true, false, List, [], length, map, Some, refl, ap, ◌∙◌, sym, subst, arith}
 use Rattle.std.specs.Prelude.{nat_lt}
 use Rattle.std.proofs.lemmas.Bool.Decides.{nat_tests}
 use Rattle.std.proofs.lemmas.Option.{get_or_from_slice_get, slice_get_within}
-use Rattle.std.specs.String.{string_bytes}
 use Rattle.std.specs.List.{AllByRecursion}
 use Rattle.cc_device.specs.Declarations.{declared_bases}
 use Rattle.cc_session.specs.declared.entry.Entry.{Entry}
 use Rattle.cc_session.specs.Entries.{entry_of}
-use Rattle.cc_replies.specs.ReplyTexts.{TasksRefused, reply_text}
-use Rattle.cc_replies.specs.RunReplies.{first_unstarted, HaveEntries}
+use Rattle.cc_io.specs.Wholes.{WritesWhole}
+use Rattle.cc_replies.specs.ReplyTexts.{TasksRefused, reply_text, is_refusal}
+use Rattle.cc_replies.specs.RunReplies.{first_unstarted, tasks_told, HaveEntries}
 use Rattle.cc_verdicts.proofs.PresentLaws.{present_verdicts_exist}
 use Rattle.cc_replies.specs.Requests.{RunTasks, Ask, holding_under}
 use Rattle.cc_answers.specs.Running.{AreStarted}
@@ -17,8 +17,8 @@ use Rattle.cc_answers.proofs.QuestionReplies.{tasks_shown, tasks_not_shown}
 use Rattle.cc_answers.proofs.StartedTasks.{shapes_of_started}
 use Rattle.cc_answers.proofs.questions.show_tasks.Goals as goal
 
-pub tasks_text-requires : goal.tasks_text-requires
-tasks_text-requires g c =
+pub tell_tasks-requires-clause-devices : goal.tell_tasks-requires-clause-devices
+tell_tasks-requires-clause-devices g c =
     let session = c.args.session.now in
     let some = present_verdicts_exist session.devices session.present c.requires.differ c.requires.present in
     let started = subst (AreStarted session.devices session.present some.0 c.args.tasks.now) c.in-Ok-All.field-0-is (c.in-Ok-All.ensures some.0 some.1) in
@@ -27,25 +27,22 @@ tasks_text-requires g c =
     (shapes_of_started session.devices session.present some.0 (declared_bases c.devices.result.now) c.args.tasks.now c.in-Ok-All.entries.items
     (sym (ap declared_bases c.devices.ensures)) started.1)
 
-pub returns-in-Ok-clause-replied : goal.returns-in-Ok-clause-replied
-returns-in-Ok-clause-replied g c = λ rules.
+pub returns-in-Ok-All-clause-replied : goal.returns-in-Ok-All-clause-replied
+returns-in-Ok-All-clause-replied g c = λ rules.
     let session = c.args.session.now in
     let some = present_verdicts_exist session.devices session.present c.requires.differ c.requires.present in
     let started = subst (AreStarted session.devices session.present some.0 c.args.tasks.now) c.in-Ok-All.field-0-is (c.in-Ok-All.ensures some.0 some.1) in
     let same = sym c.deref.ensures.value in
-    tasks_shown session.devices rules session.present some.0 some.1 (g.K.Sink.written c.args.sink.now) (g.K.Sink.written c.write_reply.new.sink) c.write_reply.result
-    (string_bytes c.in-Ok.text) c.in-Ok.refused c.write_reply.ensures.written c.write_reply.ensures.refused
-    c.args.fuel c.args.schedule.now c.args.tasks.now c.args.names.now.names.items c.devices.result.now c.deref.result.now c.devices.ensures c.requires.names.0
-    started.0 (subst (λ es. HaveEntries session.devices session.present some.0 c.args.tasks.now (map entry_of es)) same started.1)
-    c.in-Ok.ensures.text c.in-Ok.ensures.refused
+    let names = c.args.names.now.names.items in
+    let told = tasks_told c.devices.result.now c.args.fuel c.args.schedule.now (map entry_of c.deref.result.now) in
+    tasks_shown session.devices rules session.present some.0 some.1 (g.K.Sink.written c.args.sink.now) (g.K.Sink.written c.tell_tasks.new.sink) c.tell_tasks.result
+    (reply_text names told) (is_refusal told)
+    (λ text is. subst (WritesWhole (g.K.Sink.written c.args.sink.now) (g.K.Sink.written c.tell_tasks.new.sink) c.tell_tasks.result) is c.tell_tasks.ensures.written)
+    c.tell_tasks.ensures.refused c.args.fuel c.args.schedule.now c.args.tasks.now names c.devices.result.now c.deref.result.now c.devices.ensures
+    c.requires.names.0 started.0 (subst (λ es. HaveEntries session.devices session.present some.0 c.args.tasks.now (map entry_of es)) same started.1) refl refl
 
-pub returns-in-Ok-All-clause-replied : goal.returns-in-Ok-All-clause-replied
-returns-in-Ok-All-clause-replied g c = λ rules.
-    replied_nothing c.args.session.now.devices (holding_under rules c.args.session.now.present) (Ask (RunTasks c.args.fuel c.args.schedule.now c.args.tasks.now))
-    c.requires.differ c.requires.present (g.K.Sink.written c.args.sink.now)
-
-pub returns-clause-replied : goal.returns-clause-replied
-returns-clause-replied g c = λ rules.
+pub returns-in-Err-clause-replied : goal.returns-in-Err-clause-replied
+returns-in-Err-clause-replied g c = λ rules.
     replied_nothing c.args.session.now.devices (holding_under rules c.args.session.now.present) (Ask (RunTasks c.args.fuel c.args.schedule.now c.args.tasks.now))
     c.requires.differ c.requires.present (g.K.Sink.written c.args.sink.now)
 
@@ -57,10 +54,10 @@ returns-in-Some-clause-replied g c = λ rules.
     let code = c.in-Ok-Refused.code in
     let named : names ≡ c.in-Some.one.now =
     sym (get_or_from_slice_get c.args.tasks.now c.in-Ok-Refused.task names c.in-Some.one.now there) ∙ sym (c.in-Some.ensures.lookup.1) in
-    tasks_not_shown session.devices rules session.present some.0 some.1 (g.K.Sink.written c.args.sink.now) (g.K.Sink.written c.write_reply-in-Some.new.sink)
-    c.write_reply-in-Some.result c.write_reply-in-Some.ensures.refused c.args.fuel c.args.schedule.now c.args.tasks.now code c.in-Some.one.now
+    tasks_not_shown session.devices rules session.present some.0 some.1 (g.K.Sink.written c.args.sink.now) (g.K.Sink.written c.write_reply.new.sink)
+    c.write_reply.result c.write_reply.ensures.refused c.args.fuel c.args.schedule.now c.args.tasks.now code c.in-Some.one.now
     (subst (λ n. first_unstarted session.present some.0 c.args.tasks.now ≡ Some (record { module_name = n.0; name = n.1; code = code })) named first)
-    (c.write_reply-in-Some.ensures.written (reply_text [] (TasksRefused code c.in-Some.one.now.0 c.in-Some.one.now.1)) c.tasks_refusal.ensures)
+    (c.write_reply.ensures.written (reply_text [] (TasksRefused code c.in-Some.one.now.0 c.in-Some.one.now.1)) c.tasks_refusal.ensures)
 
 clash : (b : Bool) → false ≡ b → b ≡ true → ⊥
 clash b e f = cc
