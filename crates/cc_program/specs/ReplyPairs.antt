@@ -15,8 +15,8 @@ use Rattle.cc_mnf.specs.ElaboratedModules.{device_names}
 use Rattle.cc_policy.specs.declared.policy.Decision.{Decision}
 use Rattle.cc_policy.specs.declared.policy.Rule.{Rule}
 use Rattle.cc_policy.specs.Policies.{Decides}
-use Rattle.cc_replay.specs.AnsweredRuns.{AnsweredRun, trace_lines, trace_of}
-use Rattle.cc_replay.specs.ReplayLaws.{IsFirstDifference, written_lines}
+use Rattle.cc_replay.specs.AnsweredRuns.{AnsweredRun, trace_lines, trace_of, IsFirstDifference}
+use Rattle.cc_replay.specs.ReplayLaws.{written_lines}
 use Rattle.cc_replay.specs.declared.replaying.Replayed.{Replayed as Outcome}
 use Rattle.cc_replay.specs.declared.replaying.Replayed.TheVariants.{Agrees, Differs}
 use Rattle.cc_replies.specs.Replies.{Replies}
