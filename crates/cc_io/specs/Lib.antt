@@ -3,4 +3,5 @@ pub mod Calls
 pub mod Wholes
 pub mod HandedOn
 pub mod Acknowledged
+pub mod AcknowledgedExamples
 pub mod Messages
