@@ -7,7 +7,7 @@ use Rattle.std.proofs.KnownBytes.{Appends-nil, Appends-trans, Appends-kept}
 use Rattle.cc_io.specs.declared.traits.WriteError.{WriteError}
 use Rattle.cc_io.specs.declared.traits.WriteError.TheVariants as write_errors
 use Rattle.cc_io.specs.Acknowledged.{StdWrites, StdFlushes, HasAcknowledged, HasBesides, HoldsAcknowledged}
-use Rattle.cc_io.specs.HandedOn.{IsFlushedBehind, HandsOnWrite}
+use Rattle.cc_io.specs.HandedOn.{HandsOnWrite}
 
 -- a sink that was just made has acknowledged nothing
 pub nothing_yet : {W : Type 0} (writes : W → List ℕ → Result ℕ Error → W → Type 0)

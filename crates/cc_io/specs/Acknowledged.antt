@@ -3,7 +3,6 @@ use Rattle.std.specs.Prelude.{◌≡◌, ℕ, zero, suc, ◌≤◌, List, [], �
 use Rattle.std.specs.declared.io.Error.{Error}
 use Rattle.std.specs.Io.{WritesAtMost}
 use Rattle.std.specs.Io.KnownBytes.{Appends, Keeps, WriteAppends}
-use Rattle.cc_io.specs.declared.traits.WriteError.{WriteError}
 use Rattle.cc_io.specs.declared.traits.WriteError.TheVariants as write_errors
 use Rattle.cc_io.specs.HandedOn.{IsFlushedBehind, HandsOnWrite}
 

@@ -3,6 +3,7 @@
 //! A caller tells a fault from every other outcome by the count alone: it rises exactly where a call answers a fault.
 #![tactic(auto)]
 
+pub mod acknowledged_examples;
 mod copy;
 mod history;
 mod memory;
