@@ -10,6 +10,5 @@ pub mod StaleLaws
 pub mod WorkedTexts
 pub mod WorkedRefusals
 pub mod WorkedStaleModules
-pub mod RunLines
 pub mod TaskLines
 pub mod StreamedLines

@@ -6,7 +6,7 @@ use Rattle.cc_io.specs.declared.whole.WriteAll.{WriteAll}
 use Rattle.cc_io.specs.Pieces.{IsPassedOn, Streams}
 use Rattle.cc_io.specs.Wholes.{AppendsFront}
 use Rattle.cc_io.proofs.PassedPieces.{stopped_first, stopped_second, streams_both, stopped_at, passed_whole}
-use Rattle.cc_replies.proofs.RunLines.{flat_map-append}
+use Rattle.std.proofs.lemmas.Grind.{flat_map-append}
 
 -- the lines of all elements of a list
 module _ {A B : Type 0} (f : List ℕ → List ℕ) (h : B → List ℕ) (g : A → B) (items : List A) where

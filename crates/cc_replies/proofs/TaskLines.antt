@@ -1,8 +1,8 @@
 -- Lines about tasks, one after another.
-use Rattle.std.proofs.Common.{◌≡◌, ℕ, suc, ◌+◌, ◌<◌, ◌≤◌, List, [], ◌∷◌, ◌++◌, map, length, take, get_or, flat_map, refl, sym, ap, ◌∙◌, append_assoc, arith}
+use Rattle.std.proofs.Common.{◌≡◌, ℕ, suc, ◌+◌, ◌<◌, ◌≤◌, List, [], ◌∷◌, ◌++◌, map, length, take, get_or, flat_map, sym, ap, ◌∙◌, append_assoc, arith}
 use Rattle.std.proofs.lemmas.List.{append-nil, map_push, take_more, take_all, length-map, length-take-le}
 use Rattle.std.proofs.lemmas.Simd.{map-map}
-use Rattle.cc_replies.proofs.RunLines.{flat_map-append}
+use Rattle.std.proofs.lemmas.Grind.{flat_map-append}
 use Rattle.cc_replies.specs.TaskTexts.{of_task, by_task}
 
 -- one more line stands behind the others

@@ -1,4 +1,4 @@
-use Rattle.std.proofs.Common.{[], ◌∷◌, ◌++◌, map, codes, ap, subst}
+use Rattle.std.proofs.Common.{[], ◌∷◌, ◌++◌, map, codes, subst}
 use Rattle.std.proofs.lemmas.Result.{err_from_is_err_and}
 use Rattle.std.specs.String.{string_bytes}
 use Rattle.cc_io.specs.Pieces.{IsPassedOn}

@@ -1,4 +1,4 @@
-use Rattle.std.proofs.Common.{◌++◌, map, flat_map, refl, sym, subst, ◌∙◌}
+use Rattle.std.proofs.Common.{◌++◌, map, refl, sym, subst, ◌∙◌}
 use Rattle.std.proofs.lemmas.List.Folds.{flat_map-map}
 use Rattle.std.proofs.lemmas.Result.{err_from_is_err_and}
 use Rattle.std.specs.String.{string_bytes}
