@@ -154,13 +154,13 @@ def long_chain(count):
     return 'capc 1\ndevice out console\nput %s %d\n%s\nexplain %s.f%d\n' % (name, len(lines), '\n'.join(lines), name, count), '.f0 out'
 
 
-def held(name, job, last, bar=64):
-    """One row of a reply that is large beside its job: its time, and whether its memory is within the bar in MB."""
+def held(name, job, last):
+    """One row of a reply that is large beside its job: its time, and whether its memory is within 64 MB."""
     global failed
     took, most = measured(job, last)
     print('%-52s         %7.0f ms         %6.0f MB' % (name, took, most))
-    if most > bar:
-        print('  more than %d MB' % bar)
+    if most > 64:
+        print('  more than 64 MB')
         failed = True
 
 
@@ -182,6 +182,6 @@ held('a million steps that say 200 letters', *saying('x' * 200))
 held('a million steps that say 800 bytes', *saying('\U0001F600' * 200))
 held('33,200 events of a device with a long name', *long_device(0))
 held('8 tasks that operate a device with a long name', *long_device(8))
-held('a derivation with a long name at each node', *long_derivation(4000), bar=400)
+held('a derivation with a long name at each node', *long_derivation(4000))
 held('an explanation with a long name at each link', *long_chain(1200))
 sys.exit(1 if failed else 0)

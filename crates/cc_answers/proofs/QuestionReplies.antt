@@ -1,6 +1,7 @@
 -- What is written for questions about definitions.
-use Rattle.std.proofs.Common.{◌≡◌, ℕ, codes, Bool, true, false, List, [], ◌∷◌, map, Option, Some, None, Result, Ok, Err, refl, sym, ap, ◌∙◌, subst, if◌then◌else◌}
-use Rattle.std.specs.Prelude.{IfOk, nat_le}
+use Rattle.std.proofs.Common.{◌≡◌, ℕ, codes, Bool, true, false, List, [], map, Option, Some, None, Result, Ok, Err, refl, sym, ap, ◌∙◌, subst, arith, if◌then◌else◌}
+use Rattle.std.specs.Prelude.{IfOk, nat_le, nat_lt}
+use Rattle.std.proofs.lemmas.Bool.Decides.{nat_tests}
 use Rattle.std.proofs.lemmas.Result.{IfOk-weaker}
 use Rattle.cc_base.specs.declared.code.Code.{Code}
 use Rattle.cc_base.specs.declared.code.Code.TheVariants.{E36}
@@ -16,7 +17,6 @@ use Rattle.cc_verdicts.specs.ModuleVerdicts.{ModuleVerdict}
 use Rattle.cc_verdicts.specs.PresentTexts.{Texts, AreVerdicts}
 use Rattle.cc_verdicts.specs.StandingDefinitions.{Standing, standing_context, standing_names, standing_in}
 use Rattle.cc_mnf.specs.ElaboratedModules.{device_names}
-use Rattle.cc_replies.specs.DerivationTexts.{shown_derivation}
 use Rattle.cc_replies.specs.Replies.{Replies, derivation_size, derivation_told, derivation_reply}
 use Rattle.cc_entry_laws.specs.PresentEntries.{CheckedEntry}
 use Rattle.cc_replies.specs.ReplyTexts.{Reply, RunRefused, TasksRefused, Audited, AuditRefused, GuardRefused, ReplayRefused, Explained, ExplainRefused, Derived, DerivationRefused, reply_text, is_refusal, is_unfinished}
@@ -26,28 +26,28 @@ use Rattle.cc_replies.specs.ExplainReplies.{IsExplainAnswer}
 use Rattle.cc_replies.specs.ReplayReplies.{replay_told}
 use Rattle.cc_replies.specs.Requests.{Request, ShowDerivation, RunDefinition, RunTasks, AuditDefinition, GuardDefinition, ExplainDefinition, ReplayDefinition, Ask, holding_under}
 use Rattle.cc_replies.specs.RunReplies.{declared_run, run_told, tasks_told, first_unstarted, HaveEntries, IsEntryAnswer, IsTasksAnswer}
+use Rattle.cc_checking.specs.DerivationSizes.{nodes}
 use Rattle.cc_checking.specs.Verdicts.{Accepted}
+use Rattle.cc_checking_laws.specs.AcceptedDefinitions.{accepted_derived}
 use Rattle.cc_session.specs.EntryAnswers.{IsAnswered}
 use Rattle.cc_answers.specs.Carried.{IsReplied}
 use Rattle.cc_answers.specs.Explaining.{TellsExplanations}
 use Rattle.cc_answers.specs.Running.{entry_text}
 use Rattle.cc_answers.proofs.CommandFacts.{replied}
 
--- the reply that is shown of a definition where it stands
-derived_at : (module_name name : List ℕ) (names : List (List ℕ)) (b : Bool) (lines : List (List ℕ)) (t : List ℕ)
-    → Some t ≡ (if b then Some (reply_text [] (Derived module_name name lines)) else None)
-    → (t ≡ reply_text names (if b then Derived module_name name lines else DerivationRefused module_name name E36))
-    × (false ≡ is_refusal (if b then Derived module_name name lines else DerivationRefused module_name name E36))
-derived_at module_name name names true lines t e = (some_same e, refl)
-  where
-    some_same : Some t ≡ Some (reply_text [] (Derived module_name name lines)) → t ≡ reply_text [] (Derived module_name name lines)
-    some_same e = cc
-derived_at module_name name names false lines t e = cc
+-- whether there are more is whether there are not so many or fewer
+not_more : (most n : ℕ) → nat_lt most n ≡ false → nat_le n most ≡ true
+not_more most n few = grind (arith, nat_tests)
 
-too_large_at : (module_name name : List ℕ) (b : Bool) (lines : List (List ℕ)) → None ≡ (if b then Some (reply_text [] (Derived module_name name lines)) else None)
-    → (if b then Derived module_name name lines else DerivationRefused module_name name E36) ≡ DerivationRefused module_name name E36
-too_large_at module_name name true lines e = cc
-too_large_at module_name name false lines e = refl
+more : (most n : ℕ) → nat_lt most n ≡ true → nat_le n most ≡ false
+more most n many = no_more (nat_le n most) refl
+  where
+    clash : nat_le n most ≡ true → ⊥
+    clash few = grind (arith, nat_tests)
+
+    no_more : (b : Bool) → nat_le n most ≡ b → nat_le n most ≡ false
+    no_more true is = absurd (clash is)
+    no_more false is = is
 
 -- the answer about a definition, by what is told of its entry, or by why it is not to be started
 module _ (devices : List DeviceDecl) (texts : Texts) (verdicts : List ℕ → ModuleVerdict) (module_name name : List ℕ) (told : CheckedEntry → Reply)
@@ -128,18 +128,22 @@ module _ (devices : List DeviceDecl) (rules : List Rule) (texts : Texts) (verdic
       is_told : Replies devices (holding_under rules texts) (Ask (ShowDerivation module_name name)) (derivation_told devices module_name name it)
       is_told = (verdicts, are, ap (derivation_reply devices module_name name) (sym found))
 
-      as_it_stands : shown_derivation module_name name names context accepted
-          ≡ shown_derivation module_name name (standing_names devices it) (standing_context devices it) it.definition.accepted
-      as_it_stands = λ i. shown_derivation module_name name (names_are i) (context_is i) (accepted_is i)
-
       abbrev lines : List (List ℕ)
       lines = definition_certificate_lines (standing_names devices it) (standing_context devices it) it.definition.accepted
 
-      pub derivation_shown : Some text ≡ shown_derivation module_name name names context accepted → refused ≡ false
+      pub derivation_shown : nat_lt 100000 (nodes (accepted_derived context accepted)) ≡ false
+          → text ≡ reply_text [] (Derived module_name name (definition_certificate_lines names context accepted)) → refused ≡ false
           → IsReplied devices (holding_under rules texts) (Ask (ShowDerivation module_name name)) old new result
-      derivation_shown said tells =
-          let parts = derived_at module_name name (device_names devices) (nat_le (derivation_size devices it) 100000) lines text (said ∙ as_it_stands) in
-          shown (Ask (ShowDerivation module_name name)) (derivation_told devices module_name name it) is_told parts.0 (tells ∙ parts.1)
+      derivation_shown few said tells =
+          let size : nodes (accepted_derived context accepted) ≡ derivation_size devices it =
+          λ i. nodes (accepted_derived (context_is i) (accepted_is i)) in
+          let few_nodes : nat_le (derivation_size devices it) 100000 ≡ true =
+          not_more 100000 (derivation_size devices it) (ap (nat_lt 100000) (sym size) ∙ few) in
+          let told : derivation_told devices module_name name it ≡ Derived module_name name lines =
+          ap (λ b. if b then Derived module_name name lines else DerivationRefused module_name name E36) few_nodes in
+          shown (Ask (ShowDerivation module_name name)) (Derived module_name name lines)
+          (subst (Replies devices (holding_under rules texts) (Ask (ShowDerivation module_name name))) told is_told)
+          (said ∙ (λ i. reply_text [] (Derived module_name name (definition_certificate_lines (names_are i) (context_is i) (accepted_is i))))) tells
 
   module _ (fuel : ℕ) (schedule : List ℕ) (tasks : List (List ℕ × List ℕ)) where
     pub tasks_shown : (names : List (List ℕ)) (declared : List DeviceDecl) (entries : List DeclaredEntry) → declared ≡ devices → names ≡ device_names devices
@@ -219,15 +223,18 @@ module _ (devices : List DeviceDecl) (rules : List Rule) (texts : Texts) (verdic
         )
         old new result written told
 
-    pub derivation_too_large : (it : Standing) → standing_in texts verdicts module_name name ≡ Ok it
-        → (names : List (List ℕ)) (context : Context) (accepted : Accepted) → names ≡ standing_names devices it → context ≡ standing_context devices it
-        → accepted ≡ it.definition.accepted → None ≡ shown_derivation module_name name names context accepted
+    pub derivation_too_large : (it : Standing) → standing_in texts verdicts module_name name ≡ Ok it → (context : Context) (accepted : Accepted)
+        → context ≡ standing_context devices it → accepted ≡ it.definition.accepted → nat_lt 100000 (nodes (accepted_derived context accepted)) ≡ true
         → WritesWhole old new result (reply_text [] (DerivationRefused module_name name E36))
         → IsReplied devices (holding_under rules texts) (Ask (ShowDerivation module_name name)) old new result
-    derivation_too_large it found names context accepted names_are context_is accepted_is none written =
+    derivation_too_large it found context accepted context_is accepted_is many written =
         let lines = definition_certificate_lines (standing_names devices it) (standing_context devices it) it.definition.accepted in
-        let large = too_large_at module_name name (nat_le (derivation_size devices it) 100000) lines
-        (none ∙ (λ i. shown_derivation module_name name (names_are i) (context_is i) (accepted_is i))) in
+        let size : nodes (accepted_derived context accepted) ≡ derivation_size devices it =
+        λ i. nodes (accepted_derived (context_is i) (accepted_is i)) in
+        let many_nodes : nat_le (derivation_size devices it) 100000 ≡ false =
+        more 100000 (derivation_size devices it) (ap (nat_lt 100000) (sym size) ∙ many) in
+        let large : derivation_told devices module_name name it ≡ DerivationRefused module_name name E36 =
+        ap (λ b. if b then Derived module_name name lines else DerivationRefused module_name name E36) many_nodes in
         replied devices (holding_under rules texts) (Ask (ShowDerivation module_name name)) (DerivationRefused module_name name E36)
         (subst (Replies devices (holding_under rules texts) (Ask (ShowDerivation module_name name))) large
         (verdicts, are, ap (derivation_reply devices module_name name) (sym found)))

@@ -11,7 +11,7 @@ ghost use Rattle.cc_answers.specs.Carried.{IsReplied};
 ghost use Rattle.cc_answers.specs.Requests.{request_of, question_in};
 
 use crate::explaining::tell_explanation;
-use crate::replies::write_reply;
+use crate::replies::{told, write_reply};
 use crate::running::{Started, replayed_reply, start_all, tell_guarded, tell_run, tell_tasks};
 use cc_base::code::Code;
 use cc_base::name::Name;
@@ -20,7 +20,7 @@ use cc_io::{Sink, WriteAll};
 use cc_job::job::Command;
 use cc_policy::policy::Policy;
 use cc_print::Names;
-use cc_replies::derivations::{derive_refusal, derive_reply};
+use cc_replies::derivations::{derive_refusal, has_too_many_nodes, write_derivation};
 use cc_replies::explanations::explain_refusal;
 use cc_replies::policies::{audit_refusal, audit_reply, guard_refusal};
 use cc_replies::replays::replay_refusal;
@@ -92,11 +92,17 @@ fn show_derivation<K: Sink>(
             },
         ) => {
             let names = Names { names, locals: 0 };
-            match derive_reply(alloc, module, def, &names, &ctx, &found.checked) {
-                Ok(Some(text)) => write_reply(sink, Ok(text), false),
-                Ok(None) => write_reply(sink, derive_refusal(alloc, module, def, Code::E36), true),
-                Err(AllocError) => Err(WriteAll::NoMemory),
+            let many = match has_too_many_nodes(alloc, &ctx, &found.checked) {
+                Ok(many) => many,
+                Err(AllocError) => return Err(WriteAll::NoMemory),
+            };
+            if many {
+                return write_reply(sink, derive_refusal(alloc, module, def, Code::E36), true);
             }
+            told(
+                write_derivation(alloc, sink, module, def, &names, &ctx, &found.checked),
+                false,
+            )
         }
         Err(StandingError::Refused(refused)) => write_reply(
             sink,

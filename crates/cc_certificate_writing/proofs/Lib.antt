@@ -1,6 +1,7 @@
 pub mod BinderCounts
 pub mod ClaimTextLaws
 pub mod Lines
+pub mod StreamedCertificates
 pub mod LiteralTexts
 pub mod NodeLines
 pub mod OneLine

@@ -8,5 +8,5 @@ mod nodes;
 pub mod terms;
 pub mod writing;
 
-pub use certificates::{cert_text, put_cert};
+pub use certificates::{cert_text, put_cert, write_cert};
 pub use terms::term_text;

@@ -1,7 +1,9 @@
 //! The lines of a derivation's nodes, written by a loop over what waits.
 
-ghost use Rattle.std.specs.Prelude.{◌≡◌, ◌+◌, ◌++◌, ◌∷◌, length, take, drop, [], OnOk, IfOk};
+ghost use Rattle.std.specs.Prelude.{◌≡◌, ◌+◌, ◌-◌, ◌^◌, ◌<◌, ◌++◌, ◌∷◌, length, take, drop, [], OnOk, IfOk};
 ghost use Rattle.std.specs.String.{string_bytes};
+ghost use Rattle.cc_io.specs.Pieces.{Streams};
+ghost use Rattle.cc_io.specs.Wholes.{WriteAllCause};
 ghost use Rattle.cc_derivation.specs.DerivationViews.{rule_of, claim_of, premises_of, der_of};
 ghost use Rattle.cc_certificate_writing.specs.Certificates as plain;
 ghost use Rattle.cc_certificate_writing.specs.WaitingLines as turn;
@@ -10,6 +12,7 @@ ghost use Rattle.cc_certificate_text.specs.NodeTexts.{node_line};
 use crate::claims::put_node_line;
 use crate::writing::deeper;
 use cc_derivation::{Der, Premises, Rule};
+use cc_io::{Sink, WriteAll, spill};
 use cc_print::Names;
 use std::alloc::{AllocError, Global};
 
@@ -180,6 +183,54 @@ pub(crate) fn put_nodes(
             &mut waiting,
             next,
         )?;
+    }
+    Ok(())
+}
+
+// What waits at first: the whole derivation.
+fn first_turn<'a>(alloc: Global, der: &'a Der) -> Result<Vec<Waiting<'a>>, AllocError>
+    ensures { IfOk result (λ turns. turn.in_turn turns.items ≡ turn.Whole 0 (der_of der.now) ∷ []) }
+{
+    let mut turns = Vec::new(alloc);
+    turns.push(Waiting::Whole(0, der))?;
+    Ok(turns)
+}
+
+/// Writes the lines of the nodes of a derivation, each behind a front, in pieces. The names stay.
+pub(crate) fn write_nodes<K: Sink>(
+    alloc: Global,
+    sink: &mut K,
+    waiting: &mut String,
+    front: &str,
+    names: &mut Names,
+    der: &Der,
+) -> Result<(), WriteAll>
+    requires { K.faults sink.old < 2 ^ 64 - 1 }
+    ensures streams { Streams (K.written sink.old) (K.written sink.new) (string_bytes waiting.old) (string_bytes waiting.new) result
+        (plain.lines_behind front.now (plain.node_lines names.old.names.items 0 0 (der_of der.now))) }
+    ensures cause { WriteAllCause (K.faults sink.old) (K.faults sink.new) result }
+{
+    let mut number = 0;
+    let mut numbers = Vec::new(alloc);
+    let mut turns = match first_turn(alloc, der) {
+        Ok(turns) => turns,
+        Err(AllocError) => return Err(WriteAll::NoMemory),
+    };
+    while let Some(next) = turns.pop() {
+        number = match take_turn(
+            alloc,
+            waiting,
+            front,
+            names,
+            number,
+            &mut numbers,
+            &mut turns,
+            next,
+        ) {
+            Ok(last) => last,
+            Err(AllocError) => return Err(WriteAll::NoMemory),
+        };
+        spill(sink, waiting)?;
     }
     Ok(())
 }

@@ -1,5 +1,4 @@
 pub mod CertificateTexts
-pub mod DerivationTexts
 pub mod ReplyExamples
 pub mod ExplainReplies
 pub mod Explanations
