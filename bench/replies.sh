@@ -4,7 +4,7 @@
 # it, the greatest memory in MB, and what the time is to that of the half. A job that checks the same modules alone is
 # subtracted where modules are many. Then jobs whose replies are large beside them, with the memory that they take. It
 # fails where there is no program, where an answer is another one, where a full size takes more than its bar, and where a
-# large reply takes more than 64 MB, or a derivation, which is held whole, more than 400 MB.
+# large reply takes more than 64 MB.
 # Build the program first: cd crates/capc && rt run < stdin
 # Usage: bench/replies.sh [PROGRAM [RUNS]]
 set -u
