@@ -6,25 +6,25 @@ use Rattle.cc_worked_texts.specs.TextVerdicts.{place, repeated, tower, Refuses}
 use Rattle.cc_worked_texts.specs.SizedTexts as example
 use Rattle.cc_worked_texts.proofs.ComputedModules.{text_computing, refused}
 
-application_row : Refuses (codes "def a = fun [X <: Any] => fun (g: (u: Unit) -> " ++ large ++ codes ") => (g(unit))") E18 (place 1 14392)
+application_row : Refuses (codes "def a = fun [X <: Any] => fun (g: (u: Unit) -> " ++ large ++ codes ") => fun (v: Unit) => (g(v))") E18 (place 1 14409)
 unfolding text_computing
-application_row = refused 9 (codes "def a = fun [X <: Any] => fun (g: (u: Unit) -> " ++ large ++ codes ") => (g(unit))") E18 (place 1 14392) refl
+application_row = refused 9 (codes "def a = fun [X <: Any] => fun (g: (u: Unit) -> " ++ large ++ codes ") => fun (v: Unit) => (g(v))") E18 (place 1 14409) refl
 
 boundary_row : Refuses (codes "def a = fun [X <: Any] => (boundary [" ++ large ++ codes "] z => fun (a: Any) => 1)") E18 (place 1 27)
 unfolding text_computing
 boundary_row = refused 9 (codes "def a = fun [X <: Any] => (boundary [" ++ large ++ codes "] z => fun (a: Any) => 1)") E18 (place 1 27) refl
 
-exit_row : Refuses (codes "def a = fun [X <: Any] => fun (e: Exit[Int]) => (exit [" ++ large ++ codes "] (e, 1))") E18 (place 1 49)
+exit_row : Refuses (codes "def a = fun [X <: Any] => fun (e: Exit[Int]) => fun (n: Int) => (exit [" ++ large ++ codes "] (e, n))") E18 (place 1 65)
 unfolding text_computing
-exit_row = refused 9 (codes "def a = fun [X <: Any] => fun (e: Exit[Int]) => (exit [" ++ large ++ codes "] (e, 1))") E18 (place 1 49) refl
+exit_row = refused 9 (codes "def a = fun [X <: Any] => fun (e: Exit[Int]) => fun (n: Int) => (exit [" ++ large ++ codes "] (e, n))") E18 (place 1 65) refl
 
-choice_row : Refuses (codes "def a = fun [X <: Any] => (if [" ++ large ++ codes "] true then fun (a: Any) => 1 else fun (a: Any) => 1)") E18 (place 1 27)
+choice_row : Refuses (codes "def a = fun [X <: Any] => fun (b: Bool) => (if [" ++ large ++ codes "] b then fun (a: Any) => 1 else fun (a: Any) => 1)") E18 (place 1 44)
 unfolding text_computing
-choice_row = refused 9 (codes "def a = fun [X <: Any] => (if [" ++ large ++ codes "] true then fun (a: Any) => 1 else fun (a: Any) => 1)") E18 (place 1 27) refl
+choice_row = refused 9 (codes "def a = fun [X <: Any] => fun (b: Bool) => (if [" ++ large ++ codes "] b then fun (a: Any) => 1 else fun (a: Any) => 1)") E18 (place 1 44) refl
 
-choice_of_an_omitted_set_row : Refuses (codes "def a = fun [X <: Any] => (if [(" ++ large ++ codes ")^?] true then fun (a: Any) => 1 else fun (a: Any) => 1)") E18 (place 1 27)
+choice_of_an_omitted_set_row : Refuses (codes "def a = fun [X <: Any] => fun (b: Bool) => (if [(" ++ large ++ codes ")^?] b then fun (a: Any) => 1 else fun (a: Any) => 1)") E18 (place 1 44)
 unfolding text_computing
-choice_of_an_omitted_set_row = refused 9 (codes "def a = fun [X <: Any] => (if [(" ++ large ++ codes ")^?] true then fun (a: Any) => 1 else fun (a: Any) => 1)") E18 (place 1 27) refl
+choice_of_an_omitted_set_row = refused 9 (codes "def a = fun [X <: Any] => fun (b: Bool) => (if [(" ++ large ++ codes ")^?] b then fun (a: Any) => 1 else fun (a: Any) => 1)") E18 (place 1 44) refl
 
 pub written : example.WrittenSizes
 written = record {

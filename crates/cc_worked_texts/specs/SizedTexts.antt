@@ -12,22 +12,24 @@ towering (suc levels) = codes "(a:" ++ towering levels ++ codes ")->" ++ towerin
 abbrev pub large : List ℕ
 large = codes "(a:" ++ towering 11 ++ codes ")->Int"
 
--- A type that is written may be too large, too.
+-- A type that is written may be too large, too. What a term is applied to, left with or decided by has a name here: a
+-- literal would be bound around the term, at the same place, where the size is tested again.
 pub record WrittenSizes : Type 0 where
   pub application : Refuses
-      (codes "def a = fun [X <: Any] => fun (g: (u: Unit) -> " ++ large ++ codes ") => (g(unit))") E18 (place 1 14392)
+      (codes "def a = fun [X <: Any] => fun (g: (u: Unit) -> " ++ large ++ codes ") => fun (v: Unit) => (g(v))") E18 (place 1 14409)
   pub boundary : Refuses
       (codes "def a = fun [X <: Any] => (boundary [" ++ large ++ codes "] z => fun (a: Any) => 1)") E18 (place 1 27)
   pub exit : Refuses
-      (codes "def a = fun [X <: Any] => fun (e: Exit[Int]) => (exit [" ++ large ++ codes "] (e, 1))") E18 (place 1 49)
+      (codes "def a = fun [X <: Any] => fun (e: Exit[Int]) => fun (n: Int) => (exit [" ++ large ++ codes "] (e, n))")
+      E18 (place 1 65)
   pub choice : Refuses
-      (codes "def a = fun [X <: Any] => (if [" ++ large
-      ++ codes "] true then fun (a: Any) => 1 else fun (a: Any) => 1)")
-      E18 (place 1 27)
+      (codes "def a = fun [X <: Any] => fun (b: Bool) => (if [" ++ large
+      ++ codes "] b then fun (a: Any) => 1 else fun (a: Any) => 1)")
+      E18 (place 1 44)
   pub choice_of_an_omitted_set : Refuses
-      (codes "def a = fun [X <: Any] => (if [(" ++ large
-      ++ codes ")^?] true then fun (a: Any) => 1 else fun (a: Any) => 1)")
-      E18 (place 1 27)
+      (codes "def a = fun [X <: Any] => fun (b: Bool) => (if [(" ++ large
+      ++ codes ")^?] b then fun (a: Any) => 1 else fun (a: Any) => 1)")
+      E18 (place 1 44)
 
 -- A term of each form whose type is too large is refused at its own parenthesis.
 pub record SizedTerms : Type 0 where
