@@ -147,6 +147,22 @@ def long_derivation(count):
     return 'capc 1\ndevice %s console\nput m 3\n%s\nderive m.f\n' % (name, '\n'.join(lines)), '((_0: Unit) -> Int)^{%s}' % name
 
 
+def long_signatures(count, deep, letters):
+    """The signatures of so many functions, each with so many sets, in each of which is a device with so long a name."""
+    name = 'd' * letters
+    lines = ['def p = fun (n: Int) => %s.print(n)' % name, 'def q = ' + 'fun (u: Unit) => ' * deep + 'p']
+    lines += ['def a%d = fun (u: Unit) => q' % i for i in range(count)]
+    return 'capc 1\ndevice %s console\nput m %d\n%s\nsig m\n' % (name, len(lines), '\n'.join(lines)), '^{%s}' % name
+
+
+def deep_signatures(count, letters):
+    """The signatures of so many functions, each of which gives the one before it by 90 more, with such a name in each set."""
+    name = 'd' * letters
+    lines = ['def q0 = fun (n: Int) => %s.print(n)' % name]
+    lines += ['def q%d = %sq%d' % (i + 1, 'fun(u:Unit)=>' * 90, i) for i in range(count)]
+    return 'capc 1\ndevice %s console\nput m %d\n%s\nsig m\n' % (name, len(lines), '\n'.join(lines)), '^{%s}' % name
+
+
 def long_chain(count):
     """Why a device is in a signature, by way of so many definitions of a module with a name of 200,000 letters."""
     lines = ['def f0 = fun (x: Int) => out.print(x)'] + ['def f%d = fun (x: Int) => f%d(x)' % (i + 1, i) for i in range(count)]
@@ -178,10 +194,15 @@ base = measured(wide(128), ' ok')[0], measured(wide(256), ' ok')[0]
 shown('linking 256 modules of 200 definitions',
       measured(wide(128) + 'run m127.main 2000\n', 'after 130 steps'),
       measured(wide(256) + 'run m255.main 2000\n', 'after 258 steps'), 200, base)
+shown('2,000 audits beside 256 modules of 200 definitions',
+      measured(wide(256) + 'audit m255.main\n' * 1000, 'audit m255.main'),
+      measured(wide(256) + 'audit m255.main\n' * 2000, 'audit m255.main'), 200, (base[1], base[1]))
 held('a million steps that say 200 letters', *saying('x' * 200))
 held('a million steps that say 800 bytes', *saying('\U0001F600' * 200))
 held('33,200 events of a device with a long name', *long_device(0))
 held('8 tasks that operate a device with a long name', *long_device(8))
 held('a derivation with a long name at each node', *long_derivation(4000))
 held('an explanation with a long name at each link', *long_chain(1200))
+held('1,400 signatures with a long name in 80 sets each', *long_signatures(1400, 80, 15000))
+held('15 signatures with a long name in up to 1,350 sets', *deep_signatures(15, 47000))
 sys.exit(1 if failed else 0)

@@ -1,6 +1,5 @@
 -- The lines of a certificate that are written in pieces, one behind the other.
-use Rattle.std.proofs.Common.{◌≡◌, ℕ, ◌+◌, ◌<◌, ◌≤◌, List, [], ◌∷◌, ◌++◌, length, map, reverse, take, drop, codes, Option, Result, refl, sym, ap, ◌∙◌, subst, append_assoc, append-nil, take-append-drop}
-use Rattle.std.proofs.KnownBytes.{Appends-trans}
+use Rattle.std.proofs.Common.{◌≡◌, ℕ, ◌+◌, ◌<◌, ◌≤◌, List, [], ◌∷◌, ◌++◌, length, map, reverse, take, drop, codes, Option, Result, refl, sym, ap, ◌∙◌, subst, append_assoc, take-append-drop}
 use Rattle.std.proofs.lemmas.List.{map_push, reverse-append}
 use Rattle.cc_core.specs.Contexts.{Context, lookup}
 use Rattle.cc_core.specs.Derivations.{Derivation}
@@ -8,7 +7,7 @@ use Rattle.cc_core.specs.Terms.{Term}
 use Rattle.cc_io.specs.declared.whole.WriteAll.{WriteAll}
 use Rattle.cc_io.specs.Pieces.{IsPassedOn, Streams}
 use Rattle.cc_io.specs.Wholes.{AppendsFront}
-use Rattle.cc_io.proofs.PassedPieces.{front_none, front_first, front_second, passed_both, stopped_first, stopped_second, streams_both}
+use Rattle.cc_io.proofs.PassedPieces.{passed_both, stopped_first, stopped_second, streams_both}
 use Rattle.cc_print.specs.TermTexts.{term_text}
 use Rattle.cc_certificate_writing.specs.Certificates.{line, lines_behind, lines_at, bind_lines, node_lines, certificate_lines}
 use Rattle.cc_certificate_writing.specs.declared.nodes.Waiting.{Waiting as DeclaredWaiting}
@@ -92,28 +91,6 @@ pub certificate_in_four : (front : List ℕ) (names : List (List ℕ)) (g : Cont
 certificate_in_four front names g term derivation =
     ap (λ t. line (front ++ codes "cert 1") ++ t)
     (lines-append front (bind_lines names g) ((codes "term " ++ term_text names 0 term) ∷ node_lines names 0 0 derivation))
-
--- a turn begins with all that is written in the end, and it is over
-module _ (all : List ℕ) (a b : Option (List ℕ)) (before in_the_end : List ℕ) (passed : IsPassedOn a b before in_the_end all) where
-  pub turn_found_no_memory : AppendsFront a b (before ++ all)
-  turn_found_no_memory =
-      subst (AppendsFront a b) passed.all (front_second a b b passed.gone in_the_end passed.appended (front_none b in_the_end))
-
-  module _ (out lines : List ℕ) (same : in_the_end ≡ out ++ lines) (c : Option (List ℕ)) where
-    pub turn_passed : (waiting : List ℕ) → IsPassedOn b c out waiting [] → IsPassedOn a c before (waiting ++ lines) all
-    turn_passed waiting spilled = record {
-      gone = passed.gone ++ spilled.gone;
-      appended = Appends-trans a b c passed.gone spilled.gone passed.appended spilled.appended;
-      all = append_assoc passed.gone spilled.gone (waiting ++ lines)
-          ∙ ap (λ t. passed.gone ++ t)
-          (sym (append_assoc spilled.gone waiting lines) ∙ ap (λ t. t ++ lines) (spilled.all ∙ append-nil out) ∙ sym same)
-          ∙ passed.all;
-    }
-
-    pub turn_stopped : AppendsFront b c (out ++ []) → AppendsFront a c (before ++ all)
-    turn_stopped stopped =
-        let inside = subst (AppendsFront b c) (sym same) (front_first b c out lines (subst (AppendsFront b c) (append-nil out) stopped)) in
-        subst (AppendsFront a c) passed.all (front_second a b c passed.gone in_the_end passed.appended inside)
 
 -- what waits next is the last of what waits
 next_turn : (turns rest : List DeclaredWaiting) (next : DeclaredWaiting) → turns ≡ rest ++ next ∷ []

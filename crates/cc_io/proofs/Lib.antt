@@ -1,3 +1,4 @@
 mod Fronts
 mod Acknowledgements
 pub mod PassedPieces
+pub mod PassedTurns

@@ -1,4 +1,5 @@
 pub mod ElementTexts
 pub mod ShapeWords
 pub mod TypeTextLaws
+pub mod WrittenTypes
 pub mod Words

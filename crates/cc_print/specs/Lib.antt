@@ -1,3 +1,4 @@
+pub mod PiecesLeft
 pub mod TermTexts
 pub mod TypeTextExamples
 pub mod TypeTextLaws

@@ -2,8 +2,10 @@
 #![tactic(auto)]
 
 pub mod names;
+pub mod pieces;
 pub mod printing;
 pub mod type_text_laws;
 
 pub use names::Names;
-pub use printing::{set_text, shape_text, type_text};
+pub use pieces::{shape_text, type_text, write_type};
+pub use printing::set_text;

@@ -1,4 +1,4 @@
-//! The text of capture sets, shapes and types.
+//! The text of capture sets, and what shapes and types are written of.
 
 ghost use Rattle.std.specs.Prelude.{◌≡◌, ◌+◌, ◌++◌, OnOk, IfOk};
 ghost use Rattle.std.specs.String.{string_bytes};
@@ -12,15 +12,15 @@ use cc_capture::{CapSet, Elem, Elems, Var};
 use cc_core::{Shape, Ty};
 use std::alloc::{AllocError, Global};
 
-// Adds a text.
-fn put(out: &mut String, text: &str) -> Result<(), AllocError>
+/// Adds a text.
+pub(crate) fn put(out: &mut String, text: &str) -> Result<(), AllocError>
     ensures { OnOk result (string_bytes out.new ≡ string_bytes out.old ++ text.now) }
 {
     out.push_str(text)
 }
 
-// Adds a text and a number.
-fn put_numbered(
+/// Adds a text and a number.
+pub(crate) fn put_numbered(
     alloc: Global,
     out: &mut String,
     prefix: &str,
@@ -50,8 +50,8 @@ fn put_position(
     }
 }
 
-// Adds the text of a variable under so many binders.
-fn put_variable(
+/// Adds the text of a variable under so many binders.
+pub(crate) fn put_variable(
     alloc: Global,
     out: &mut String,
     names: &Names,
@@ -127,8 +127,8 @@ fn put_elements(
     }
 }
 
-// Adds the text of a set under so many binders.
-fn put_set(
+/// Adds the text of a set under so many binders.
+pub(crate) fn put_set(
     alloc: Global,
     out: &mut String,
     names: &Names,
@@ -142,8 +142,8 @@ fn put_set(
     put(out, "}")
 }
 
-// The name of a base shape.
-fn base_name(base: Base) -> &'static str
+/// The name of a base shape.
+pub(crate) fn base_name(base: Base) -> &'static str
     ensures { result.now ≡ plain.base_text base }
 {
     match base {
@@ -157,8 +157,8 @@ fn base_name(base: Base) -> &'static str
     }
 }
 
-// Whether the shape is that of functions or of type functions.
-fn is_arrow(shape: &Shape) -> bool
+/// Whether the shape is that of functions or of type functions.
+pub(crate) fn is_arrow(shape: &Shape) -> bool
     ensures { result ≡ plain.is_arrow (views.shape_of shape.now) }
 {
     match shape {
@@ -172,102 +172,11 @@ fn is_arrow(shape: &Shape) -> bool
     }
 }
 
-// One binder more.
-fn deeper(depth: u32) -> Result<u32, AllocError>
-    ensures { IfOk result (λ n. n ≡ depth + 1) }
-{
-    match depth.checked_add(1) {
-        Some(deeper) => Ok(deeper),
-        None => Err(AllocError),
-    }
-}
-
-// Adds the text of a shape under so many binders.
-#[cycle(printing)]
-fn put_shape(
-    alloc: Global,
-    out: &mut String,
-    names: &Names,
-    depth: u32,
-    shape: &Shape,
-) -> Result<(), AllocError>
-    ensures { OnOk result (string_bytes out.new ≡ string_bytes out.old ++ plain.shape_under names.now.names.items depth (views.shape_of shape.now)) }
-{
-    match shape {
-        Shape::Base(base) => put(out, base_name(*base)),
-        Shape::Any => put(out, "Any"),
-        Shape::TVar(variable) => put_variable(alloc, out, names, depth, "_T", *variable),
-        Shape::Fun(takes, gives) => {
-            put_numbered(alloc, out, "(_", depth)?;
-            put(out, ": ")?;
-            put_type(alloc, out, names, depth, takes)?;
-            put(out, ") -> ")?;
-            put_type(alloc, out, names, deeper(depth)?, gives)
-        }
-        Shape::TFun(bound, gives) => {
-            put_numbered(alloc, out, "[_T", depth)?;
-            put(out, " <: ")?;
-            put_shape(alloc, out, names, depth, bound)?;
-            put(out, "] -> ")?;
-            put_type(alloc, out, names, deeper(depth)?, gives)
-        }
-        Shape::Boxed(content) => {
-            put(out, "Box[")?;
-            put_type(alloc, out, names, depth, content)?;
-            put(out, "]")
-        }
-        Shape::Exit(gives) => {
-            put(out, "Exit[")?;
-            put_shape(alloc, out, names, depth, gives)?;
-            put(out, "]")
-        }
-    }
-}
-
-// Adds the text of a type under so many binders.
-#[cycle(printing)]
-fn put_type(
-    alloc: Global,
-    out: &mut String,
-    names: &Names,
-    depth: u32,
-    ty: &Ty,
-) -> Result<(), AllocError>
-    ensures { OnOk result (string_bytes out.new ≡ string_bytes out.old ++ plain.type_under names.now.names.items depth (views.shape_of ty.now.shape.value) ty.now.set) }
-{
-    if ty.set.len() == 0 {
-        return put_shape(alloc, out, names, depth, &ty.shape);
-    }
-    let arrow = is_arrow(&ty.shape);
-    put(out, if arrow { "(" } else { "" })?;
-    put_shape(alloc, out, names, depth, &ty.shape)?;
-    put(out, if arrow { ")^" } else { "^" })?;
-    put_set(alloc, out, names, depth, &ty.set)
-}
-
 /// The text of a set. Fails only for want of memory.
 pub fn set_text(alloc: Global, set: &CapSet, names: &Names) -> Result<String, AllocError>
     ensures { IfOk result (λ t. string_bytes t ≡ plain.set_text names.now.names.items names.now.locals set.now) }
 {
     let mut out = String::new(alloc);
     put_set(alloc, &mut out, names, names.locals, set)?;
-    Ok(out)
-}
-
-/// The text of a shape. Fails only for want of memory, as which the number of a binder past 2^32 - 1 counts.
-pub fn shape_text(alloc: Global, shape: &Shape, names: &Names) -> Result<String, AllocError>
-    ensures { IfOk result (λ t. string_bytes t ≡ plain.shape_text names.now.names.items names.now.locals (views.shape_of shape.now)) }
-{
-    let mut out = String::new(alloc);
-    put_shape(alloc, &mut out, names, names.locals, shape)?;
-    Ok(out)
-}
-
-/// The text of a type. Fails only for want of memory, as which the number of a binder past 2^32 - 1 counts.
-pub fn type_text(alloc: Global, ty: &Ty, names: &Names) -> Result<String, AllocError>
-    ensures { IfOk result (λ t. string_bytes t ≡ plain.type_text names.now.names.items names.now.locals (views.type_of ty.now)) }
-{
-    let mut out = String::new(alloc);
-    put_type(alloc, &mut out, names, names.locals, ty)?;
     Ok(out)
 }

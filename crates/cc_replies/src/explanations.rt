@@ -10,7 +10,7 @@ ghost use Rattle.cc_replies.specs.ReplyTexts as plain;
 ghost use Rattle.cc_replies.specs.ReplyTexts.{Explained, ExplainRefused, reply_text};
 
 use crate::chains::{DefinitionName, FoundChain};
-use crate::heads::head_text;
+use crate::heads::{head_text, write_line_feed};
 use cc_base::code::Code;
 use cc_base::name::Name;
 use cc_certificate_writing::writing::{put, put_position};
@@ -183,17 +183,6 @@ fn write_element<K: Sink>(
     ensures cause { WriteAllCause (K.faults sink.old) (K.faults sink.new) result }
 {
     let put = put_element(alloc, waiting, names, definitions, target);
-    pass_on(sink, waiting, put)
-}
-
-// Writes the end of a line.
-fn write_line_feed<K: Sink>(sink: &mut K, waiting: &mut String) -> Result<(), WriteAll>
-    requires { K.faults sink.old < 2 ^ 64 - 1 }
-    ensures streams { Streams (K.written sink.old) (K.written sink.new) (string_bytes waiting.old) (string_bytes waiting.new) result
-        (10 ∷ []) }
-    ensures cause { WriteAllCause (K.faults sink.old) (K.faults sink.new) result }
-{
-    let put = put(waiting, "\n");
     pass_on(sink, waiting, put)
 }
 

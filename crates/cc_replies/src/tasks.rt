@@ -51,9 +51,9 @@ fn put_authorities(
     alloc: Global,
     out: &mut String,
     names: &Names,
-    entries: &[Entry],
+    entries: &[&Entry],
 ) -> Result<(), AllocError>
-    ensures { OnOk result (string_bytes out.new ≡ string_bytes out.old ++ flat_map inner_line (plain.by_task 0 (map (authority_text names.now.names.items) (map (λ entry. entry.authority.items) entries.now)))) }
+    ensures { OnOk result (string_bytes out.new ≡ string_bytes out.old ++ flat_map inner_line (plain.by_task 0 (map (authority_text names.now.names.items) (map (λ entry. entry.now.authority.items) entries.now)))) }
 {
     for (task, entry) in entries.iter().enumerate() {
         put_task_authority(alloc, out, names, task, &entry.authority)?;
@@ -67,11 +67,11 @@ fn write_authorities<K: Sink>(
     sink: &mut K,
     waiting: &mut String,
     names: &Names,
-    entries: &[Entry],
+    entries: &[&Entry],
 ) -> Result<(), WriteAll>
     requires { K.faults sink.old < 2 ^ 64 - 1 }
     ensures streams { Streams (K.written sink.old) (K.written sink.new) (string_bytes waiting.old) (string_bytes waiting.new) result
-        (flat_map inner_line (plain.by_task 0 (map (authority_text names.now.names.items) (map (λ entry. entry.authority.items) entries.now)))) }
+        (flat_map inner_line (plain.by_task 0 (map (authority_text names.now.names.items) (map (λ entry. entry.now.authority.items) entries.now)))) }
     ensures cause { WriteAllCause (K.faults sink.old) (K.faults sink.new) result }
 {
     let put = put_authorities(alloc, waiting, names, entries);
@@ -181,12 +181,12 @@ fn write_lines<K: Sink>(
     sink: &mut K,
     waiting: &mut String,
     names: &Names,
-    entries: &[Entry],
+    entries: &[&Entry],
     report: &TaskReport,
 ) -> Result<(), WriteAll>
     requires { K.faults sink.old < 2 ^ 64 - 1 }
     ensures streams { Streams (K.written sink.old) (K.written sink.new) (string_bytes waiting.old) (string_bytes waiting.new) result
-        (flat_map inner_line (plain.task_lines names.now.names.items (map (λ entry. entry.authority.items) entries.now) (told_by report.now))) }
+        (flat_map inner_line (plain.task_lines names.now.names.items (map (λ entry. entry.now.authority.items) entries.now) (told_by report.now))) }
     ensures cause { WriteAllCause (K.faults sink.old) (K.faults sink.new) result }
 {
     write_authorities(alloc, sink, waiting, names, entries)?;
@@ -200,12 +200,12 @@ fn write_behind<K: Sink>(
     sink: &mut K,
     waiting: &mut String,
     names: &Names,
-    entries: &[Entry],
+    entries: &[&Entry],
     report: &TaskReport,
 ) -> Result<(), WriteAll>
     requires { K.faults sink.old < 2 ^ 64 - 1 }
     ensures written { WritesWhole (K.written sink.old) (K.written sink.new) result (string_bytes waiting.old
-        ++ flat_map inner_line (plain.task_lines names.now.names.items (map (λ entry. entry.authority.items) entries.now) (told_by report.now))) }
+        ++ flat_map inner_line (plain.task_lines names.now.names.items (map (λ entry. entry.now.authority.items) entries.now) (told_by report.now))) }
     ensures cause { WriteAllCause (K.faults sink.old) (K.faults sink.new) result }
 {
     write_lines(alloc, sink, waiting, names, entries, report)?;
@@ -218,13 +218,13 @@ fn write_behind<K: Sink>(
 pub fn write_tasks<K: Sink>(
     alloc: Global,
     sink: &mut K,
-    entries: &[Entry],
+    entries: &[&Entry],
     report: &TaskReport,
     names: &Names,
 ) -> Result<(), WriteAll>
     requires { K.faults sink.old < 2 ^ 64 - 1 }
     ensures written { WritesWhole (K.written sink.old) (K.written sink.new) result
-        (reply_text names.now.names.items (TasksRan (map (λ entry. entry.authority.items) entries.now) (told_by report.now))) }
+        (reply_text names.now.names.items (TasksRan (map (λ entry. entry.now.authority.items) entries.now) (told_by report.now))) }
     ensures cause { WriteAllCause (K.faults sink.old) (K.faults sink.new) result }
 {
     match String::from_str(alloc, "tasks\n") {

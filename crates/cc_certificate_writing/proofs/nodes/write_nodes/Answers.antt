@@ -4,7 +4,8 @@ use Rattle.std.specs.String.{string_bytes}
 use Rattle.cc_derivation.specs.DerivationViews.{der_of}
 use Rattle.cc_certificate_writing.specs.Certificates.{lines_behind, node_lines}
 use Rattle.cc_certificate_writing.specs.WaitingLines.{in_turn, waiting_lines, written}
-use Rattle.cc_certificate_writing.proofs.StreamedCertificates.{turn_found_no_memory, turn_passed, turn_stopped, turn_taken}
+use Rattle.cc_io.proofs.PassedTurns.{turn_found_no_memory, turn_passed, turn_stopped}
+use Rattle.cc_certificate_writing.proofs.StreamedCertificates.{turn_taken}
 use Rattle.cc_certificate_writing.proofs.nodes.write_nodes.Goals as goal
 
 pub returns-in-Err-take_turn-clause-streams : goal.returns-in-Err-take_turn-clause-streams

@@ -9,4 +9,4 @@ abbrev pub invariant-loop-task : goal.invariant-loop-task
 invariant-loop-task l =
     string_bytes l.out
     ≡ string_bytes l.initial.out
-    ++ flat_map inner_line (by_task 0 (map (λ entry. authority_text l.names.names.items entry.authority.items) (take l.task l.entries)))
+    ++ flat_map inner_line (by_task 0 (map (λ entry. authority_text l.names.names.items entry.now.authority.items) (take l.task l.entries)))

@@ -1,4 +1,4 @@
-use Rattle.std.proofs.Common.{◌++◌, List, ℕ, map, flat_map, subst}
+use Rattle.std.proofs.Common.{◌++◌, List, ℕ, Bor, map, flat_map, subst}
 use Rattle.std.proofs.lemmas.Result.{err_from_is_err_and}
 use Rattle.std.specs.String.{string_bytes}
 use Rattle.cc_io.specs.Pieces.{IsPassedOn, Streams}
@@ -11,8 +11,8 @@ use Rattle.cc_tasks.specs.Reports.{told_event, told_end}
 use Rattle.cc_replies.proofs.StreamedLines.{firsts_stopped, middles_stopped, lasts_streamed}
 use Rattle.cc_replies.proofs.tasks.write_lines.Goals as goal
 
-abbrev authorities : List (List ℕ) → List Entry → List (List ℕ)
-authorities names entries = by_task 0 (map (authority_text names) (map (λ (entry : Entry). entry.authority.items) entries))
+abbrev authorities : List (List ℕ) → List (Bor Entry) → List (List ℕ)
+authorities names entries = by_task 0 (map (authority_text names) (map (λ (entry : Bor Entry). entry.now.authority.items) entries))
 
 pub returns-in_err-write_authorities-clause-streams : goal.returns-in_err-write_authorities-clause-streams
 returns-in_err-write_authorities-clause-streams g c =
