@@ -3,6 +3,7 @@ mod SessionReplies
 mod CommandFacts
 pub mod Answering
 mod RunFacts
+mod KeptFacts
 mod CarriedChains
 mod DefinitionNumbers
 mod RecursiveTypes

@@ -146,17 +146,17 @@ module _ (devices : List DeviceDecl) (rules : List Rule) (texts : Texts) (verdic
           (said ∙ (λ i. reply_text [] (Derived module_name name (definition_certificate_lines (names_are i) (context_is i) (accepted_is i))))) tells
 
   module _ (fuel : ℕ) (schedule : List ℕ) (tasks : List (List ℕ × List ℕ)) where
-    pub tasks_shown : (names : List (List ℕ)) (declared : List DeviceDecl) (entries : List DeclaredEntry) → declared ≡ devices → names ≡ device_names devices
-        → first_unstarted texts verdicts tasks ≡ None → HaveEntries devices texts verdicts tasks (map entry_of entries)
-        → text ≡ reply_text names (tasks_told declared fuel schedule (map entry_of entries))
-        → refused ≡ is_refusal (tasks_told declared fuel schedule (map entry_of entries))
+    pub tasks_shown : (names : List (List ℕ)) (declared : List DeviceDecl) (entries : List CheckedEntry) → declared ≡ devices → names ≡ device_names devices
+        → first_unstarted texts verdicts tasks ≡ None → HaveEntries devices texts verdicts tasks entries
+        → text ≡ reply_text names (tasks_told declared fuel schedule entries)
+        → refused ≡ is_refusal (tasks_told declared fuel schedule entries)
         → IsReplied devices (holding_under rules texts) (Ask (RunTasks fuel schedule tasks)) old new result
     tasks_shown names declared entries devices_are names_are none have said tells =
-        let reply = tasks_told devices fuel schedule (map entry_of entries) in
+        let reply = tasks_told devices fuel schedule entries in
         shown (Ask (RunTasks fuel schedule tasks)) reply
-        (verdicts, are, subst (λ o. IsTasksAnswer devices texts verdicts fuel schedule tasks o reply) (sym none) (map entry_of entries, have, refl))
-        (said ∙ (λ i. reply_text (names_are i) (tasks_told (devices_are i) fuel schedule (map entry_of entries))))
-        (tells ∙ (λ i. is_refusal (tasks_told (devices_are i) fuel schedule (map entry_of entries))))
+        (verdicts, are, subst (λ o. IsTasksAnswer devices texts verdicts fuel schedule tasks o reply) (sym none) (entries, have, refl))
+        (said ∙ (λ i. reply_text (names_are i) (tasks_told (devices_are i) fuel schedule entries)))
+        (tells ∙ (λ i. is_refusal (tasks_told (devices_are i) fuel schedule entries)))
 
 -- what the rules decide was written
 pub audit_shown : (devices : List DeviceDecl) (rules : List Rule) (texts : Texts) (verdicts : List ℕ → ModuleVerdict) → AreVerdicts devices texts verdicts

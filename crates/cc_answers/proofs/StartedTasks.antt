@@ -65,15 +65,16 @@ module _ (devices : List DeviceDecl) (texts : Texts) (verdicts : List ℕ → Mo
       unstarted_behind front (task ∷ rest) so_far.none ∙ ap (λ r. unstarted_or task.0 task.1 r (first_unstarted texts verdicts rest)) is
 
   -- the next one of all is started
-  pub started_next : (tasks : List (List ℕ × List ℕ)) (at : ℕ) (task : List ℕ × List ℕ) (entries new : List DeclaredEntry) (entry : DeclaredEntry)
-      → at < length tasks → task ≡ get_or tasks at task → AreStartedSoFar (take at tasks) (map entry_of entries)
-      → HasEntry devices texts verdicts task (entry_of entry) → new ≡ entries ++ entry ∷ []
-      → AreStartedSoFar (take (at + 1) tasks) (map entry_of new)
-  started_next tasks at task entries new entry within is so_far has pushed =
+  pub started_next : {A : Type 0} (tasks : List (List ℕ × List ℕ)) (at : ℕ) (task : List ℕ × List ℕ) (entries new : List A) (entry : A)
+      (f : A → CheckedEntry)
+      → at < length tasks → task ≡ get_or tasks at task → AreStartedSoFar (take at tasks) (map f entries)
+      → HasEntry devices texts verdicts task (f entry) → new ≡ entries ++ entry ∷ []
+      → AreStartedSoFar (take (at + 1) tasks) (map f new)
+  started_next tasks at task entries new entry f within is so_far has pushed =
       let front : take (at + 1) tasks ≡ take at tasks ++ task ∷ [] = take_more tasks at task within ∙ ap (λ t. take at tasks ++ t ∷ []) (sym is) in
-      let made : map entry_of new ≡ map entry_of entries ++ entry_of entry ∷ [] = ap (map entry_of) pushed ∙ map_push entry_of entries entry in
-      subst (λ ts. AreStartedSoFar ts (map entry_of new)) (sym front)
-      (subst (AreStartedSoFar (take at tasks ++ task ∷ [])) (sym made) (started_more (take at tasks) (map entry_of entries) task (entry_of entry) so_far has))
+      let made : map f new ≡ map f entries ++ f entry ∷ [] = ap (map f) pushed ∙ map_push f entries entry in
+      subst (λ ts. AreStartedSoFar ts (map f new)) (sym front)
+      (subst (AreStartedSoFar (take at tasks ++ task ∷ [])) (sym made) (started_more (take at tasks) (map f entries) task (f entry) so_far has))
 
   -- the next one of all is the first that is not
   pub stopped_next : (tasks : List (List ℕ × List ℕ)) (at : ℕ) (task : List ℕ × List ℕ) (entries : List CheckedEntry) (code : Code)
@@ -95,13 +96,14 @@ module _ (devices : List DeviceDecl) (texts : Texts) (verdicts : List ℕ → Mo
       subst (AllByRecursion (λ (entry : CheckedEntry). entry.devices ≡ declared_bases devices)) (sym same)
       (is.2.shapes, shapes_of_all others later rest)
 
-  shapes_before : (bases : List Base) → declared_bases devices ≡ bases → (entries : List DeclaredEntry)
-      → AllByRecursion (λ (entry : CheckedEntry). entry.devices ≡ declared_bases devices) (map entry_of entries)
-      → AllByRecursion (λ (entry : DeclaredEntry). entry.devices.items ≡ bases) entries
-  shapes_before bases same [] all = tt
-  shapes_before bases same (entry ∷ entries) all = (all.0 ∙ same, shapes_before bases same entries all.1)
+  shapes_before : {A : Type 0} (bases : List Base) → declared_bases devices ≡ bases → (entries : List A) (f : A → DeclaredEntry)
+      → AllByRecursion (λ (entry : CheckedEntry). entry.devices ≡ declared_bases devices) (map (λ it. entry_of (f it)) entries)
+      → AllByRecursion (λ it. (f it).devices.items ≡ bases) entries
+  shapes_before bases same [] f all = tt
+  shapes_before bases same (entry ∷ entries) f all = (all.0 ∙ same, shapes_before bases same entries f all.1)
 
-  pub shapes_of_started : (bases : List Base) (tasks : List (List ℕ × List ℕ)) (entries : List DeclaredEntry) → declared_bases devices ≡ bases
-      → HaveEntries devices texts verdicts tasks (map entry_of entries)
-      → AllByRecursion (λ (entry : DeclaredEntry). entry.devices.items ≡ bases) entries
-  shapes_of_started bases tasks entries same have = shapes_before bases same entries (shapes_of_all tasks (map entry_of entries) have)
+  pub shapes_of_started : {A : Type 0} (bases : List Base) (tasks : List (List ℕ × List ℕ)) (entries : List A) (f : A → DeclaredEntry)
+      → declared_bases devices ≡ bases → HaveEntries devices texts verdicts tasks (map (λ it. entry_of (f it)) entries)
+      → AllByRecursion (λ it. (f it).devices.items ≡ bases) entries
+  shapes_of_started bases tasks entries f same have =
+      shapes_before bases same entries f (shapes_of_all tasks (map (λ it. entry_of (f it)) entries) have)

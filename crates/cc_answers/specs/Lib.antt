@@ -1,4 +1,6 @@
 pub mod Requests
 pub mod Running
+pub mod KeptEntries
+pub mod LinkedPrograms
 pub mod Carried
 pub mod Explaining

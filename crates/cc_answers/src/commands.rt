@@ -9,8 +9,10 @@ ghost use Rattle.cc_mnf.specs.ElaboratedModules.{device_names};
 ghost use Rattle.cc_replies.specs.Replies.{rules_after};
 ghost use Rattle.cc_replies.specs.Requests.{JobState, PutText, DropModule, SetPolicy, VerifyText, Ask, holding, holding_under, no_module};
 ghost use Rattle.cc_answers.specs.Carried.{IsReplied, Changes, Judges, AreAnswered};
+ghost use Rattle.cc_answers.specs.KeptEntries.{IsKeptFor};
 ghost use Rattle.cc_answers.specs.Requests.{request_of, requests_of, question_in};
 
+use crate::kept::Kept;
 use crate::questions::answer_checked;
 use crate::replies::write_reply;
 use cc_base::code::Code;
@@ -128,6 +130,7 @@ fn ask<K: Sink, L: Ledger>(
     alloc: Global,
     names: &Names,
     session: &mut Session,
+    kept: &mut Kept,
     policy: &Policy,
     command: &Command,
     sink: &mut K,
@@ -136,6 +139,7 @@ fn ask<K: Sink, L: Ledger>(
     requires count { K.faults sink.old < 2 ^ 64 - 1 }
     requires differ { NamesOfDevicesDiffer session.old.devices }
     requires present { ArePresent session.old.present }
+    requires kept { IsKeptFor session.old.devices session.old.present kept.old }
     requires names { (names.now.names.items ≡ device_names session.old.devices) × (names.now.locals ≡ 0) }
     ensures replied { IfSome (question_in (request_of command.now))
         (λ question. IsReplied session.old.devices (holding_under policy.now session.old.present) (Ask question)
@@ -143,10 +147,11 @@ fn ask<K: Sink, L: Ledger>(
     ensures changes { IfSome (question_in (request_of command.now)) (λ question. Changes session.old session.new (Ask question) result) }
     ensures judges { IfSome (question_in (request_of command.now))
         (λ question. Judges session.old session.new (Ask question) steps.old steps.new result) }
+    ensures kept { IsKeptFor session.new.devices session.new.present kept.new }
     ensures cause { WriteAllCause (K.faults sink.old) (K.faults sink.new) result }
 {
     match session.check(steps) {
-        Ok(()) => answer_checked(alloc, names, &*session, policy, command, sink),
+        Ok(()) => answer_checked(alloc, names, &*session, kept, policy, command, sink),
         Err(AllocError) => Err(WriteAll::NoMemory),
     }
 }
@@ -156,6 +161,7 @@ fn answer<K: Sink, L: Ledger>(
     alloc: Global,
     names: &Names,
     session: &mut Session,
+    kept: &mut Kept,
     policy: &Policy,
     command: &Command,
     sink: &mut K,
@@ -164,16 +170,24 @@ fn answer<K: Sink, L: Ledger>(
     requires count { K.faults sink.old < 2 ^ 64 - 1 }
     requires differ { NamesOfDevicesDiffer session.old.devices }
     requires present { ArePresent session.old.present }
+    requires kept { IsKeptFor session.old.devices session.old.present kept.old }
     requires names { (names.now.names.items ≡ device_names session.old.devices) × (names.now.locals ≡ 0) }
     ensures replied { IsReplied session.old.devices (holding_under policy.now session.old.present) (request_of command.now)
         (K.written sink.old) (K.written sink.new) result }
     ensures changes { Changes session.old session.new (request_of command.now) result }
     ensures judges { Judges session.old session.new (request_of command.now) steps.old steps.new result }
+    ensures kept { IsKeptFor session.new.devices session.new.present kept.new }
     ensures cause { WriteAllCause (K.faults sink.old) (K.faults sink.new) result }
 {
     match command {
-        Command::Put(name, text) => put_module(alloc, session, name, text, sink),
-        Command::Drop(name) => drop_module(alloc, session, name, sink),
+        Command::Put(name, text) => {
+            *kept = Kept::nothing();
+            put_module(alloc, session, name, text, sink)
+        }
+        Command::Drop(name) => {
+            *kept = Kept::nothing();
+            drop_module(alloc, session, name, sink)
+        }
         Command::Policy(next) => tell_policy(alloc, next, sink),
         Command::Verify(text) => tell_certificate(alloc, text, sink),
         Command::Check
@@ -184,7 +198,9 @@ fn answer<K: Sink, L: Ledger>(
         | Command::Audit(_, _)
         | Command::Guard(_, _, _)
         | Command::Explain(_, _)
-        | Command::Replay(_, _, _, _) => ask(alloc, names, session, policy, command, sink, steps),
+        | Command::Replay(_, _, _, _) => ask(
+            alloc, names, session, kept, policy, command, sink, steps,
+        ),
     }
 }
 
@@ -225,12 +241,14 @@ fn answer_all<'a, K: Sink, L: Ledger>(
     ensures cause { WriteAllCause (K.faults sink.old) (K.faults sink.new) result }
 {
     let mut policy = first;
+    let mut kept = Kept::nothing();
     let mut refused = false;
     for command in commands {
         let later = answer(
             alloc,
             names,
             &mut *session,
+            &mut kept,
             policy,
             command,
             &mut *sink,

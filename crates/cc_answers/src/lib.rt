@@ -3,6 +3,8 @@
 
 pub mod commands;
 mod explaining;
+mod kept;
+mod linked;
 mod questions;
 mod replies;
 mod running;

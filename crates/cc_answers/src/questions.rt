@@ -8,11 +8,15 @@ ghost use Rattle.cc_mnf.specs.ElaboratedModules.{device_names};
 ghost use Rattle.cc_replies.specs.Requests.{CheckModules, ShowSignature, ShowDerivation, RunDefinition, RunTasks, AuditDefinition, GuardDefinition, ExplainDefinition, ReplayDefinition, Ask, holding_under};
 ghost use Rattle.cc_policy.specs.declared.policy.Rule.{Rule};
 ghost use Rattle.cc_answers.specs.Carried.{IsReplied};
+ghost use Rattle.cc_answers.specs.KeptEntries.{IsKeptFor};
 ghost use Rattle.cc_answers.specs.Requests.{request_of, question_in};
 
 use crate::explaining::tell_explanation;
+use crate::kept::{Kept, linked_entry};
 use crate::replies::{told, write_reply};
-use crate::running::{Started, replayed_reply, start_all, tell_guarded, tell_run, tell_tasks};
+use crate::running::{
+    Started, audited_reply, replayed_reply, start_all, tell_guarded, tell_run, tell_tasks,
+};
 use cc_base::code::Code;
 use cc_base::name::Name;
 use cc_base::text::Text;
@@ -22,10 +26,10 @@ use cc_policy::policy::Policy;
 use cc_print::Names;
 use cc_replies::derivations::{derive_refusal, has_too_many_nodes, write_derivation};
 use cc_replies::explanations::explain_refusal;
-use cc_replies::policies::{audit_refusal, audit_reply, guard_refusal};
+use cc_replies::policies::{audit_refusal, guard_refusal};
 use cc_replies::replays::replay_refusal;
 use cc_replies::runs::run_refusal;
-use cc_replies::signatures::{sig_refusal, sig_reply};
+use cc_replies::signatures::{sig_refusal, write_signatures};
 use cc_replies::tasks::tasks_refusal;
 use cc_replies::verdicts::{check_reply, has_refused};
 use cc_session::present_entries::EntryError;
@@ -62,7 +66,7 @@ fn show_signatures<K: Sink>(
     ensures cause { WriteAllCause (K.faults sink.old) (K.faults sink.new) result }
 {
     match session.sig(name) {
-        Ok(defs) => write_reply(sink, sig_reply(alloc, name, defs, names), false),
+        Ok(defs) => told(write_signatures(alloc, sink, name, names, defs), false),
         Err(refused) => write_reply(sink, sig_refusal(alloc, name, refused.code), true),
     }
 }
@@ -118,6 +122,7 @@ fn show_run<K: Sink>(
     alloc: Global,
     names: &Names,
     session: &Session,
+    kept: &mut Kept,
     module: &Name,
     def: &Name,
     fuel: u32,
@@ -127,13 +132,15 @@ fn show_run<K: Sink>(
     requires checked { IsTrue session.now.checked }
     requires differ { NamesOfDevicesDiffer session.now.devices }
     requires present { ArePresent session.now.present }
+    requires kept { IsKeptFor session.now.devices session.now.present kept.old }
     requires names { (names.now.names.items ≡ device_names session.now.devices) × (names.now.locals ≡ 0) }
     ensures replied { (rules : List Rule) → IsReplied session.now.devices (holding_under rules session.now.present) (Ask (RunDefinition «module».now def.now fuel))
         (K.written sink.old) (K.written sink.new) result }
+    ensures kept { IsKeptFor session.now.devices session.now.present kept.new }
     ensures cause { WriteAllCause (K.faults sink.old) (K.faults sink.new) result }
 {
-    match session.entry(module, def) {
-        Ok(entry) => tell_run(
+    match linked_entry(alloc, session, kept, module, def) {
+        Ok(linked) => tell_run(
             alloc,
             "run",
             names,
@@ -141,7 +148,7 @@ fn show_run<K: Sink>(
             module,
             def,
             fuel,
-            &entry,
+            &linked,
             sink,
         ),
         Err(EntryError::Refused(refused)) => write_reply(
@@ -158,6 +165,7 @@ fn show_tasks<K: Sink>(
     alloc: Global,
     names: &Names,
     session: &Session,
+    kept: &mut Kept,
     fuel: u32,
     schedule: &[u32],
     tasks: &[(Name, Name)],
@@ -167,12 +175,14 @@ fn show_tasks<K: Sink>(
     requires checked { IsTrue session.now.checked }
     requires differ { NamesOfDevicesDiffer session.now.devices }
     requires present { ArePresent session.now.present }
+    requires kept { IsKeptFor session.now.devices session.now.present kept.old }
     requires names { (names.now.names.items ≡ device_names session.now.devices) × (names.now.locals ≡ 0) }
     ensures replied { (rules : List Rule) → IsReplied session.now.devices (holding_under rules session.now.present) (Ask (RunTasks fuel schedule.now tasks.now))
         (K.written sink.old) (K.written sink.new) result }
+    ensures kept { IsKeptFor session.now.devices session.now.present kept.new }
     ensures cause { WriteAllCause (K.faults sink.old) (K.faults sink.new) result }
 {
-    match start_all(alloc, session, tasks) {
+    match start_all(alloc, session, kept, tasks) {
         Ok(Started::All(entries)) => tell_tasks(
             alloc,
             names,
@@ -197,6 +207,7 @@ fn show_audit<K: Sink>(
     alloc: Global,
     names: &Names,
     session: &Session,
+    kept: &mut Kept,
     policy: &Policy,
     module: &Name,
     def: &Name,
@@ -206,23 +217,17 @@ fn show_audit<K: Sink>(
     requires checked { IsTrue session.now.checked }
     requires differ { NamesOfDevicesDiffer session.now.devices }
     requires present { ArePresent session.now.present }
+    requires kept { IsKeptFor session.now.devices session.now.present kept.old }
     requires names { (names.now.names.items ≡ device_names session.now.devices) × (names.now.locals ≡ 0) }
     ensures replied { IsReplied session.now.devices (holding_under policy.now session.now.present) (Ask (AuditDefinition «module».now def.now))
         (K.written sink.old) (K.written sink.new) result }
+    ensures kept { IsKeptFor session.now.devices session.now.present kept.new }
     ensures cause { WriteAllCause (K.faults sink.old) (K.faults sink.new) result }
 {
-    match session.entry(module, def) {
-        Ok(entry) => write_reply(
+    match linked_entry(alloc, session, kept, module, def) {
+        Ok(linked) => write_reply(
             sink,
-            audit_reply(
-                alloc,
-                module,
-                def,
-                &entry.module,
-                &entry.authority,
-                policy,
-                names,
-            ),
+            audited_reply(alloc, names, policy, module, def, &linked),
             false,
         ),
         Err(EntryError::Refused(refused)) => write_reply(
@@ -239,6 +244,7 @@ fn show_guarded<K: Sink>(
     alloc: Global,
     names: &Names,
     session: &Session,
+    kept: &mut Kept,
     policy: &Policy,
     module: &Name,
     def: &Name,
@@ -249,13 +255,15 @@ fn show_guarded<K: Sink>(
     requires checked { IsTrue session.now.checked }
     requires differ { NamesOfDevicesDiffer session.now.devices }
     requires present { ArePresent session.now.present }
+    requires kept { IsKeptFor session.now.devices session.now.present kept.old }
     requires names { (names.now.names.items ≡ device_names session.now.devices) × (names.now.locals ≡ 0) }
     ensures replied { IsReplied session.now.devices (holding_under policy.now session.now.present) (Ask (GuardDefinition «module».now def.now fuel))
         (K.written sink.old) (K.written sink.new) result }
+    ensures kept { IsKeptFor session.now.devices session.now.present kept.new }
     ensures cause { WriteAllCause (K.faults sink.old) (K.faults sink.new) result }
 {
-    match session.entry(module, def) {
-        Ok(entry) => tell_guarded(
+    match linked_entry(alloc, session, kept, module, def) {
+        Ok(linked) => tell_guarded(
             alloc,
             names,
             session.devices(),
@@ -263,7 +271,7 @@ fn show_guarded<K: Sink>(
             module,
             def,
             fuel,
-            &entry,
+            &linked,
             sink,
         ),
         Err(EntryError::Refused(refused)) => write_reply(
@@ -317,6 +325,7 @@ fn show_replay<K: Sink>(
     alloc: Global,
     names: &Names,
     session: &Session,
+    kept: &mut Kept,
     module: &Name,
     def: &Name,
     fuel: u32,
@@ -327,14 +336,16 @@ fn show_replay<K: Sink>(
     requires checked { IsTrue session.now.checked }
     requires differ { NamesOfDevicesDiffer session.now.devices }
     requires present { ArePresent session.now.present }
+    requires kept { IsKeptFor session.now.devices session.now.present kept.old }
     requires names { (names.now.names.items ≡ device_names session.now.devices) × (names.now.locals ≡ 0) }
     ensures replied { (rules : List Rule) → IsReplied session.now.devices (holding_under rules session.now.present) (Ask (ReplayDefinition «module».now def.now fuel text.now))
         (K.written sink.old) (K.written sink.new) result }
+    ensures kept { IsKeptFor session.now.devices session.now.present kept.new }
     ensures cause { WriteAllCause (K.faults sink.old) (K.faults sink.new) result }
 {
-    match session.entry(module, def) {
-        Ok(entry) => {
-            match replayed_reply(alloc, names, module, def, fuel, text.as_bytes(), &entry) {
+    match linked_entry(alloc, session, kept, module, def) {
+        Ok(linked) => {
+            match replayed_reply(alloc, names, module, def, fuel, text.as_bytes(), &linked) {
                 Ok((reply, refused)) => write_reply(sink, Ok(reply), refused),
                 Err(AllocError) => Err(WriteAll::NoMemory),
             }
@@ -354,6 +365,7 @@ pub fn answer_checked<K: Sink>(
     alloc: Global,
     names: &Names,
     session: &Session,
+    kept: &mut Kept,
     policy: &Policy,
     command: &Command,
     sink: &mut K,
@@ -362,10 +374,12 @@ pub fn answer_checked<K: Sink>(
     requires checked { IsTrue session.now.checked }
     requires differ { NamesOfDevicesDiffer session.now.devices }
     requires present { ArePresent session.now.present }
+    requires kept { IsKeptFor session.now.devices session.now.present kept.old }
     requires names { (names.now.names.items ≡ device_names session.now.devices) × (names.now.locals ≡ 0) }
     ensures replied { IfSome (question_in (request_of command.now))
         (λ question. IsReplied session.now.devices (holding_under policy.now session.now.present) (Ask question)
         (K.written sink.old) (K.written sink.new) result) }
+    ensures kept { IsKeptFor session.now.devices session.now.present kept.new }
     ensures cause { WriteAllCause (K.faults sink.old) (K.faults sink.new) result }
 {
     match command {
@@ -376,28 +390,29 @@ pub fn answer_checked<K: Sink>(
         Command::Sig(name) => show_signatures(alloc, names, session, name, sink),
         Command::Derive(module, def) => show_derivation(alloc, session, module, def, sink),
         Command::Run(module, def, fuel) => {
-            show_run(alloc, names, session, module, def, *fuel, sink)
+            show_run(alloc, names, session, kept, module, def, *fuel, sink)
         }
         Command::Tasks(fuel, schedule, tasks) => show_tasks(
             alloc,
             names,
             session,
+            kept,
             *fuel,
             schedule.as_slice(),
             tasks.as_slice(),
             sink,
         ),
         Command::Audit(module, def) => {
-            show_audit(alloc, names, session, policy, module, def, sink)
+            show_audit(alloc, names, session, kept, policy, module, def, sink)
         }
         Command::Explain(module, def) => {
             show_explanation(alloc, names, session, module, def, sink)
         }
         Command::Replay(module, def, fuel, text) => {
-            show_replay(alloc, names, session, module, def, *fuel, text, sink)
+            show_replay(alloc, names, session, kept, module, def, *fuel, text, sink)
         }
         Command::Guard(module, def, fuel) => show_guarded(
-            alloc, names, session, policy, module, def, *fuel, sink,
+            alloc, names, session, kept, policy, module, def, *fuel, sink,
         ),
     }
 }

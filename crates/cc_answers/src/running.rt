@@ -19,25 +19,28 @@ ghost use Rattle.cc_runs.specs.SoundRuns.{HasShapesOfCells};
 ghost use Rattle.cc_machine.specs.Programs.{shapes_of, start_of};
 ghost use Rattle.cc_machine.specs.Reports.{events_of};
 ghost use Rattle.cc_mnf.specs.ElaboratedModules.{device_names};
-ghost use Rattle.cc_replies.specs.PolicyReplies.{guard_told};
+ghost use Rattle.cc_replies.specs.PolicyReplies.{decisions, guard_told};
 ghost use Rattle.cc_replies.specs.ReplayReplies.{replay_told};
-ghost use Rattle.cc_replies.specs.ReplyTexts.{reply_text, is_refusal, is_unfinished};
+ghost use Rattle.cc_replies.specs.ReplyTexts.{Audited, reply_text, is_refusal, is_unfinished};
 ghost use Rattle.cc_replies.specs.RunReplies.{declared_run, tasks_told};
 ghost use Rattle.cc_tasks.specs.Reports.{told_by, world_in};
-ghost use Rattle.cc_answers.specs.Running.{AreStarted, entry_text};
+ghost use Rattle.cc_answers.specs.KeptEntries.{IsKeptFor};
+ghost use Rattle.cc_answers.specs.LinkedPrograms.{IsProgramOf};
+ghost use Rattle.cc_answers.specs.Running.{AreStarted, HavePrograms, entry_text};
 
+use crate::kept::{Kept, linked_entry};
+use crate::linked::LinkedEntry;
 use crate::replies::{told, write_reply};
 use cc_base::code::Code;
 use cc_base::device::DeviceDecl;
 use cc_base::name::Name;
 use cc_device::Devices;
 use cc_io::{Sink, WriteAll};
-use cc_link::link;
 use cc_machine::{Machine, Program, RunReport};
 use cc_policy::policy::Policy;
 use cc_print::Names;
 use cc_replay::replay;
-use cc_replies::policies::{are_allowed, guard_refusal};
+use cc_replies::policies::{are_allowed, audit_reply, guard_refusal};
 use cc_replies::replays::{is_different, replay_reply};
 use cc_replies::runs::{is_cut_short, write_run};
 use cc_replies::tasks::{tasks_cut_short, write_tasks};
@@ -46,6 +49,7 @@ use cc_session::present_entries::EntryError;
 use cc_session::session::Session;
 use cc_tasks::{TaskReport, run_tasks};
 use std::alloc::{AllocError, Global};
+use std::rc::Rc;
 
 // The report of the run of a program on the declared devices. Fails only for want of memory, as which 2^32 cells count.
 fn run_program<'a>(
@@ -80,21 +84,18 @@ pub fn tell_run<K: Sink>(
     module: &Name,
     def: &Name,
     fuel: u32,
-    entry: &Entry,
+    linked: &LinkedEntry,
     sink: &mut K,
 ) -> Result<bool, WriteAll>
     requires count { K.faults sink.old < 2 ^ 64 - 1 }
-    requires devices { entry.now.devices.items ≡ declared_bases declared.now }
+    requires devices { linked.now.entry.devices.items ≡ declared_bases declared.now }
+    requires program { IsProgramOf linked.now.program linked.now.entry }
     ensures written { WritesWhole (K.written sink.old) (K.written sink.new) result
-        (entry_text word.now names.now.names.items «module».now def.now declared.now fuel (entry_of entry.now)) }
-    ensures refused { IfOk result (λ refused. refused ≡ is_unfinished (declared_run declared.now fuel (entry_of entry.now)).ending) }
+        (entry_text word.now names.now.names.items «module».now def.now declared.now fuel (entry_of linked.now.entry)) }
+    ensures refused { IfOk result (λ refused. refused ≡ is_unfinished (declared_run declared.now fuel (entry_of linked.now.entry)).ending) }
     ensures cause { WriteAllCause (K.faults sink.old) (K.faults sink.new) result }
 {
-    let program = match link(alloc, entry) {
-        Ok(program) => program,
-        Err(AllocError) => return Err(WriteAll::NoMemory),
-    };
-    match run_program(alloc, declared, fuel, &program) {
+    match run_program(alloc, declared, fuel, &linked.program) {
         Ok(report) => {
             let refused = is_cut_short(report.end);
             told(
@@ -104,7 +105,7 @@ pub fn tell_run<K: Sink>(
                     word,
                     module,
                     def,
-                    &entry.authority,
+                    &linked.entry.authority,
                     &report,
                     names,
                 ),
@@ -127,24 +128,50 @@ pub fn tell_guarded<K: Sink>(
     module: &Name,
     def: &Name,
     fuel: u32,
-    entry: &Entry,
+    linked: &LinkedEntry,
     sink: &mut K,
 ) -> Result<bool, WriteAll>
     requires count { K.faults sink.old < 2 ^ 64 - 1 }
-    requires devices { entry.now.devices.items ≡ declared_bases declared.now }
+    requires devices { linked.now.entry.devices.items ≡ declared_bases declared.now }
+    requires program { IsProgramOf linked.now.program linked.now.entry }
     requires names { names.now.names.items ≡ device_names declared.now }
     ensures written { WritesWhole (K.written sink.old) (K.written sink.new) result
-        (reply_text names.now.names.items (guard_told declared.now policy.now «module».now def.now fuel (entry_of entry.now))) }
-    ensures refused { IfOk result (λ refused. refused ≡ is_refusal (guard_told declared.now policy.now «module».now def.now fuel (entry_of entry.now))) }
+        (reply_text names.now.names.items (guard_told declared.now policy.now «module».now def.now fuel (entry_of linked.now.entry))) }
+    ensures refused { IfOk result (λ refused. refused ≡ is_refusal (guard_told declared.now policy.now «module».now def.now fuel (entry_of linked.now.entry))) }
     ensures cause { WriteAllCause (K.faults sink.old) (K.faults sink.new) result }
 {
-    if are_allowed(policy, &entry.module, names, &entry.authority) {
+    if are_allowed(policy, &linked.entry.module, names, &linked.entry.authority) {
         tell_run(
-            alloc, "guard", names, declared, module, def, fuel, entry, sink,
+            alloc, "guard", names, declared, module, def, fuel, linked, sink,
         )
     } else {
         write_reply(sink, guard_refusal(alloc, module, def, Code::E37), true)
     }
+}
+
+/// The reply to an audit of the definition, which has this entry: what the policy decides for each device that it may
+/// operate. Fails only for want of memory.
+pub fn audited_reply(
+    alloc: Global,
+    names: &Names,
+    policy: &Policy,
+    module: &Name,
+    def: &Name,
+    linked: &LinkedEntry,
+) -> Result<String, AllocError>
+    ensures { IfOk result (λ text. string_bytes text ≡ reply_text names.now.names.items
+        (Audited «module».now def.now (decisions names.now.names.items policy.now linked.now.entry.module linked.now.entry.authority.items))) }
+{
+    let entry = &linked.entry;
+    audit_reply(
+        alloc,
+        module,
+        def,
+        &entry.module,
+        entry.authority.as_slice(),
+        policy,
+        names,
+    )
 }
 
 /// The reply to a replay of the lines of a text with the definition, which has this entry, where the devices have the names,
@@ -158,17 +185,17 @@ pub fn replayed_reply(
     def: &Name,
     fuel: u32,
     text: &[u8],
-    entry: &Entry,
+    linked: &LinkedEntry,
 ) -> Result<(String, bool), AllocError>
+    requires { IsProgramOf linked.now.program linked.now.entry }
     ensures text { IfOk result (λ it. string_bytes it.0 ≡ reply_text []
-        (replay_told names.now.names.items «module».now def.now fuel text.now (entry_of entry.now))) }
-    ensures refused { IfOk result (λ it. it.1 ≡ is_refusal (replay_told names.now.names.items «module».now def.now fuel text.now (entry_of entry.now))) }
+        (replay_told names.now.names.items «module».now def.now fuel text.now (entry_of linked.now.entry))) }
+    ensures refused { IfOk result (λ it. it.1 ≡ is_refusal (replay_told names.now.names.items «module».now def.now fuel text.now (entry_of linked.now.entry))) }
 {
-    let program = link(alloc, entry)?;
-    if !program.has_positions(fuel) {
+    if !linked.program.has_positions(fuel) {
         return Err(AllocError);
     }
-    let outcome = replay(alloc, &program, names, fuel, text)?;
+    let outcome = replay(alloc, &linked.program, names, fuel, text)?;
     let reply = replay_reply(alloc, module, def, outcome)?;
     Ok((reply, is_different(outcome)))
 }
@@ -176,28 +203,33 @@ pub fn replayed_reply(
 /// What comes of several definitions that are to be run together.
 #[derive(Drop)]
 pub enum Started {
-    /// Each has its entry.
-    All(Vec<Entry>),
+    /// Each has its entry, with its program.
+    All(Vec<Rc<LinkedEntry>>),
     /// The first that has none, by its number, and why.
     Refused { code: Code, task: usize },
 }
 
-/// The entries of the definitions of present modules, or the first that has none. Fails only for want of memory.
+/// The entries of the definitions of present modules with their programs, or the first that has none. Fails only for want
+/// of memory, as which too many cells count.
 pub fn start_all(
     alloc: Global,
     session: &Session,
+    kept: &mut Kept,
     tasks: &[(Name, Name)],
 ) -> Result<Started, AllocError>
-    requires { IsTrue session.now.checked }
-    ensures { IfOk result (λ started. (verdicts : List ℕ → ModuleVerdict)
+    requires checked { IsTrue session.now.checked }
+    requires kept { IsKeptFor session.now.devices session.now.present kept.old }
+    ensures started { IfOk result (λ started. (verdicts : List ℕ → ModuleVerdict)
         → AreVerdicts session.now.devices session.now.present verdicts
         → AreStarted session.now.devices session.now.present verdicts tasks.now started) }
+    ensures programs { IfOk result HavePrograms }
+    ensures kept { IsKeptFor session.now.devices session.now.present kept.new }
 {
     let mut entries = Vec::new(alloc);
     for task in 0..tasks.len() {
         let (module, def) = &tasks[task];
-        match session.entry(module, def) {
-            Ok(entry) => entries.push(entry)?,
+        match linked_entry(alloc, session, kept, module, def) {
+            Ok(linked) => entries.push(linked)?,
             Err(EntryError::Refused(refused)) => {
                 return Ok(Started::Refused {
                     code: refused.code,
@@ -210,23 +242,37 @@ pub fn start_all(
     Ok(Started::All(entries))
 }
 
-// The programs of entries, in order. Fails only for want of memory, as which too many cells count.
-fn link_all(alloc: Global, entries: &[Entry]) -> Result<Vec<Program>, AllocError>
-    ensures starts { IfOk result (λ programs. map start_of programs.items
-        ≡ map (λ entry. program_start (program_entry (entry_of entry))) entries.now) }
-    ensures shapes { IfOk result (λ programs. map shapes_of programs.items
-        ≡ map (λ entry. entry.devices.items) entries.now) }
+// The programs, in order.
+fn programs_of<'a>(
+    alloc: Global,
+    linked: &'a [Rc<LinkedEntry>],
+) -> Result<Vec<&'a Program>, AllocError>
+    ensures { IfOk result (λ programs. map (λ program. program.now) programs.items ≡ map (λ it. it.value.program) linked.now) }
 {
-    let mut programs = Vec::new(alloc);
-    for entry in entries {
-        programs.push(link(alloc, entry)?)?;
+    let mut programs = Vec::with_capacity(alloc, linked.len())?;
+    for it in linked {
+        programs.push(&it.program)?;
     }
     Ok(programs)
 }
 
+// The entries, in order.
+fn entries_of<'a>(
+    alloc: Global,
+    linked: &'a [Rc<LinkedEntry>],
+) -> Result<Vec<&'a Entry>, AllocError>
+    ensures { IfOk result (λ entries. map (λ entry. entry.now) entries.items ≡ map (λ it. it.value.entry) linked.now) }
+{
+    let mut entries = Vec::with_capacity(alloc, linked.len())?;
+    for it in linked {
+        entries.push(&it.entry)?;
+    }
+    Ok(entries)
+}
+
 // Whether each program has less than 2^32 cells when so many are added.
-fn have_positions(programs: &[Program], fuel: u32) -> bool
-    ensures { IsTrue result → AllByRecursion (λ program. length (start_of program).store + fuel < 4294967296) programs.now }
+fn have_positions(programs: &[&Program], fuel: u32) -> bool
+    ensures { IsTrue result → AllByRecursion (λ program. length (start_of program.now).store + fuel < 4294967296) programs.now }
 {
     for program in programs {
         if !program.has_positions(fuel) {
@@ -237,9 +283,9 @@ fn have_positions(programs: &[Program], fuel: u32) -> bool
 }
 
 // The devices fit all programs where these have their shapes. The function does nothing.
-fn fit_all(programs: &[Program], devices: &Devices)
-    requires { AllByRecursion (λ program. HaveShapes devices.now (shapes_of program)) programs.now }
-    ensures { AllByRecursion (λ program. HasShapesOfCells (start_of program).store devices.now) programs.now }
+fn fit_all(programs: &[&Program], devices: &Devices)
+    requires { AllByRecursion (λ program. HaveShapes devices.now (shapes_of program.now)) programs.now }
+    ensures { AllByRecursion (λ program. HasShapesOfCells (start_of program.now).store devices.now) programs.now }
 {
     for program in programs {
         program.starts_soundly();
@@ -252,10 +298,10 @@ fn run_programs<'a>(
     declared: &[DeviceDecl],
     fuel: u32,
     schedule: &[u32],
-    programs: &'a [Program],
+    programs: &[&'a Program],
 ) -> Result<TaskReport<'a>, AllocError>
-    requires { (devices : DevicesHeld) → HaveShapes devices (declared_bases declared.now) → AllByRecursion (λ program. HaveShapes devices (shapes_of program)) programs.now }
-    ensures { IfOk result (λ report. told_by report ≡ report_of (interleave fuel schedule.now (world_in programs.now (declared_devices declared.now)))) }
+    requires { (devices : DevicesHeld) → HaveShapes devices (declared_bases declared.now) → AllByRecursion (λ program. HaveShapes devices (shapes_of program.now)) programs.now }
+    ensures { IfOk result (λ report. told_by report ≡ report_of (interleave fuel schedule.now (world_in (map (λ program. program.now) programs.now) (declared_devices declared.now)))) }
 {
     if !have_positions(programs, fuel) {
         return Err(AllocError);
@@ -275,24 +321,29 @@ pub fn tell_tasks<K: Sink>(
     declared: &[DeviceDecl],
     fuel: u32,
     schedule: &[u32],
-    entries: &[Entry],
+    linked: &[Rc<LinkedEntry>],
     sink: &mut K,
 ) -> Result<bool, WriteAll>
     requires count { K.faults sink.old < 2 ^ 64 - 1 }
-    requires devices { AllByRecursion (λ entry. entry.devices.items ≡ declared_bases declared.now) entries.now }
+    requires devices { AllByRecursion (λ it. it.value.entry.devices.items ≡ declared_bases declared.now) linked.now }
+    requires programs { AllByRecursion (λ it. IsProgramOf it.value.program it.value.entry) linked.now }
     ensures written { WritesWhole (K.written sink.old) (K.written sink.new) result
-        (reply_text names.now.names.items (tasks_told declared.now fuel schedule.now (map entry_of entries.now))) }
-    ensures refused { IfOk result (λ refused. refused ≡ is_refusal (tasks_told declared.now fuel schedule.now (map entry_of entries.now))) }
+        (reply_text names.now.names.items (tasks_told declared.now fuel schedule.now (map (λ it. entry_of it.value.entry) linked.now))) }
+    ensures refused { IfOk result (λ refused. refused ≡ is_refusal (tasks_told declared.now fuel schedule.now (map (λ it. entry_of it.value.entry) linked.now))) }
     ensures cause { WriteAllCause (K.faults sink.old) (K.faults sink.new) result }
 {
-    let programs = match link_all(alloc, entries) {
+    let programs = match programs_of(alloc, linked) {
         Ok(programs) => programs,
+        Err(AllocError) => return Err(WriteAll::NoMemory),
+    };
+    let entries = match entries_of(alloc, linked) {
+        Ok(entries) => entries,
         Err(AllocError) => return Err(WriteAll::NoMemory),
     };
     match run_programs(alloc, declared, fuel, schedule, &programs) {
         Ok(report) => {
             let refused = tasks_cut_short(&report);
-            told(write_tasks(alloc, sink, entries, &report, names), refused)
+            told(write_tasks(alloc, sink, &entries, &report, names), refused)
         }
         Err(AllocError) => Err(WriteAll::NoMemory),
     }

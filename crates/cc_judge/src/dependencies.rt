@@ -288,7 +288,7 @@ pub fn find_dependencies(
 {
     let present = read_present(alloc, texts, last)?;
     let Readings { readings, judged } = present;
-    let graph = graph_again(alloc, texts, readings.as_slice(), &last.graph)?;
+    let graph = graph_again(alloc, texts, readings.as_slice(), last)?;
     let schedule = schedule(alloc, texts, readings.as_slice(), &graph.graph)?;
     Ok(Dependencies {
         readings,

@@ -10,6 +10,7 @@ ghost use Rattle.cc_judge.specs.KnownGraphs.{entries_of};
 use crate::dependencies::{import_graph, sources_of};
 use crate::grounds::SharedText;
 use crate::importing::{Importing, KnownGraph};
+use crate::last::Last;
 use crate::reading::ReadText;
 use cc_base::literal::Import;
 use cc_base::name::Name;
@@ -145,20 +146,20 @@ fn is_of(known: &KnownGraph, texts: &[(Name, SharedText)], readings: &[ReadText]
     are_modules(known.modules.as_slice(), texts, readings)
 }
 
-/// The import graph of the texts, which were read: the one that is known, if it is theirs.
+/// The import graph of the texts, which were read: the one of the last judgements, if it is theirs.
 ///
 /// Fails only for want of memory.
-pub(crate) fn graph_again(
+pub fn graph_again(
     alloc: Global,
     texts: &[(Name, SharedText)],
     readings: &[ReadText],
-    known: &Option<Rc<KnownGraph>>,
+    last: &Last,
 ) -> Result<Rc<KnownGraph>, AllocError>
     requires present { ArePresent texts.now }
     requires read { AreRead texts.now readings.now }
     ensures { IfOk result (λ known. known.value.graph ≡ graph_of texts.now) }
 {
-    match known {
+    match &last.graph {
         Some(graph) => {
             if is_of(graph, texts, readings) {
                 Ok(graph.clone()?)

@@ -9,7 +9,7 @@ pub mod findings;
 pub mod grounds;
 pub mod importing;
 pub mod judging;
-mod known_graph;
+pub mod known_graph;
 pub mod last;
 pub mod names;
 mod plans;

@@ -28,8 +28,9 @@ use cc_base::device::DeviceDecl;
 use cc_base::literal::Import;
 use cc_base::name::Name;
 use cc_graph::imports::ImportGraph;
-use cc_judge::dependencies::{import_graph, read_texts};
+use cc_judge::dependencies::read_texts;
 use cc_judge::grounds::SharedText;
+use cc_judge::known_graph::graph_again;
 use cc_judge::last::Last;
 use cc_judge::names::place_of_text;
 use cc_judge::reading::ReadText;
@@ -178,14 +179,14 @@ pub(crate) fn entry_modules(
     ensures { IfOk result (λ modules. AreReachedModules texts.now verdicts.now from.now modules.items) }
 {
     let readings = read_texts(alloc, texts, last)?;
-    let graph = import_graph(alloc, texts, readings.as_slice())?;
-    let names = graph.order(alloc)?;
+    let known = graph_again(alloc, texts, readings.as_slice(), last)?;
+    let names = known.graph.order(alloc)?;
     reached_modules(
         alloc,
         texts,
         readings.as_slice(),
         verdicts,
-        &graph,
+        &known.graph,
         from,
         names.as_slice(),
     )

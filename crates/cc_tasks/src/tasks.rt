@@ -24,8 +24,8 @@ pub struct TaskReport<'a> {
 }
 
 // The tasks of the programs at their starts.
-fn load<'a>(alloc: Global, programs: &'a [Program]) -> Result<Vec<Task<'a>>, AllocError>
-    ensures { IfOk result (λ tasks. map holds tasks.items ≡ map begins programs.now) }
+fn load<'a>(alloc: Global, programs: &[&'a Program]) -> Result<Vec<Task<'a>>, AllocError>
+    ensures { IfOk result (λ tasks. map holds tasks.items ≡ map begins (map (λ program. program.now) programs.now)) }
 {
     let mut tasks = Vec::new(alloc);
     for program in programs {
@@ -103,18 +103,18 @@ fn ends_of<'a>(alloc: Global, tasks: &[Task<'a>]) -> Result<Vec<(End<'a>, u32)>,
 /// Fails only for want of memory.
 pub fn run_tasks<'a>(
     alloc: Global,
-    programs: &'a [Program],
+    programs: &[&'a Program],
     devices: &mut Devices,
     schedule: &[u32],
     fuel: u32,
 ) -> Result<TaskReport<'a>, AllocError>
-    requires positions { AllByRecursion (λ program. length (start_of program).store + fuel < 4294967296) programs.now }
-    requires fits { AllByRecursion (λ program. HasShapesOfCells (start_of program).store devices.old) programs.now }
-    ensures report { IfOk result (λ report. told_by report ≡ report_of (interleave fuel schedule.now (world_in programs.now devices.old))) }
-    ensures last { IfOk result (λ _. devices.new ≡ (interleave fuel schedule.now (world_in programs.now devices.old)).last.devices) }
+    requires positions { AllByRecursion (λ program. length (start_of program).store + fuel < 4294967296) (map (λ program. program.now) programs.now) }
+    requires fits { AllByRecursion (λ program. HasShapesOfCells (start_of program).store devices.old) (map (λ program. program.now) programs.now) }
+    ensures report { IfOk result (λ report. told_by report ≡ report_of (interleave fuel schedule.now (world_in (map (λ program. program.now) programs.now) devices.old))) }
+    ensures last { IfOk result (λ _. devices.new ≡ (interleave fuel schedule.now (world_in (map (λ program. program.now) programs.now) devices.old)).last.devices) }
     ensures shapes { KeepsShapes devices.old devices.new }
-    ensures promises { IfOk result (λ report. RunsEntries programs.now devices.old schedule.now fuel (told_by report)) }
-    ensures soundly { OnOk result (∥ RunsSoundly fuel schedule.now (world_in programs.now devices.old) ∥₁) }
+    ensures promises { IfOk result (λ report. RunsEntries (map (λ program. program.now) programs.now) devices.old schedule.now fuel (told_by report)) }
+    ensures soundly { OnOk result (∥ RunsSoundly fuel schedule.now (world_in (map (λ program. program.now) programs.now) devices.old) ∥₁) }
 {
     let mut tasks = load(alloc, programs)?;
     let mut order = Vec::new(alloc);

@@ -8,6 +8,7 @@ use Rattle.cc_answers.proofs.commands.answer_all.Goals as goal
 pub loop-command-init : goal.loop-command-init
 loop-command-init g c = record {
   stands = stands_first c.args.session.now c.args.first.now (asked c.args.commands.now) (g.K.Sink.written c.args.sink.now) c.args.steps.now c.requires.present;
+  kept = c.nothing-kept.ensures c.args.session.now.devices c.args.session.now.present;
   no_fault = refl;
 }
 
@@ -31,6 +32,7 @@ loop-command-preserved g c =
           loop.command-index c.command-item.result (g.K.Sink.written loop.sink) loop.steps loop.refused loop.invariant.stands c.loop-command-test.true
           c.command-item.is c.answer.new.session (g.K.Sink.written c.answer.new.sink) c.answer.new.steps c.policy_after-policy.result.now c.in_ok-later.later c.policy_after-policy.ensures c.in_ok-later.ensures.replied
           c.in_ok-later.ensures.changes c.in_ok-later.ensures.judges c.either-refused.result c.either-refused.ensures;
+      kept = c.answer.ensures.kept;
       no_fault = c.in_ok-later.ensures.cause ∙ loop.invariant.no_fault;
     }
 

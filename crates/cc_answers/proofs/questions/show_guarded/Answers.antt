@@ -1,4 +1,4 @@
-use Rattle.std.proofs.Common.{[], Err, refl, sym, ap, ◌∙◌, subst}
+use Rattle.std.proofs.Common.{[], Ok, Err, refl, sym, ap, ◌∙◌, subst}
 use Rattle.cc_io.specs.Wholes.{WritesWhole}
 use Rattle.cc_device.specs.Declarations.{declared_bases}
 use Rattle.cc_mnf.specs.ElaboratedModules.{device_names}
@@ -8,6 +8,8 @@ use Rattle.cc_replies.specs.PolicyReplies.{guard_told}
 use Rattle.cc_replies.specs.ReplyTexts.{GuardRefused, reply_text, is_refusal}
 use Rattle.cc_session.specs.Entries.{entry_of}
 use Rattle.cc_session.specs.EntryAnswers.{IsAnswered}
+use Rattle.cc_answers.specs.LinkedPrograms.{IsProgramOf}
+use Rattle.cc_answers.specs.declared.linked.LinkedEntry.{LinkedEntry}
 use Rattle.cc_answers.proofs.CommandFacts.{replied_nothing}
 use Rattle.cc_answers.proofs.QuestionReplies.{guard_shown, guard_not_shown}
 use Rattle.cc_answers.proofs.questions.show_guarded.Goals as goal
@@ -16,22 +18,32 @@ pub tell_guarded-requires-clause-devices : goal.tell_guarded-requires-clause-dev
 tell_guarded-requires-clause-devices g c =
     let session = c.args.session.now in
     let some = present_verdicts_exist session.devices session.present c.requires.differ c.requires.present in
-    (c.in-Ok.ensures some.0 some.1).2.shapes ∙ ap declared_bases (sym c.devices.ensures)
+    let linked = c.deref.result.now in
+    let answered = subst (λ (l : LinkedEntry). IsAnswered session.devices session.present some.0 c.args.module.now c.args.def.now (Ok l.entry)) (sym c.deref.ensures)
+    (c.in-Ok.ensures.answer.answers some.0 some.1) in
+    answered.2.shapes ∙ ap declared_bases (sym c.devices.ensures)
 
 pub tell_guarded-requires-clause-names : goal.tell_guarded-requires-clause-names
 tell_guarded-requires-clause-names g c = c.requires.names.0 ∙ ap device_names (sym c.devices.ensures)
+
+pub tell_guarded-requires-clause-program : goal.tell_guarded-requires-clause-program
+tell_guarded-requires-clause-program g c =
+    subst (λ (l : LinkedEntry). IsProgramOf l.program l.entry) (sym c.deref.ensures) c.in-Ok.ensures.answer.program
 
 pub returns-in-Ok-clause-replied : goal.returns-in-Ok-clause-replied
 returns-in-Ok-clause-replied g c =
     let session = c.args.session.now in
     let some = present_verdicts_exist session.devices session.present c.requires.differ c.requires.present in
+    let linked = c.deref.result.now in
+    let answered = subst (λ (l : LinkedEntry). IsAnswered session.devices session.present some.0 c.args.module.now c.args.def.now (Ok l.entry)) (sym c.deref.ensures)
+    (c.in-Ok.ensures.answer.answers some.0 some.1) in
     let names = c.args.names.now.names.items in
-    let told = guard_told c.devices.result.now c.args.policy.now c.args.module.now c.args.def.now c.args.fuel (entry_of c.in-Ok.entry) in
+    let told = guard_told c.devices.result.now c.args.policy.now c.args.module.now c.args.def.now c.args.fuel (entry_of linked.entry) in
     guard_shown session.devices c.args.policy.now session.present some.0 some.1 (g.K.Sink.written c.args.sink.now) (g.K.Sink.written c.tell_guarded.new.sink)
     c.tell_guarded.result (reply_text names told) (is_refusal told)
     (λ text is. subst (WritesWhole (g.K.Sink.written c.args.sink.now) (g.K.Sink.written c.tell_guarded.new.sink) c.tell_guarded.result) is c.tell_guarded.ensures.written)
-    c.tell_guarded.ensures.refused c.args.module.now c.args.def.now c.args.fuel names c.devices.result.now c.in-Ok.entry c.devices.ensures c.requires.names.0
-    (c.in-Ok.ensures some.0 some.1) refl refl
+    c.tell_guarded.ensures.refused c.args.module.now c.args.def.now c.args.fuel names c.devices.result.now linked.entry c.devices.ensures c.requires.names.0
+    answered refl refl
 
 pub returns-in-Err-Refused-clause-replied : goal.returns-in-Err-Refused-clause-replied
 returns-in-Err-Refused-clause-replied g c =
@@ -41,7 +53,7 @@ returns-in-Err-Refused-clause-replied g c =
     c.write_reply.result c.write_reply.ensures.refused c.args.module.now c.args.def.now c.args.fuel
     c.in-Err-Refused.refused.code
     (subst (λ e. IsAnswered session.devices session.present some.0 c.args.module.now c.args.def.now (Err e)) c.in-Err-Refused.field-0-is
-    (c.in-Err-Refused.ensures some.0 some.1))
+    (c.in-Err-Refused.ensures.answer some.0 some.1))
     (c.write_reply.ensures.written (reply_text [] (GuardRefused c.args.module.now c.args.def.now c.in-Err-Refused.refused.code)) c.guard_refusal.ensures)
 
 pub returns-in-Err-NoMemory-clause-replied : goal.returns-in-Err-NoMemory-clause-replied

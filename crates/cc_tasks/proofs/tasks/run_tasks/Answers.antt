@@ -13,9 +13,9 @@ use Rattle.cc_tasks.proofs.tasks.run_tasks.Goals as goal
 
 pub loop-place-init : goal.loop-place-init
 loop-place-init c = record {
-  stands = stands_at_start c.args.fuel c.args.schedule.now c.extend_from_slice.new.self.items c.args.programs.now c.args.devices.now c.in_ok-tasks.tasks.items (map told_event c.new-trace.result.items)
+  stands = stands_at_start c.args.fuel c.args.schedule.now c.extend_from_slice.new.self.items (map (λ program. program.now) c.args.programs.now) c.args.devices.now c.in_ok-tasks.tasks.items (map told_event c.new-trace.result.items)
       c.in_ok-tasks.ensures (c.in_ok-extend_from_slice.ensures.items ∙ ap (λ xs. xs ++ c.args.schedule.now) c.new-order.ensures.items) (ap (map told_event) c.new-trace.ensures.items);
-  ready = all_begin c.args.devices.now c.args.fuel c.in_ok-tasks.tasks.items c.args.programs.now c.in_ok-tasks.ensures c.requires.positions (omega arith) c.requires.fits;
+  ready = all_begin c.args.devices.now c.args.fuel c.in_ok-tasks.tasks.items (map (λ program. program.now) c.args.programs.now) c.in_ok-tasks.ensures c.requires.positions (omega arith) c.requires.fits;
   shapes = λ number. refl;
 }
 
@@ -24,7 +24,7 @@ take_turn-requires-clause-ready c = all_go_one c.loop-place.devices c.loop-place
 
 pub loop-place-preserved : goal.loop-place-preserved
 loop-place-preserved c =
-    let whole = interleave c.args.fuel c.args.schedule.now (world_in c.args.programs.now c.args.devices.now) in
+    let whole = interleave c.args.fuel c.args.schedule.now (world_in (map (λ program. program.now) c.args.programs.now) c.args.devices.now) in
     let some = c.in-Some.ensures.0 in
     let next : IsNext c.loop-place.tasks.items c.loop-place.order.items c.in-Some.place =
     subst (λ ts. IsNext ts c.loop-place.order.items c.in-Some.place) c.deref.ensures.value
@@ -42,7 +42,7 @@ loop-place-preserved c =
 
 pub returns-clause-report : goal.returns-clause-report
 returns-clause-report c =
-    let whole = interleave c.args.fuel c.args.schedule.now (world_in c.args.programs.now c.args.devices.now) in
+    let whole = interleave c.args.fuel c.args.schedule.now (world_in (map (λ program. program.now) c.args.programs.now) c.args.devices.now) in
     report_told whole c.loop-place.left c.loop-place.order.items c.loop-place.tasks.items c.loop-place.devices (map told_event c.loop-place.trace.items) c.loop-place.invariant.stands
     (λ left.
     subst (λ ts. HaveEnded ts c.loop-place.order.items) c.deref.ensures.value (subst (HaveEnded c.deref.result.now) c.deref-in-loop-place.ensures.value (c.in_default.ensures left)))
@@ -50,19 +50,19 @@ returns-clause-report c =
 
 pub returns-clause-last : goal.returns-clause-last
 returns-clause-last c =
-    let whole = interleave c.args.fuel c.args.schedule.now (world_in c.args.programs.now c.args.devices.now) in
+    let whole = interleave c.args.fuel c.args.schedule.now (world_in (map (λ program. program.now) c.args.programs.now) c.args.devices.now) in
     last_devices whole c.loop-place.left c.loop-place.order.items c.loop-place.tasks.items c.loop-place.devices (map told_event c.loop-place.trace.items) c.loop-place.invariant.stands
     (λ left.
     subst (λ ts. HaveEnded ts c.loop-place.order.items) c.deref.ensures.value (subst (HaveEnded c.deref.result.now) c.deref-in-loop-place.ensures.value (c.in_default.ensures left)))
 
 pub returns-clause-promises : goal.returns-clause-promises
 returns-clause-promises c =
-    let whole = interleave c.args.fuel c.args.schedule.now (world_in c.args.programs.now c.args.devices.now) in
-    runs_entries c.args.programs.now c.args.devices.now c.args.schedule.now c.args.fuel _
+    let whole = interleave c.args.fuel c.args.schedule.now (world_in (map (λ program. program.now) c.args.programs.now) c.args.devices.now) in
+    runs_entries (map (λ program. program.now) c.args.programs.now) c.args.devices.now c.args.schedule.now c.args.fuel _
     (report_told whole c.loop-place.left c.loop-place.order.items c.loop-place.tasks.items c.loop-place.devices (map told_event c.loop-place.trace.items) c.loop-place.invariant.stands
     (λ left.
     subst (λ ts. HaveEnded ts c.loop-place.order.items) c.deref.ensures.value (subst (HaveEnded c.deref.result.now) c.deref-in-loop-place.ensures.value (c.in_default.ensures left)))
     c.in_ok-ends.ends.items c.loop-place.invariant.ready (subst (λ ts. AllZip IsEndOf ts c.in_ok-ends.ends.items) c.deref-2.ensures.value c.in_ok-ends.ensures))
 
 pub returns-clause-soundly : goal.returns-clause-soundly
-returns-clause-soundly c = runs_soundly c.args.programs.now c.args.devices.now c.args.schedule.now c.args.fuel c.requires.fits
+returns-clause-soundly c = runs_soundly (map (λ program. program.now) c.args.programs.now) c.args.devices.now c.args.schedule.now c.args.fuel c.requires.fits

@@ -9,7 +9,7 @@ use Rattle.cc_tasks.proofs.tasks.run_tasks.Given as goal
 
 abbrev pub invariant-loop-place : goal.invariant-loop-place
 invariant-loop-place l = record {
-  stands : StandsAt (interleave l.fuel l.schedule (world_in l.programs l.fn.devices)) l.left l.order.items l.tasks.items l.devices (map told_event l.trace.items);
+  stands : StandsAt (interleave l.fuel l.schedule (world_in (map (λ program. program.now) l.programs) l.fn.devices)) l.left l.order.items l.tasks.items l.devices (map told_event l.trace.items);
   ready : AllByRecursion (CanGoOn l.devices l.left) l.tasks.items;
   shapes : KeepsShapes l.fn.devices l.devices;
 }

@@ -1,0 +1,5 @@
+use Rattle.std.proofs.Common.{◌≡◌, map, take}
+use Rattle.cc_answers.proofs.running.programs_of.Given as goal
+
+abbrev pub invariant-loop-it : goal.invariant-loop-it
+invariant-loop-it l = map (λ one. one.now) l.programs.items ≡ map (λ it. it.value.program) (take l.it-index l.linked)
