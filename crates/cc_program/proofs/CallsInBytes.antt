@@ -19,6 +19,8 @@ use Rattle.cc_replies.specs.Requests.{no_module}
 use Rattle.cc_replies.specs.StaleModules.{AreStale}
 use Rattle.cc_summary.specs.Summaries.{summary_text}
 use Rattle.cc_workload.specs.Workloads.{workload}
+use Rattle.cc_workload_outputs.specs.WorkloadOutputs.{workload_output, WorkloadsEndClean}
+use Rattle.cc_program.proofs.WorkloadOutcomes.{one_output}
 use Rattle.cc_answers.proofs.Answering.{none_present}
 use Rattle.cc_answers.specs.Requests.{requests_of}
 use Rattle.cc_program.proofs.Exact.{fault_is_told}
@@ -367,8 +369,9 @@ faults_in_numbers before after status o =
     )
 
 -- a workload's call that begins and ends so
-module _ (number : ℕ) (held text : List ℕ) (refused : Bool) (sum reads more_reads writes more_writes judged later : ℕ)
-    (left left_later written : Option (List ℕ)) (has : HasOutput (workload number) text refused sum) where
+module _ (clean : WorkloadsEndClean) (number : ℕ) (held : List ℕ) (sum reads more_reads writes more_writes judged later : ℕ)
+    (left left_later written : Option (List ℕ)) (low : 1 ≤ number) (high : number ≤ 200)
+    (stale : AreStale (workload number).devices no_module [] (requests_of (workload number)) sum) where
   abbrev begun : Ends
   begun = ends left reads (Some held) writes judged
 
@@ -376,42 +379,40 @@ module _ (number : ℕ) (held text : List ℕ) (refused : Bool) (sum reads more_
   done = ends left_later more_reads written more_writes later
 
   abbrev summary : List ℕ
-  summary = summary_text number text
+  summary = summary_text number (workload_output number)
 
   few_of : JudgesStale begun done (workload number) → later ≤ judged + sum
   few_of judges =
       subst (λ s. later ≤ judged + s)
-      (stale_is_one (workload number).devices no_module [] (requests_of (workload number)) judges.sum sum none_present judges.stale has.stale)
+      (stale_is_one (workload number).devices no_module [] (requests_of (workload number)) judges.sum sum none_present judges.stale stale)
       judges.few
 
   abbrev WorkloadEnds : ℕ → Type 0
   WorkloadEnds code =
-      (((code ≡ (if refused then 1 else 0)) × (written ≡ Some (held ++ summary)) × (more_writes ≡ writes))
+      (((code ≡ 0) × (written ≡ Some (held ++ summary)) × (more_writes ≡ writes))
       ⊎ (HoldsFront held written summary
       × (((code ≡ 5) × (more_writes ≡ writes)) ⊎ ((code ≡ 4) × (writes < more_writes)))))
       × (later ≤ judged + sum)
 
-  summarized_end : (told : Bool) → IsSummarized begun done number told → WorkloadEnds (if told then 1 else 0)
-  summarized_end told it =
-      let one = outputs_are_unique (workload number).devices no_module (requests_of (workload number)) it.text text told refused none_present
-      it.output has.output in (
-        inl (
-          ap (λ b. if b then 1 else 0) one.1,
-          is_appended held (summary_text number it.text) written it.written ∙ ap (λ t. Some (held ++ summary_text number t)) one.0,
-          it.no_fault,
-        ),
-        few_of it.judges,
-      )
+  summarized_end : IsSummarized begun done number → WorkloadEnds 0
+  summarized_end it = (
+    inl (
+      refl,
+      is_appended held (summary_text number it.text) written it.written
+          ∙ ap (λ t. Some (held ++ summary_text number t)) (one_output clean number low high it.text false it.output).0,
+      it.no_fault,
+    ),
+    few_of it.judges,
+  )
 
   cut_front : IsSummaryCutOff begun done number → HoldsFront held written summary
   cut_front it =
-      let one = outputs_are_unique (workload number).devices no_module (requests_of (workload number)) it.text text it.refused refused none_present
-      it.output has.output in
-      subst (λ t. HoldsFront held written (summary_text number t)) one.0 (holds_front held (summary_text number it.text) written it.written)
+      subst (λ t. HoldsFront held written (summary_text number t)) (one_output clean number low high it.text false it.output).0
+      (holds_front held (summary_text number it.text) written it.written)
 
   workload_ends : (status : Status) → WorkloadOutcome begun done number status → WorkloadEnds (number_of status)
-  workload_ends statuses.Clean o = summarized_end false o
-  workload_ends statuses.Refusals o = summarized_end true o
+  workload_ends statuses.Clean o = summarized_end o
+  workload_ends statuses.Refusals o = absurd o
   workload_ends (statuses.BadJob line) o = absurd o
   workload_ends statuses.ReadFault o = absurd o
   workload_ends statuses.WriteFault o = (inr (cut_front o.cut, inr (refl, o.fault)), few_of o.cut.judges)
@@ -419,14 +420,13 @@ module _ (number : ℕ) (held text : List ℕ) (refused : Bool) (sum reads more_
   workload_ends statuses.BadWords o = absurd o
   workload_ends statuses.TooLong o = absurd o
 
-pub workloads_in_bytes : WorkloadsInBytes
-workloads_in_bytes number held text refused sum reads more_reads writes more_writes judged later left left_later written status output stale o =
-    workload_ends number held text refused sum reads more_reads writes more_writes judged later left left_later written
-    (record { output = output; stale = stale }) status o
+pub workloads_in_bytes : WorkloadsEndClean → WorkloadsInBytes
+workloads_in_bytes clean number held sum reads more_reads writes more_writes judged later left left_later written status low high stale o =
+    workload_ends clean number held sum reads more_reads writes more_writes judged later left left_later written low high stale status o
 
 pub summaries_in_bytes : SummariesInBytes
 unfolding digits encode
-summaries_in_bytes = (refl, refl)
+summaries_in_bytes = (refl, refl, refl)
 
 -- what a call does, where its words ask for this
 module _ (one_thing : WordsAskForOneThing) (source source_later : SourceInMemory) (sink sink_later : SinkInMemory) (judged later : ℕ)

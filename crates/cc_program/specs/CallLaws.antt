@@ -11,6 +11,7 @@ use Rattle.cc_replies.specs.Requests.{no_module}
 use Rattle.cc_replies.specs.StaleModules.{AreStale}
 use Rattle.cc_summary.specs.Summaries.{summary_text}
 use Rattle.cc_workload.specs.Workloads.{workload}
+use Rattle.cc_workload_outputs.specs.WorkloadOutputs.{workload_output}
 use Rattle.cc_answers.specs.Requests.{requests_of}
 use Rattle.cc_program.specs.declared.status.Status.{Status}
 use Rattle.cc_program.specs.Calls.{IsCall}
@@ -101,35 +102,30 @@ FaultsInNumbers =
     → ((before.read_faults < after.read_faults) ↔ (number_of status ≡ 3))
     × ((before.write_faults < after.write_faults) ↔ (number_of status ≡ 4)) × (number_of status ≡ 6 → ⊥)
 
--- A workload. Where no write fails the program ends with 0, or with 1 where a reply is a refusal, and the whole summary of
--- the output stands behind what the sink held; or it ends with 5, and a front of it does. Where one fails it ends with 4,
--- and a front of it does. No more modules were judged than the commands find stale.
+-- A workload. Where no write fails the program ends with 0, and the whole summary of the output stands behind what the
+-- sink held; or it ends with 5, and a front of it does. Where one fails it ends with 4, and a front of it does. No more
+-- modules were judged than the commands find stale.
 abbrev pub WorkloadsInBytes : Type 0
 WorkloadsInBytes =
-    (number : ℕ) (held text : List ℕ) (refused : Bool) (sum reads more_reads writes more_writes judged later : ℕ)
-    (left left_later written : Option (List ℕ)) (status : Status)
-    → IsOutput (workload number).devices no_module (requests_of (workload number)) text refused
+    (number : ℕ) (held : List ℕ) (sum reads more_reads writes more_writes judged later : ℕ)
+    (left left_later written : Option (List ℕ)) (status : Status) → 1 ≤ number → number ≤ 200
     → AreStale (workload number).devices no_module [] (requests_of (workload number)) sum
     → WorkloadOutcome (ends left reads (Some held) writes judged) (ends left_later more_reads written more_writes later)
     number status
-    → (((number_of status ≡ (if refused then 1 else 0)) × (written ≡ Some (held ++ summary_text number text))
+    → (((number_of status ≡ 0) × (written ≡ Some (held ++ summary_text number (workload_output number)))
     × (more_writes ≡ writes))
-    ⊎ (((count : ℕ) × (count ≤ length (summary_text number text))
-    × (written ≡ Some (held ++ take count (summary_text number text))))
+    ⊎ (((count : ℕ) × (count ≤ length (summary_text number (workload_output number)))
+    × (written ≡ Some (held ++ take count (summary_text number (workload_output number)))))
     × (((number_of status ≡ 5) × (more_writes ≡ writes)) ⊎ ((number_of status ≡ 4) × (writes < more_writes)))))
     × (later ≤ judged + sum)
 
--- The summaries of two texts, which are the outputs of the workloads of one module and of two.
+-- the summaries of the outputs of one module, of two, and of the most
 abbrev pub SummariesInBytes : Type 0
 SummariesInBytes =
-    (summary_text 1
-    (codes "put m1\nput app\ncheck\n  app ok\n  m1 ok\nput m1\ncheck\n  app ok\n  m1 ok\n"
-    ++ codes "run app.main\n  authority {out, hits}\n  hits tick 1\n  out print 0\n  done unit after 7 steps\n")
-    ≡ codes "workload 1\nlines 14\nbytes 159\nlast done unit after 7 steps\n")
-    × (summary_text 2
-    (codes "put m1\nput m2\nput app\ncheck\n  app ok\n  m1 ok\n  m2 ok\nput m1\ncheck\n  app ok\n  m1 ok\n  m2 ok\n"
-    ++ codes "run app.main\n  authority {out, hits}\n  hits tick 1\n  out print 2\n  done unit after 12 steps\n")
-    ≡ codes "workload 2\nlines 17\nbytes 183\nlast done unit after 12 steps\n")
+    (summary_text 1 (workload_output 1) ≡ codes "workload 1\nlines 14\nbytes 159\nlast done unit after 7 steps\n")
+    × (summary_text 2 (workload_output 2) ≡ codes "workload 2\nlines 17\nbytes 183\nlast done unit after 12 steps\n")
+    × (summary_text 200 (workload_output 200)
+    ≡ codes "workload 200\nlines 611\nbytes 5619\nlast done unit after 1002 steps\n")
 
 -- The call, with these words, of a source and a sink in memory, which were so before it and behind it, as was the count of
 -- the modules that were judged.

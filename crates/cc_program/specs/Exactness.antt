@@ -82,7 +82,7 @@ OnlyStaleModulesAreJudged = (before after : Ends) (status : Status) → Outcome 
 abbrev pub AWorkloadIsSummarized : Type 0
 AWorkloadIsSummarized = (before after : Ends) (number : ℕ) (status : Status)
     → WorkloadOutcome before after number status → after.write_faults ≡ before.write_faults
-    → ((refused : Bool) × IsSummarized before after number refused × (status ≡ status_of refused))
+    → ((status ≡ statuses.Clean) × IsSummarized before after number)
     ⊎ ((status ≡ statuses.NoMemory) × IsSummaryCutOff before after number)
 
 -- With a workload a write failed exactly where the status says so. No job is bad or too long, and no read fails.

@@ -5,6 +5,7 @@ ghost use Rattle.cc_program.specs.EndingLaws.{TheNameIsNoWord, NoNameIsNoWord, T
 
 use cc_arguments::word_laws::{words_ask_for_one_thing, worked_words};
 use cc_workload::workload_laws::workload_items;
+use cc_workload_outputs::workload_outputs::workloads_end_clean;
 
 /// What a call does that carries out the job of its source, where nothing fails: what is left of the bytes, what was
 /// written, how many modules were judged, and the number with which the program ends.
@@ -21,11 +22,13 @@ pub fn faults_in_bytes()
     ensures numbers { FaultsInNumbers }
 {}
 
-/// What a call does that carries a workload out, and the summaries of two outputs.
+/// What a call does that carries a workload out, and the summaries of three outputs.
 pub fn workloads_in_bytes()
     ensures calls { WorkloadsInBytes }
     ensures summaries { SummariesInBytes }
-{}
+{
+    workloads_end_clean();
+}
 
 /// What the words of a call decide, with a source and a sink in memory: with no word the job of the source is carried out,
 /// with those of a workload the source is left as it was, and with any other words both are.

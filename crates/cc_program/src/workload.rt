@@ -1,6 +1,6 @@
 //! Carrying a workload out, of whose replies the summary alone is written.
 
-ghost use Rattle.std.specs.Prelude.{◌≡◌, ◌-◌, ◌^◌, ◌<◌, ◌≤◌, ℕ, List, Option, Some, IfOk};
+ghost use Rattle.std.specs.Prelude.{◌≡◌, ◌-◌, ◌^◌, ◌<◌, ◌≤◌, ℕ, List, Option, Some};
 ghost use Rattle.cc_io.specs.Wholes.{WriteAllCause, WritesWhole};
 ghost use Rattle.cc_summary.specs.Summaries.{summary_text};
 ghost use Rattle.cc_program.specs.Outcome.{ends};
@@ -13,33 +13,30 @@ use cc_io::{Sink, WriteAll, write_all};
 use cc_summary::counting::CountingSink;
 use cc_workload::workload::workload;
 use cc_workload::workload_laws::workload_items;
+use cc_workload_outputs::workload_outputs::workloads_end_clean;
 use std::alloc::{AllocError, Global};
 use std::sync::ledger::Ledger;
 
-// Writes the summary of what the sink that counts was given, and tells whether a reply in it is a refusal, as it is told.
+// Writes the summary of what the sink that counts was given.
 fn write_summary<K: Sink>(
     alloc: Global,
     number: u32,
     counting: &CountingSink,
-    refused: bool,
     sink: &mut K,
-) -> Result<bool, WriteAll>
+) -> Result<(), WriteAll>
     requires { K.faults sink.old < 2 ^ 64 - 1 }
     ensures written { (text : List ℕ) → Some text ≡ ⟦<CountingSink as Sink>⟧.written counting.now
         → WritesWhole (K.written sink.old) (K.written sink.new) result (summary_text number text) }
-    ensures refused { IfOk result (λ answer. answer ≡ refused) }
     ensures cause { WriteAllCause (K.faults sink.old) (K.faults sink.new) result }
 {
     match counting.summary(alloc, number) {
-        Ok(summary) => {
-            write_all(sink, summary.as_slice())?;
-            Ok(refused)
-        }
+        Ok(summary) => write_all(sink, summary.as_slice()),
         Err(AllocError) => Err(WriteAll::NoMemory),
     }
 }
 
-/// Carries out the job of the workload with the number, into a sink that writes nothing, and writes the summary.
+/// Carries out the job of the workload with the number, into a sink that writes nothing, and writes the summary. None of its
+/// replies tells of a refusal.
 pub fn summarize<K: Sink, L: Ledger>(
     alloc: Global,
     number: u32,
@@ -54,18 +51,18 @@ pub fn summarize<K: Sink, L: Ledger>(
         number result }
 {
     workload_items();
+    workloads_end_clean();
     let job = match workload(alloc, number) {
         Ok(job) => job,
         Err(AllocError) => return Status::NoMemory,
     };
     let mut counting = CountingSink::new(alloc);
-    let refused = match carry_out(alloc, job, &mut counting, steps) {
-        Ok(refused) => refused,
+    match carry_out(alloc, job, &mut counting, steps) {
+        Ok(_) => {}
         Err(_) => return Status::NoMemory,
-    };
-    match write_summary(alloc, number, &counting, refused, sink) {
-        Ok(false) => Status::Clean,
-        Ok(true) => Status::Refusals,
+    }
+    match write_summary(alloc, number, &counting, sink) {
+        Ok(()) => Status::Clean,
         Err(WriteAll::WriteFault) => Status::WriteFault,
         Err(WriteAll::NoMemory) => Status::NoMemory,
     }

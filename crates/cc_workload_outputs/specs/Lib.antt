@@ -1,0 +1,4 @@
+pub mod PresentNames
+pub mod WorkloadLines
+pub mod WorkedOutputs
+pub mod WorkloadOutputs
