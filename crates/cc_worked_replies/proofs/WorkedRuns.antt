@@ -182,3 +182,15 @@ values_are_shown = record {
   ended_boundary = run_replies console example.values (verdicts_of console example.values) alone (m ∷ []) values_judged m (codes "ended") 9
       (codes "run m.ended" ∷ codes "  authority {}" ∷ codes "  enter 0" ∷ codes "  leave 0" ∷ codes "  done 4 after 5 steps" ∷ []) false refl refl;
 }
+
+pub any_device_judged : AreJudged console_and_counter example.any_device (verdicts_of console_and_counter example.any_device) alone (m ∷ [])
+unfolding reply_computing
+any_device_judged =
+    are_judged console_and_counter 12 example.any_device (verdicts_of console_and_counter example.any_device) alone (m ∷ []) ((refl, tt), (tt, tt)) (tt, tt) refl (refl, tt)
+    (record { steps = refl; whole = refl })
+
+pub cap_gives_each_device : example.CapGivesEachDevice
+unfolding reply_computing
+cap_gives_each_device =
+    run_replies console_and_counter example.any_device (verdicts_of console_and_counter example.any_device) alone (m ∷ []) any_device_judged m main 5
+    (codes "run m.main" ∷ codes "  authority {out, hits}" ∷ codes "  done unit after 1 steps" ∷ []) false refl refl

@@ -173,3 +173,13 @@ pub record ValuesAreShown : Type 0 where
   -- a boundary that ends by an answer of its body
   pub ended_boundary : ValueRuns (codes "ended")
       (codes "  authority {}" ∷ codes "  enter 0" ∷ codes "  leave 0" ∷ codes "  done 4 after 5 steps" ∷ [])
+
+-- a function whose written set is the universal capability
+abbrev pub any_device : Texts
+any_device = one_module (codes "def main: ((u: Unit) -> Unit)^{cap} = fun (u: Unit) => u" ∷ [])
+
+-- It may operate each device.
+abbrev pub CapGivesEachDevice : Type 0
+CapGivesEachDevice =
+    RepliesWith console_and_counter any_device (RunDefinition m main 5)
+    (codes "run m.main" ∷ codes "  authority {out, hits}" ∷ codes "  done unit after 1 steps" ∷ []) false

@@ -50,3 +50,8 @@ pub fn file_and_counter_run()
 pub fn values_are_shown()
     ensures { example.ValuesAreShown }
 {}
+
+/// A function whose written set is the universal capability.
+pub fn cap_gives_each_device()
+    ensures { example.CapGivesEachDevice }
+{}

@@ -136,3 +136,12 @@ linked = record {
   higher_content_of_a_box = refused 9 (codes "def a = box " ++ repeated 98 (codes "(") ++ codes "1" ++ repeated 98 (codes ")") ++ codes " + 2") E04 (place 1 211) refl;
   higher_opened = refused 9 (codes "def a = unbox " ++ repeated 98 (codes "(") ++ codes "1" ++ repeated 98 (codes ")") ++ codes " + 2") E04 (place 1 213) refl;
 }
+
+pub leaves : example.LeafHeights
+unfolding text_computing
+leaves = record {
+  type_variable = accepted 9 (codes "def a = fun [X <: Int] => fun (x: " ++ repeated 97 (codes "(") ++ codes "X" ++ repeated 97 (codes ")") ++ codes ") => 1") (codes "a: [_T0 <: Int] -> (_1: _T0) -> Int" ∷ []) refl;
+  type_variable_of_one_more = refused 9 (codes "def a = fun [X <: Int] => fun (x: " ++ repeated 98 (codes "(") ++ codes "X" ++ repeated 98 (codes ")") ++ codes ") => 1") E04 (place 1 132) refl;
+  greatest = accepted 9 (codes "def a = fun (x: " ++ repeated 98 (codes "(") ++ codes "Any" ++ repeated 98 (codes ")") ++ codes ") => 1") (codes "a: (_0: Any) -> Int" ∷ []) refl;
+  greatest_of_one_more = refused 9 (codes "def a = fun (x: " ++ repeated 99 (codes "(") ++ codes "Any" ++ repeated 99 (codes ")") ++ codes ") => 1") E04 (place 1 115) refl;
+}

@@ -393,3 +393,20 @@ pub record LinkedHeights : Type 0 where
   pub higher_opened : Refuses
       (codes "def a = unbox " ++ repeated 98 (codes "(") ++ codes "1" ++ repeated 98 (codes ")") ++ codes " + 2")
       E04 (place 1 213)
+
+-- The leaves of a type are 1 high: a type variable, and the greatest type.
+pub record LeafHeights : Type 0 where
+  pub type_variable : Accepts
+      (codes "def a = fun [X <: Int] => fun (x: " ++ repeated 97 (codes "(") ++ codes "X" ++ repeated 97 (codes ")")
+      ++ codes ") => 1")
+      (codes "a: [_T0 <: Int] -> (_1: _T0) -> Int" ∷ [])
+  pub type_variable_of_one_more : Refuses
+      (codes "def a = fun [X <: Int] => fun (x: " ++ repeated 98 (codes "(") ++ codes "X" ++ repeated 98 (codes ")")
+      ++ codes ") => 1")
+      E04 (place 1 132)
+  pub greatest : Accepts
+      (codes "def a = fun (x: " ++ repeated 98 (codes "(") ++ codes "Any" ++ repeated 98 (codes ")") ++ codes ") => 1")
+      (codes "a: (_0: Any) -> Int" ∷ [])
+  pub greatest_of_one_more : Refuses
+      (codes "def a = fun (x: " ++ repeated 99 (codes "(") ++ codes "Any" ++ repeated 99 (codes ")") ++ codes ") => 1")
+      E04 (place 1 115)

@@ -15,3 +15,8 @@ pub fn nested()
 pub fn linked()
     ensures { example.LinkedHeights }
 {}
+
+/// The leaves of a type.
+pub fn leaves()
+    ensures { example.LeafHeights }
+{}
