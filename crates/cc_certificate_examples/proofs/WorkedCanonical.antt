@@ -7,6 +7,7 @@ use Rattle.cc_capture.specs.Variables.{same_variable}
 use Rattle.cc_capture.specs.Sets.{contains, same_set, image, flat_image, from_list, union, retain, remove, insert, empty}
 use Rattle.cc_checking.specs.CanonicalDerivations.{shape_derived, form_derived}
 use Rattle.cc_certificate_examples.specs.CanonicalExamples as example
+use Rattle.cc_certificate_examples.specs.WidenedPremises as widened
 use lib.Utf8.{encode}
 
 -- `unfolding nodes_computing` lets `refl` compute nodes with their texts
@@ -88,7 +89,7 @@ canonical_lets = record {
   of_a_greater_type = refl;
 }
 
-pub canonical_operands : example.CanonicalOperands
+pub canonical_operands : widened.CanonicalOperands
 unfolding nodes_computing
 canonical_operands = record {
   application = refl;
@@ -107,7 +108,7 @@ canonical_operands = record {
   operation_of_a_type_variable = refl;
 }
 
-pub canonical_boxes_and_boundaries : example.CanonicalBoxesAndBoundaries
+pub canonical_boxes_and_boundaries : widened.CanonicalBoxesAndBoundaries
 unfolding nodes_computing
 canonical_boxes_and_boundaries = record {
   box = refl;
@@ -120,7 +121,7 @@ canonical_boxes_and_boundaries = record {
   exit_of_a_type_variable = refl;
 }
 
-pub terms_without_a_derivation : example.TermsWithoutADerivation
+pub terms_without_a_derivation : widened.TermsWithoutADerivation
 unfolding nodes_computing
 terms_without_a_derivation = record {
   application_of_a_number = refl;

@@ -9,3 +9,4 @@ pub mod NameExamples
 pub mod PlacedCertificates
 pub mod RuleConditions
 pub mod TypingCertificates
+pub mod WidenedPremises

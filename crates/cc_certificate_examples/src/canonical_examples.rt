@@ -1,5 +1,6 @@
 //! The canonical derivation in each case of its choices, by the lines of its nodes. The functions do nothing.
 ghost use Rattle.cc_certificate_examples.specs.CanonicalExamples as example;
+ghost use Rattle.cc_certificate_examples.specs.WidenedPremises as widened;
 
 /// A set is below another by each of its elements, in their order. An element is a member where it is one, and else
 /// goes by its declared set.
@@ -32,17 +33,17 @@ pub fn canonical_lets()
 /// A head is widened where exposing changes its shape; an operand is widened to the shape that is wanted, and an
 /// argument to the type, also where they are the same.
 pub fn canonical_operands()
-    ensures { example.CanonicalOperands }
+    ensures { widened.CanonicalOperands }
 {}
 
 /// What is put into a box is not widened; what is opened is, and so are the body of a boundary and what it is left
 /// with.
 pub fn canonical_boxes_and_boundaries()
-    ensures { example.CanonicalBoxesAndBoundaries }
+    ensures { widened.CanonicalBoxesAndBoundaries }
 {}
 
 /// Where a head is not of the shape that its construct wants, or a choice has no type, the node is no instance of its
 /// rule.
 pub fn terms_without_a_derivation()
-    ensures { example.TermsWithoutADerivation }
+    ensures { widened.TermsWithoutADerivation }
 {}
