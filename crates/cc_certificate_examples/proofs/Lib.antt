@@ -10,3 +10,4 @@ mod WorkedLines
 mod WorkedNames
 mod WorkedPlaces
 mod WorkedTypings
+mod WorkedTermKinds

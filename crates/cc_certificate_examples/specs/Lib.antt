@@ -8,5 +8,6 @@ pub mod LineFacts
 pub mod NameExamples
 pub mod PlacedCertificates
 pub mod RuleConditions
+pub mod TermKinds
 pub mod TypingCertificates
 pub mod WidenedPremises

@@ -11,4 +11,5 @@ pub mod line_facts;
 pub mod name_examples;
 pub mod placed_certificates;
 pub mod rule_conditions;
+pub mod term_kinds;
 pub mod typing_certificates;

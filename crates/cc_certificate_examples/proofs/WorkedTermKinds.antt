@@ -1,0 +1,63 @@
+-- The kinds of variables in terms, by computation.
+use Rattle.std.proofs.Common.{refl}
+use Rattle.cc_capture.specs.Elements.{element_order, same_element}
+use Rattle.cc_capture.specs.Rising.{placed}
+use Rattle.cc_capture.specs.Variables.{same_variable}
+use Rattle.cc_capture.specs.Sets.{contains, same_set, image, flat_image, from_list, union, retain, remove, insert, empty}
+use Rattle.cc_certificate_examples.specs.TermKinds as example
+
+pub parts_have_kinds : example.PartsHaveKinds
+unfolding same_set contains image flat_image from_list union retain remove insert placed element_order same_element same_variable empty
+parts_have_kinds = record {
+  variable = refl;
+  type_for_a_variable = refl;
+  parameter = refl;
+  type_of_a_parameter = refl;
+  set_of_a_parameter = refl;
+  body_of_a_function = refl;
+  bound = refl;
+  bound_of_a_type_function = refl;
+  body_of_a_type_function = refl;
+  box = refl;
+  content_of_a_box = refl;
+  application = refl;
+  called = refl;
+  argument = refl;
+  type_application = refl;
+  applied_to_a_type = refl;
+  type_argument = refl;
+  unboxing = refl;
+  unboxing_without_a_set = refl;
+  set_of_an_unboxing = refl;
+  opened = refl;
+  opened_without_a_set = refl;
+  bound_by_a_let = refl;
+  type_of_a_let = refl;
+  set_of_a_let = refl;
+  shape_of_a_let = refl;
+  right_side_of_a_let = refl;
+  body_of_a_let = refl;
+  operator = refl;
+  left_operand = refl;
+  right_operand = refl;
+  choice = refl;
+  type_of_a_choice = refl;
+  condition = refl;
+  first_branch = refl;
+  second_branch = refl;
+  repetition = refl;
+  count = refl;
+  repeated = refl;
+  operation = refl;
+  operation_without_an_argument = refl;
+  receiver = refl;
+  operand = refl;
+  boundary = refl;
+  shape_of_a_boundary = refl;
+  body_of_a_boundary = refl;
+  exit = refl;
+  type_of_an_exit = refl;
+  set_of_an_exit = refl;
+  left = refl;
+  left_with = refl;
+}

@@ -1,0 +1,7 @@
+//! The kinds of variables in terms, by example. The function does nothing.
+ghost use Rattle.cc_certificate_examples.specs.TermKinds as example;
+
+/// Each part of a term wants a variable of terms or of types.
+pub fn parts_have_kinds()
+    ensures { example.PartsHaveKinds }
+{}
