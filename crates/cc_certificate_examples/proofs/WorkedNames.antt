@@ -29,6 +29,7 @@ placed_shapes = record {
   exit = refl;
   universal_capability = refl;
   name_in_a_set = refl;
+  hole_in_a_set = refl;
 }
 
 pub placed_claims : example.PlacedClaims
@@ -95,6 +96,30 @@ numbers_of_binders = record {
   in_an_exit = (low, tt, tt, tt, tt);
   greater_in_an_exit = λ h. too_great h.0;
   of_none = tt;
+}
+
+-- no variable is under no binder, and the second one is not under one
+under_none : 0 < 0 → ⊥
+under_none h = absurd (omega (arith, h))
+
+not_second : 1 < 1 → ⊥
+not_second h = absurd (omega (arith, h))
+
+pub binders_around : example.BindersAround
+unfolding from_list insert empty placed element_order image
+binders_around = record {
+  result = (omega arith, tt, tt, omega arith, tt);
+  set_of_a_result = (omega arith, tt, tt, tt, (omega arith, tt));
+  parameter = λ h. under_none h.1;
+  set_of_a_parameter = λ h. under_none h.2.0;
+  second_in_a_result = λ h. not_second h.4.0;
+  result_of_a_type_function = (omega arith, tt, omega arith, tt);
+  set_of_that_result = (omega arith, tt, tt, (omega arith, tt));
+  bound = λ h. under_none h.1;
+  second_in_a_result_of_a_type_function = λ h. not_second h.3.0;
+  content = λ h. under_none h.1.0;
+  exit = λ h. under_none h;
+  second_under_two = (omega arith, tt, tt, (omega arith, tt, tt, tt, (omega arith, tt)), tt);
 }
 
 pub names_in_claims : example.NamesInClaims

@@ -1,4 +1,4 @@
--- The kinds of variables in terms, by computation.
+-- The kinds of variables in terms and shapes, by computation.
 use Rattle.std.proofs.Common.{refl}
 use Rattle.cc_capture.specs.Elements.{element_order, same_element}
 use Rattle.cc_capture.specs.Rising.{placed}
@@ -60,4 +60,38 @@ parts_have_kinds = record {
   set_of_an_exit = refl;
   left = refl;
   left_with = refl;
+}
+
+pub parts_of_shapes_have_kinds : example.PartsOfShapesHaveKinds
+unfolding same_set contains image flat_image from_list union retain remove insert placed element_order same_element same_variable empty
+parts_of_shapes_have_kinds = record {
+  base = refl;
+  any = refl;
+  variable = refl;
+  term_for_a_variable = refl;
+  variable_of_no_entry = refl;
+  index_of_no_binder = refl;
+  function = refl;
+  parameter = refl;
+  set_of_a_parameter = refl;
+  result = refl;
+  set_of_a_result = refl;
+  parameter_in_a_set = refl;
+  parameter_as_a_shape = refl;
+  parameter_in_its_own_set = refl;
+  type_function = refl;
+  bound = refl;
+  result_of_a_type_function = refl;
+  set_of_that_result = refl;
+  type_parameter_as_a_shape = refl;
+  type_parameter_in_a_set = refl;
+  type_parameter_in_its_own_bound = refl;
+  box = refl;
+  content = refl;
+  set_of_a_content = refl;
+  exit = refl;
+  given_by_an_exit = refl;
+  type = refl;
+  shape_of_a_type = refl;
+  set_of_a_type = refl;
 }

@@ -1,6 +1,6 @@
 -- Worked names in claims: where local variables have their positions, which names and numbers may stand, and which
 -- claims have binders.
-use Rattle.std.specs.Prelude.{◌≡◌, ℕ, true, false, [], ◌∷◌}
+use Rattle.std.specs.Prelude.{◌≡◌, ◌<◌, ℕ, true, false, [], ◌∷◌}
 use Rattle.cc_base.specs.declared.literal.Base.TheVariants as bases
 use Rattle.cc_capture.specs.declared.var.Elem.TheVariants.{Var as Variable, Cap, Hole}
 use Rattle.cc_capture.specs.declared.var.Var.TheVariants.{Bound, Free}
@@ -46,6 +46,7 @@ pub record PlacedShapes : Type 0 where
   pub exit : placed_shape 2 (ExitShape (TypeVariable (Bound 0))) ≡ ExitShape (TypeVariable (Free 2))
   pub universal_capability : placed_shape 2 (BoxShape number (single Cap)) ≡ BoxShape number (single Cap)
   pub name_in_a_set : placed_shape 2 (BoxShape number (position 1)) ≡ BoxShape number (position 1)
+  pub hole_in_a_set : placed_shape 2 (BoxShape number (single (Hole 1))) ≡ BoxShape number (single (Hole 1))
 
 -- So it is on both sides of each form of claim.
 pub record PlacedClaims : Type 0 where
@@ -121,6 +122,26 @@ pub record NumbersOfBinders : Type 0 where
   pub greater_in_an_exit : MayStand 4294967296 (ExitShape function) → ⊥
   -- without a binder there is no number
   pub of_none : MayStand 4294967296 number
+
+-- the shape may stand behind two names where a local variable has fewer binders of the shape around it than this
+abbrev pub MayStandUnder : Shape → Type 0
+MayStandUnder shape = IsNamedShape (λ depth number. number < depth) 2 0 shape
+
+-- What a function and a type function give stands under one binder more, in its shape and in its set.
+pub record BindersAround : Type 0 where
+  pub result : MayStandUnder (FunctionShape number empty (TypeVariable (Bound 0)) empty)
+  pub set_of_a_result : MayStandUnder (FunctionShape number empty number (local 0))
+  pub parameter : MayStandUnder (FunctionShape (TypeVariable (Bound 0)) empty number empty) → ⊥
+  pub set_of_a_parameter : MayStandUnder (FunctionShape number (local 0) number empty) → ⊥
+  pub second_in_a_result : MayStandUnder (FunctionShape number empty number (local 1)) → ⊥
+  pub result_of_a_type_function : MayStandUnder (TypeFunctionShape number (TypeVariable (Bound 0)) empty)
+  pub set_of_that_result : MayStandUnder (TypeFunctionShape number number (local 0))
+  pub bound : MayStandUnder (TypeFunctionShape (TypeVariable (Bound 0)) number empty) → ⊥
+  pub second_in_a_result_of_a_type_function : MayStandUnder (TypeFunctionShape number number (local 1)) → ⊥
+  pub content : MayStandUnder (BoxShape number (local 0)) → ⊥
+  pub exit : MayStandUnder (ExitShape (TypeVariable (Bound 0))) → ⊥
+  pub second_under_two : MayStandUnder
+      (FunctionShape number empty (FunctionShape number empty number (local 1)) empty)
 
 -- Both sides of each form of claim are asked.
 pub record NamesInClaims : Type 0 where

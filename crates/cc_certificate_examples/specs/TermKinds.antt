@@ -1,19 +1,22 @@
--- The kinds of variables in terms, by example: each part of a term wants a variable of terms or of types, and a term of a
+-- The kinds of variables in terms and shapes, by example: each part wants a variable of terms or of types, and a term of a
 -- certificate with one of the other kind is no line.
 use Rattle.std.specs.Prelude.{◌≡◌, Bool, true, false, pos, List, [], ◌∷◌, Some, None}
 use Rattle.cc_base.specs.Literals.{NumberLiteral}
+use Rattle.cc_base.specs.declared.literal.Base.TheVariants as bases
 use Rattle.cc_base.specs.declared.literal.Op.TheVariants as operations
 use Rattle.cc_base.specs.declared.literal.Operator.TheVariants as operators
 use Rattle.cc_capture.specs.declared.var.Elem.TheVariants.{Var as Variable}
 use Rattle.cc_capture.specs.declared.var.Var.{Var}
 use Rattle.cc_capture.specs.declared.var.Var.TheVariants.{Bound, Free}
 use Rattle.cc_capture.specs.Sets.{Set, empty}
-use Rattle.cc_core.specs.Shapes.{Shape, TypeVariable}
+use Rattle.cc_core.specs.Shapes.{Shape, BaseShape, AnyShape, TypeVariable, FunctionShape, TypeFunctionShape, BoxShape}
+use Rattle.cc_core.specs.Shapes.{ExitShape, capturing}
 use Rattle.cc_core.specs.Substitution.{single}
 use Rattle.cc_core.specs.Terms.{Absent, Written, Own, Term, VariableTerm, LiteralTerm, FunctionTerm}
 use Rattle.cc_core.specs.Terms.{TypeFunctionTerm, BoxTerm, Application, TypeApplication, Unboxing, Let, Primitive}
 use Rattle.cc_core.specs.Terms.{Conditional, Repetition, Operation, Boundary, Leave}
-use Rattle.cc_core.specs.WellFormed.{Kind, TermKind, TypeKind, is_well_formed_term}
+use Rattle.cc_core.specs.WellFormed.{Kind, TermKind, TypeKind, is_well_formed_shape, is_well_formed_type}
+use Rattle.cc_core.specs.WellFormed.{is_well_formed_term}
 
 -- a variable of terms, and behind it one of types
 abbrev pub kinds : List Kind
@@ -98,3 +101,39 @@ pub record PartsHaveKinds : Type 0 where
   pub set_of_an_exit : Fits (Leave right wrong_set term_name term_name) false
   pub left : Fits (Leave right right_set type_name term_name) false
   pub left_with : Fits (Leave right right_set term_name type_name) false
+
+-- whether each part of the shape is of the kind that its place wants
+abbrev pub ShapeFits : Shape → Bool → Type 0
+ShapeFits shape fits = is_well_formed_shape kinds [] shape ≡ fits
+
+-- each form of a shape with all parts right, and with each of them wrong
+pub record PartsOfShapesHaveKinds : Type 0 where
+  pub base : ShapeFits (BaseShape bases.Int) true
+  pub any : ShapeFits AnyShape true
+  pub variable : ShapeFits right true
+  pub term_for_a_variable : ShapeFits wrong false
+  pub variable_of_no_entry : ShapeFits (TypeVariable (Free 2)) false
+  pub index_of_no_binder : ShapeFits (TypeVariable (Bound 0)) false
+  pub function : ShapeFits (FunctionShape right right_set right right_set) true
+  pub parameter : ShapeFits (FunctionShape wrong right_set right right_set) false
+  pub set_of_a_parameter : ShapeFits (FunctionShape right wrong_set right right_set) false
+  pub result : ShapeFits (FunctionShape right right_set wrong right_set) false
+  pub set_of_a_result : ShapeFits (FunctionShape right right_set right wrong_set) false
+  pub parameter_in_a_set : ShapeFits (FunctionShape right empty right (single (Variable (Bound 0)))) true
+  pub parameter_as_a_shape : ShapeFits (FunctionShape right empty (TypeVariable (Bound 0)) empty) false
+  pub parameter_in_its_own_set : ShapeFits (FunctionShape right (single (Variable (Bound 0))) right empty) false
+  pub type_function : ShapeFits (TypeFunctionShape right right right_set) true
+  pub bound : ShapeFits (TypeFunctionShape wrong right right_set) false
+  pub result_of_a_type_function : ShapeFits (TypeFunctionShape right wrong right_set) false
+  pub set_of_that_result : ShapeFits (TypeFunctionShape right right wrong_set) false
+  pub type_parameter_as_a_shape : ShapeFits (TypeFunctionShape right (TypeVariable (Bound 0)) empty) true
+  pub type_parameter_in_a_set : ShapeFits (TypeFunctionShape right right (single (Variable (Bound 0)))) false
+  pub type_parameter_in_its_own_bound : ShapeFits (TypeFunctionShape (TypeVariable (Bound 0)) right empty) false
+  pub box : ShapeFits (BoxShape right right_set) true
+  pub content : ShapeFits (BoxShape wrong right_set) false
+  pub set_of_a_content : ShapeFits (BoxShape right wrong_set) false
+  pub exit : ShapeFits (ExitShape right) true
+  pub given_by_an_exit : ShapeFits (ExitShape wrong) false
+  pub type : is_well_formed_type kinds [] (capturing right right_set) ≡ true
+  pub shape_of_a_type : is_well_formed_type kinds [] (capturing wrong right_set) ≡ false
+  pub set_of_a_type : is_well_formed_type kinds [] (capturing right wrong_set) ≡ false

@@ -27,6 +27,11 @@ pub fn numbers_of_binders()
     ensures { example.NumbersOfBinders }
 {}
 
+/// What a function and a type function give stands under one binder more, in its shape and in its set.
+pub fn binders_around()
+    ensures { example.BindersAround }
+{}
+
 /// Both sides of each form of claim are asked.
 pub fn names_in_claims()
     ensures { example.NamesInClaims }

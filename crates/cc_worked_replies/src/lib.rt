@@ -12,6 +12,7 @@ pub mod policies;
 pub mod replays;
 pub mod runs;
 pub mod signatures;
+pub mod started_definitions;
 pub mod tasks;
 pub mod texts;
 pub mod written;
