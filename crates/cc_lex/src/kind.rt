@@ -15,7 +15,6 @@ use cc_base::code::{Code, Diag};
 use cc_base::name::{Name, NameError};
 use cc_base::place::Place;
 use std::alloc::{AllocError, Global};
-use std::rc::RcStr;
 
 fn number_of(text: &str) -> Option<i64>
     requires { IsDigits (chars text.now) }
@@ -55,11 +54,11 @@ fn inside(text: &str) -> &str
     &text[1..text.len() - 1]
 }
 
-fn text_kind(alloc: Global, text: &str) -> Result<TokenKind, AllocError>
+fn text_kind(alloc: Global, text: &str, known: &mut Known) -> Result<TokenKind, AllocError>
     requires { IsOfForm forms.Text (chars text.now) }
     ensures { IfOk result (λ kind. lexeme_of kind ≡ TextLexeme (inside (chars text.now))) }
 {
-    let text = RcStr::from_str(alloc, inside(text))?;
+    let text = known.text(alloc, inside(text))?;
     Ok(TokenKind::Text(text))
 }
 
@@ -103,7 +102,7 @@ pub fn kind_of(
             None => Err(LexError::Refused(no_token(at))),
         },
         Form::Word => Ok(known_kind(alloc, text, known)?),
-        Form::Text => Ok(text_kind(alloc, text)?),
+        Form::Text => Ok(text_kind(alloc, text, known)?),
         Form::Symbol(symbol) => Ok(TokenKind::Symbol(symbol)),
     }
 }

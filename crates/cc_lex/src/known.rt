@@ -1,6 +1,7 @@
-//! What words and names of a text were read as, so that one that comes again is not read again.
+//! What words, names and strings of a text were read as, so that one that comes again is not read again.
 
 ghost use Rattle.std.specs.Prelude.{◌≡◌, IfOk, IfSome, None};
+ghost use Rattle.std.specs.Rc.{rc_str_bytes};
 ghost use Rattle.std.specs.Str.{chars};
 ghost use Rattle.cc_lex.specs.Lexemes.{lexeme_of};
 ghost use Rattle.cc_lex.specs.Cutting.{word_of, word_or_name};
@@ -9,6 +10,7 @@ use crate::token::{TokenKind, Word};
 use crate::words::word_text;
 use cc_base::name::Name;
 use std::alloc::{AllocError, Global};
+use std::rc::RcStr;
 
 // So many are remembered of a text, and so many of a text with fewer bytes than the last number. Both are powers of two.
 const COUNT: usize = 256;
@@ -31,10 +33,12 @@ enum Spelling {
     Name(KnownName),
 }
 
-/// Words and names of a text that were read. Letters have one place, which others may take from them.
+/// Words and names of a text that were read, and the string that was read last. Letters have one place, which others may
+/// take from them.
 #[derive(Drop)]
 pub struct Known {
     places: Vec<Option<Spelling>>,
+    last: Option<RcStr>,
 }
 
 // The place of the letters among so many, which is a power of two.
@@ -109,7 +113,7 @@ impl Known {
         for _ in 0..count {
             places.push(None)?;
         }
-        Ok(Known { places })
+        Ok(Known { places, last: None })
     }
 
     /// What the letters are, if that is remembered.
@@ -131,5 +135,20 @@ impl Known {
             self.places[place] = spelling_of(letters, kind)?;
         }
         Ok(())
+    }
+
+    /// What stands in a string. Its text is shared with that of the string that was read last, where they are the same.
+    /// Fails only for want of memory.
+    pub fn text(&mut self, alloc: Global, inside: &str) -> Result<RcStr, AllocError>
+        ensures { IfOk result (λ text. chars (rc_str_bytes text) ≡ chars inside.now) }
+    {
+        if let Some(last) = &self.last {
+            if last.as_str() == inside {
+                return Ok(last.clone()?);
+            }
+        }
+        let text = RcStr::from_str(alloc, inside)?;
+        self.last = Some(text.clone()?);
+        Ok(text)
     }
 }
