@@ -4,6 +4,7 @@
 
 pub mod canonical_examples;
 pub mod certificate_texts;
+pub mod claim_forms;
 pub mod comparison_certificates;
 pub mod height_examples;
 pub mod judging_facts;

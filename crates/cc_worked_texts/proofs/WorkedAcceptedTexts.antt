@@ -12,6 +12,8 @@ signatures = record {
   named_content = accepted 9 (codes "def a = fun (u: Unit) => box (val q = u; q)") (codes "a: (_0: Unit) -> Box[Unit^{_0}]" ∷ []) refl;
   recursion = accepted 9 (codes "def rec f: ((u: Unit) -> Unit)^{out} = fun (u: Unit) => val w = out.print(1); f(u)") (codes "f: ((_0: Unit) -> Unit)^{out}" ∷ []) refl;
   recursive_type_function = accepted 9 (codes "def rec f: [X <: Any] -> Int = fun [X <: Any] => f[X]") (codes "f: [_T0 <: Any] -> Int" ∷ []) refl;
+  type_function_behind_a_parameter = accepted 9 (codes "def a = fun (w: Int) => fun (x: Int) => fun [X <: Any] => x") (codes "a: (_0: Int) -> (_1: Int) -> ([_T2 <: Any] -> Int^{_1})^{_1}" ∷ []) refl;
+  function_behind_both = accepted 9 (codes "def a = fun (x: Int^{cap}) => fun [X <: Any] => fun (y: X) => box x") (codes "a: (_0: Int^{cap}) -> [_T1 <: Any] -> (_2: _T1) -> Box[Int^{_0}]" ∷ []) refl;
   box_of_a_device = accepted 9 (codes "def a = box (out)") (codes "a: Box[Console^{out}]" ∷ []) refl;
 }
 

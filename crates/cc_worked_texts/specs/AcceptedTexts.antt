@@ -14,6 +14,13 @@ pub record Signatures : Type 0 where
       (codes "f: ((_0: Unit) -> Unit)^{out}" ∷ [])
   pub recursive_type_function : Accepts
       (codes "def rec f: [X <: Any] -> Int = fun [X <: Any] => f[X]") (codes "f: [_T0 <: Any] -> Int" ∷ [])
+  -- binders are numbered from the outermost on, whether they are of terms or of types
+  pub type_function_behind_a_parameter : Accepts
+      (codes "def a = fun (w: Int) => fun (x: Int) => fun [X <: Any] => x")
+      (codes "a: (_0: Int) -> (_1: Int) -> ([_T2 <: Any] -> Int^{_1})^{_1}" ∷ [])
+  pub function_behind_both : Accepts
+      (codes "def a = fun (x: Int^{cap}) => fun [X <: Any] => fun (y: X) => box x")
+      (codes "a: (_0: Int^{cap}) -> [_T1 <: Any] -> (_2: _T1) -> Box[Int^{_0}]" ∷ [])
   -- a box of a name in parentheses is a value
   pub box_of_a_device : Accepts (codes "def a = box (out)") (codes "a: Box[Console^{out}]" ∷ [])
 
