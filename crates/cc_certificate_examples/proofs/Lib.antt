@@ -1,6 +1,7 @@
 mod ComputedAnswers
 mod ComputedLines
 mod WorkedCanonical
+mod WorkedClaimForms
 mod WorkedComparisons
 mod WorkedConditions
 mod WorkedHeights

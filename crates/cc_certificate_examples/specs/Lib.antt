@@ -1,5 +1,6 @@
 pub mod CanonicalExamples
 pub mod CertificateTexts
+pub mod ClaimForms
 pub mod ComparisonCertificates
 pub mod FoundTexts
 pub mod HeightExamples

@@ -11,5 +11,6 @@ pub mod WorkedReplies
 pub mod WorkedRuns
 pub mod WorkedShownTexts
 pub mod WorkedSignatures
+pub mod WorkedStartedDefinitions
 pub mod WorkedTasks
 pub mod WorkedOutputs

@@ -8,6 +8,7 @@ pub mod ReplayExamples
 pub mod RunExamples
 pub mod ShownTexts
 pub mod SignatureExamples
+pub mod StartedDefinitions
 pub mod TaskExamples
 pub mod TextReplies
 pub mod WrittenReplies
