@@ -1,11 +1,11 @@
 //! Well-formedness: whether each variable has its binder or its entry, and is of the kind that its place asks for. The
 //! tests take no memory.
 
-ghost use Rattle.std.specs.Prelude.{◌≡◌, ◌&&◌, [], slice_get, option_map};
+ghost use Rattle.std.specs.Prelude.{◌≡◌, ◌+◌, ◌&&◌, [], ◌∷◌, slice_get, option_map, IfSome};
 ghost use Rattle.cc_core.specs.Contexts.{lookup};
 ghost use Rattle.cc_core.specs.WellFormed as plain;
 ghost use Rattle.cc_core.specs.WellFormed.{kinds_of};
-ghost use Rattle.cc_core.specs.Binders.{plain_kind, passed_kinds};
+ghost use Rattle.cc_core.specs.Binders.{plain_kind, passed_kinds, AreLinked};
 ghost use Rattle.cc_core.specs.TermViews.{shape_of, type_of, note_of, form_of, term_of, bind_of, context_of};
 
 use crate::context::{Bind, Ctx};
@@ -48,20 +48,82 @@ enum Kind {
     Shape,
 }
 
-// The binders passed on the way to a place, the innermost first.
+// The binders passed on the way to a place, the innermost first. They are linked as the entries of a context are: the far
+// link of a binder passes over that binder alone, or over as many as two far links of one length behind it and itself. So
+// a binder is added in a fixed time, and found in one that grows with the number of digits of how many there are.
 #[derive(Drop)]
 enum Passed<'a> {
     Nothing,
-    Binder(Kind, &'a Passed<'a>),
+    Binder {
+        kind: Kind,
+        passed: u32,
+        outer: &'a Passed<'a>,
+        far: &'a Passed<'a>,
+    },
 }
 
+// The number with another and one more, if that is a number of 32 bits.
+fn sum_and_one(number: u32, other: u32) -> Option<u32>
+    ensures { IfSome result (λ sum. sum ≡ (1 + number) + other) }
+{
+    number.checked_add(other)?.checked_add(1)
+}
+
+// The binders with one more, the innermost.
+#[inline(always)]
+fn under<'a>(kind: Kind, outer: &'a Passed<'a>) -> Passed<'a>
+    requires { AreLinked outer.now }
+    ensures kinds { passed_kinds result ≡ plain_kind kind ∷ passed_kinds outer.now }
+    ensures linked { AreLinked result }
+{
+    if let Passed::Binder {
+        passed: newer,
+        far: middle,
+        ..
+    } = outer
+    {
+        if let Passed::Binder {
+            passed: older,
+            far,
+            ..
+        } = *middle
+        {
+            if newer == older {
+                if let Some(passed) = sum_and_one(*newer, *older) {
+                    return Passed::Binder {
+                        kind,
+                        passed,
+                        outer,
+                        far: *far,
+                    };
+                }
+            }
+        }
+    }
+    Passed::Binder {
+        kind,
+        passed: 1,
+        outer,
+        far: outer,
+    }
+}
+
+// The kind of the binder at an index, the innermost first.
 fn binder_kind(passed: &Passed, index: u32) -> Option<Kind>
+    requires { AreLinked passed.now }
     ensures { option_map plain_kind result ≡ slice_get (passed_kinds passed.now) index }
 {
     match passed {
         Passed::Nothing => None,
-        Passed::Binder(kind, outer) => {
-            if index == 0 {
+        Passed::Binder {
+            kind,
+            passed,
+            outer,
+            far,
+        } => {
+            if index >= *passed {
+                binder_kind(far, index - *passed)
+            } else if index == 0 {
                 Some(*kind)
             } else {
                 binder_kind(outer, index - 1)
@@ -90,6 +152,7 @@ fn entry_kind(ctx: &Ctx, position: u32) -> Option<Kind>
 }
 
 fn kind_at(ctx: &Ctx, passed: &Passed, variable: Var) -> Option<Kind>
+    requires { AreLinked passed.now }
     ensures { option_map plain_kind result ≡ plain.kind_at (kinds_of (context_of ctx.now)) (passed_kinds passed.now) variable }
 {
     match variable {
@@ -99,6 +162,7 @@ fn kind_at(ctx: &Ctx, passed: &Passed, variable: Var) -> Option<Kind>
 }
 
 fn is_term_variable(ctx: &Ctx, passed: &Passed, variable: Var) -> bool
+    requires { AreLinked passed.now }
     ensures { result ≡ plain.is_term_variable (kinds_of (context_of ctx.now)) (passed_kinds passed.now) variable }
 {
     match kind_at(ctx, passed, variable) {
@@ -109,6 +173,7 @@ fn is_term_variable(ctx: &Ctx, passed: &Passed, variable: Var) -> bool
 }
 
 fn is_type_variable(ctx: &Ctx, passed: &Passed, variable: Var) -> bool
+    requires { AreLinked passed.now }
     ensures { result ≡ plain.is_type_variable (kinds_of (context_of ctx.now)) (passed_kinds passed.now) variable }
 {
     match kind_at(ctx, passed, variable) {
@@ -119,6 +184,7 @@ fn is_type_variable(ctx: &Ctx, passed: &Passed, variable: Var) -> bool
 }
 
 fn is_well_formed_elem(ctx: &Ctx, passed: &Passed, elem: Elem) -> bool
+    requires { AreLinked passed.now }
     ensures { result ≡ plain.is_well_formed_element (kinds_of (context_of ctx.now)) (passed_kinds passed.now) elem }
 {
     match elem {
@@ -129,6 +195,7 @@ fn is_well_formed_elem(ctx: &Ctx, passed: &Passed, elem: Elem) -> bool
 }
 
 fn is_well_formed_set(ctx: &Ctx, passed: &Passed, set: &CapSet) -> bool
+    requires { AreLinked passed.now }
     ensures { result ≡ plain.is_well_formed_set (kinds_of (context_of ctx.now)) (passed_kinds passed.now) set.now }
 {
     for elem in set.iter() {
@@ -141,6 +208,7 @@ fn is_well_formed_set(ctx: &Ctx, passed: &Passed, set: &CapSet) -> bool
 
 #[cycle(well_formed_shapes)]
 fn is_well_formed_type(ctx: &Ctx, passed: &Passed, ty: &Ty) -> bool
+    requires { AreLinked passed.now }
     ensures { result ≡ plain.is_well_formed_type (kinds_of (context_of ctx.now)) (passed_kinds passed.now) (type_of ty.now) }
 {
     is_well_formed_shape(ctx, passed, &ty.shape) && is_well_formed_set(ctx, passed, &ty.set)
@@ -148,6 +216,7 @@ fn is_well_formed_type(ctx: &Ctx, passed: &Passed, ty: &Ty) -> bool
 
 #[cycle(well_formed_shapes)]
 fn is_well_formed_shape(ctx: &Ctx, passed: &Passed, shape: &Shape) -> bool
+    requires { AreLinked passed.now }
     ensures { result ≡ plain.is_well_formed_shape (kinds_of (context_of ctx.now)) (passed_kinds passed.now) (shape_of shape.now) }
 {
     match shape {
@@ -156,18 +225,30 @@ fn is_well_formed_shape(ctx: &Ctx, passed: &Passed, shape: &Shape) -> bool
         Shape::TVar(variable) => is_type_variable(ctx, passed, *variable),
         Shape::Fun(takes, gives) => {
             is_well_formed_type(ctx, passed, takes)
-                && is_well_formed_type(ctx, &Passed::Binder(Kind::Term, &*passed), gives)
+                && is_well_formed_type_under(ctx, Kind::Term, passed, gives)
         }
         Shape::TFun(bound, gives) => {
             is_well_formed_shape(ctx, passed, bound)
-                && is_well_formed_type(ctx, &Passed::Binder(Kind::Shape, &*passed), gives)
+                && is_well_formed_type_under(ctx, Kind::Shape, passed, gives)
         }
         Shape::Boxed(content) => is_well_formed_type(ctx, passed, content),
         Shape::Exit(gives) => is_well_formed_shape(ctx, passed, gives),
     }
 }
 
+// The type, under one binder more. What the calls of a walk keep of a binder stands here alone.
+#[inline(never)]
+#[cycle(well_formed_shapes)]
+fn is_well_formed_type_under(ctx: &Ctx, kind: Kind, passed: &Passed, ty: &Ty) -> bool
+    requires { AreLinked passed.now }
+    ensures { result ≡ plain.is_well_formed_type (kinds_of (context_of ctx.now)) (plain_kind kind ∷ passed_kinds passed.now) (type_of ty.now) }
+{
+    let inner = under(kind, &*passed);
+    is_well_formed_type(ctx, &inner, ty)
+}
+
 fn is_well_formed_note(ctx: &Ctx, passed: &Passed, note: &Note) -> bool
+    requires { AreLinked passed.now }
     ensures { result ≡ plain.is_well_formed_note (kinds_of (context_of ctx.now)) (passed_kinds passed.now) (note_of note.now) }
 {
     match note {
@@ -178,6 +259,7 @@ fn is_well_formed_note(ctx: &Ctx, passed: &Passed, note: &Note) -> bool
 }
 
 fn is_well_formed_optional_set(ctx: &Ctx, passed: &Passed, set: &Option<CapSet>) -> bool
+    requires { AreLinked passed.now }
     ensures { result ≡ plain.is_well_formed_optional_set (kinds_of (context_of ctx.now)) (passed_kinds passed.now) set.now }
 {
     match set {
@@ -187,6 +269,7 @@ fn is_well_formed_optional_set(ctx: &Ctx, passed: &Passed, set: &Option<CapSet>)
 }
 
 fn is_optional_term_variable(ctx: &Ctx, passed: &Passed, variable: Option<Var>) -> bool
+    requires { AreLinked passed.now }
     ensures { result ≡ plain.is_optional_term_variable (kinds_of (context_of ctx.now)) (passed_kinds passed.now) variable }
 {
     match variable {
@@ -196,12 +279,26 @@ fn is_optional_term_variable(ctx: &Ctx, passed: &Passed, variable: Option<Var>) 
 }
 
 fn are_term_variables(ctx: &Ctx, passed: &Passed, first: Var, second: Var) -> bool
+    requires { AreLinked passed.now }
     ensures { result ≡ (plain.is_term_variable (kinds_of (context_of ctx.now)) (passed_kinds passed.now) first && plain.is_term_variable (kinds_of (context_of ctx.now)) (passed_kinds passed.now) second) }
 {
     is_term_variable(ctx, passed, first) && is_term_variable(ctx, passed, second)
 }
 
+// The form, under one binder more. What the calls of a walk keep of a binder stands here alone.
+#[inline(never)]
+#[cycle(well_formed_terms)]
+fn is_well_formed_under(ctx: &Ctx, kind: Kind, passed: &Passed, form: &Form) -> bool
+    requires { AreLinked passed.now }
+    ensures { result ≡ plain.is_well_formed_term (kinds_of (context_of ctx.now)) (plain_kind kind ∷ passed_kinds passed.now) (form_of form.now) }
+{
+    let inner = under(kind, &*passed);
+    is_well_formed_form(ctx, &inner, form)
+}
+
+#[cycle(well_formed_terms)]
 fn is_well_formed_form(ctx: &Ctx, passed: &Passed, form: &Form) -> bool
+    requires { AreLinked passed.now }
     ensures { result ≡ plain.is_well_formed_term (kinds_of (context_of ctx.now)) (passed_kinds passed.now) (form_of form.now) }
 {
     match form {
@@ -209,11 +306,11 @@ fn is_well_formed_form(ctx: &Ctx, passed: &Passed, form: &Form) -> bool
         Form::Lit(_) => true,
         Form::Fun(takes, body) => {
             is_well_formed_type(ctx, passed, takes)
-                && is_well_formed_form(ctx, &Passed::Binder(Kind::Term, &*passed), &body.form)
+                && is_well_formed_under(ctx, Kind::Term, passed, &body.form)
         }
         Form::TFun(bound, body) => {
             is_well_formed_shape(ctx, passed, bound)
-                && is_well_formed_form(ctx, &Passed::Binder(Kind::Shape, &*passed), &body.form)
+                && is_well_formed_under(ctx, Kind::Shape, passed, &body.form)
         }
         Form::Boxed(content) => is_term_variable(ctx, passed, *content),
         Form::App(function, argument) => are_term_variables(ctx, passed, *function, *argument),
@@ -226,7 +323,7 @@ fn is_well_formed_form(ctx: &Ctx, passed: &Passed, form: &Form) -> bool
         Form::Let(note, right, body) => {
             is_well_formed_note(ctx, passed, note)
                 && is_well_formed_form(ctx, passed, &right.form)
-                && is_well_formed_form(ctx, &Passed::Binder(Kind::Term, &*passed), &body.form)
+                && is_well_formed_under(ctx, Kind::Term, passed, &body.form)
         }
         Form::Prim(_, left, right) => are_term_variables(ctx, passed, *left, *right),
         Form::If(note, test, positive, negative) => {
@@ -242,7 +339,7 @@ fn is_well_formed_form(ctx: &Ctx, passed: &Passed, form: &Form) -> bool
         }
         Form::Boundary(gives, body) => {
             is_well_formed_shape(ctx, passed, gives)
-                && is_well_formed_form(ctx, &Passed::Binder(Kind::Term, &*passed), &body.form)
+                && is_well_formed_under(ctx, Kind::Term, passed, &body.form)
         }
         Form::Leave(gives, exit, value) => {
             is_well_formed_type(ctx, passed, gives)
