@@ -1,5 +1,5 @@
 -- What omitted sets are filled with, in the right sides that run, by texts.
-use Rattle.std.specs.Prelude.{◌≡◌, pos, true, codes, List, [], ◌∷◌, map, Option, Some, None}
+use Rattle.std.specs.Prelude.{◌≡◌, ℕ, pos, true, codes, List, [], ◌∷◌, map, Option, Some, None}
 use Rattle.cc_base.specs.Literals.{TruthLiteral, NumberLiteral}
 use Rattle.cc_base.specs.declared.literal.Base.TheVariants as bases
 use Rattle.cc_base.specs.declared.literal.Operator.TheVariants as operators
