@@ -35,9 +35,9 @@ at position = TypeVariable (Free position)
 abbrev pub one_of : ℕ → Set
 one_of position = single (Variable (Free position))
 
--- under no binder each part becomes the part
+-- under no binder each part becomes the part; sets are the same where their lists are
 abbrev pub MarksSet : Set → Set → Type 0
-MarksSet set marked = act_set marking 0 set ≡ marked
+MarksSet set marked = (act_set marking 0 set).list ≡ marked.list
 
 abbrev pub MarksShape : Shape → Shape → Type 0
 MarksShape shape marked = act marking 0 shape ≡ marked

@@ -54,7 +54,7 @@ pub record FilledForms : Type 0 where
       (FunctionTerm integer empty
       (FunctionTerm integer empty
       (FunctionTerm truth empty
-      (Conditional (Written integer (two_of 1 2)) (Bound 0) (VariableTerm (Bound 2)) (VariableTerm (Bound 1))))) ∷ [])
+      (Conditional (Written integer (two_of 2 1)) (Bound 0) (VariableTerm (Bound 2)) (VariableTerm (Bound 1))))) ∷ [])
   pub choice_of_the_first : FillsTo
       (codes "def a = fun (x: Int) => fun (t: Bool) => if [Int^?] t then x else 1")
       (FunctionTerm integer empty
@@ -69,7 +69,7 @@ pub record FilledForms : Type 0 where
       (codes "def a = fun (x: Int) => fun (t: Bool) => if [Int^{t, x}] t then x else 1")
       (FunctionTerm integer empty
       (FunctionTerm truth empty
-      (Conditional (Written integer (two_of 0 1)) (Bound 0) (VariableTerm (Bound 1)) one)) ∷ [])
+      (Conditional (Written integer (two_of 1 0)) (Bound 0) (VariableTerm (Bound 1)) one)) ∷ [])
   pub unboxing : FillsTo
       (codes "def a = fun (x: Int) => fun (b: Box[Int^{x}]) => unbox b")
       (FunctionTerm integer empty
