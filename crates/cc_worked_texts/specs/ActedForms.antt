@@ -1,6 +1,6 @@
 -- What an action does to each form of shapes, notes and terms, by example; and what opening, closing, renaming, filling,
 -- reading and writing do to a variable or an element.
-use Rattle.std.specs.Prelude.{◌≡◌, ℕ, zero, suc, ◌+◌, ◌*◌, pos, [], ◌∷◌, Option, Some, None}
+use Rattle.std.specs.Prelude.{◌≡◌, ℕ, suc, ◌+◌, ◌*◌, pos, Some, None}
 use Rattle.cc_base.specs.Literals.{NumberLiteral}
 use Rattle.cc_base.specs.declared.literal.Base.TheVariants as bases
 use Rattle.cc_base.specs.declared.literal.Op.TheVariants as operations
@@ -11,7 +11,7 @@ use Rattle.cc_capture.specs.declared.var.Elem.TheVariants.{Var as Variable, Cap,
 use Rattle.cc_capture.specs.Sets.{Set, empty, insert}
 use Rattle.cc_core.specs.Reading.{read_variable, written_variable}
 use Rattle.cc_core.specs.Shapes.{Shape, BaseShape, AnyShape, TypeVariable, FunctionShape, TypeFunctionShape, BoxShape}
-use Rattle.cc_core.specs.Shapes.{ExitShape, CapturingType, capturing}
+use Rattle.cc_core.specs.Shapes.{ExitShape, capturing}
 use Rattle.cc_core.specs.Substitution.{single, moved_element, moving, put_variable, closed_variable, renamed_variable}
 use Rattle.cc_core.specs.Substitution.{put_shape, free_shape, filled_element}
 use Rattle.cc_core.specs.Terms.{Note, Absent, Written, Own, Term, VariableTerm, LiteralTerm, FunctionTerm}

@@ -1,6 +1,6 @@
 -- What omitted sets are filled with, in the right sides that run, by texts.
-use Rattle.std.specs.Prelude.{◌≡◌, ℕ, pos, true, codes, List, [], ◌∷◌, map, Option, Some, None}
-use Rattle.cc_base.specs.Literals.{TruthLiteral, NumberLiteral}
+use Rattle.std.specs.Prelude.{◌≡◌, ℕ, pos, codes, List, [], ◌∷◌, map, Some}
+use Rattle.cc_base.specs.Literals.{NumberLiteral}
 use Rattle.cc_base.specs.declared.literal.Base.TheVariants as bases
 use Rattle.cc_base.specs.declared.literal.Operator.TheVariants as operators
 use Rattle.cc_capture.specs.declared.var.Var.TheVariants.{Bound, Free}
@@ -9,7 +9,7 @@ use Rattle.cc_capture.specs.Sets.{Set, empty, insert}
 use Rattle.cc_core.specs.Shapes.{Shape, BaseShape, AnyShape, BoxShape}
 use Rattle.cc_core.specs.Substitution.{single}
 use Rattle.cc_core.specs.Terms.{Absent, Written, Term, VariableTerm, LiteralTerm, FunctionTerm, TypeFunctionTerm}
-use Rattle.cc_core.specs.Terms.{BoxTerm, Application, Unboxing, Let, Primitive, Conditional, Boundary, Leave}
+use Rattle.cc_core.specs.Terms.{Application, Unboxing, Let, Primitive, Conditional, Boundary, Leave}
 use Rattle.cc_verdicts.specs.ModuleVerdicts.{CheckedDefinition, HasModuleVerdict, IsAccepted}
 use Rattle.cc_worked_texts.specs.TextVerdicts.{devices, lines, Accepts}
 

@@ -1,11 +1,11 @@
 -- How tight each form of an expression is, and how tight an operator wants its operands, by numbers.
-use Rattle.std.specs.Prelude.{◌≡◌, ℕ, pos, codes, [], Option, None}
+use Rattle.std.specs.Prelude.{◌≡◌, pos, codes, None}
 use Rattle.cc_base.specs.Literals.{NumberLiteral}
 use Rattle.cc_base.specs.declared.literal.Base.TheVariants as bases
 use Rattle.cc_base.specs.declared.literal.Op.TheVariants as operations
 use Rattle.cc_base.specs.declared.literal.Operator.TheVariants as operators
 use Rattle.cc_base.specs.declared.place.Place.{Place}
-use Rattle.cc_grammar.specs.Grammar.{level, left_level, operator_level}
+use Rattle.cc_grammar.specs.Grammar.{level, left_level}
 use Rattle.cc_grammar.specs.Syntax.{TypeSyntax, CapturingType, AbsentSet, ShapeSyntax, BaseShape, ExprSyntax, NameExpr}
 use Rattle.cc_grammar.specs.Syntax.{LiteralExpr, ParenthesizedExpr, ValExpr, FunExpr, TypeFunExpr, IfExpr, BoundaryExpr}
 use Rattle.cc_grammar.specs.Syntax.{OperatorExpr, BoxExpr, UnboxExpr, CallExpr, TypeCallExpr, AskExpr, TellExpr}

@@ -1,6 +1,6 @@
 -- Modules that stand beside others, by example: what is found for their imports, the import graph, and the context and the
 -- names before a definition.
-use Rattle.std.specs.Prelude.{◌≡◌, ℕ, Bool, true, false, pos, codes, List, [], ◌∷◌, Option, Some, None, Ok, Err}
+use Rattle.std.specs.Prelude.{◌≡◌, ℕ, Bool, true, false, pos, codes, List, [], ◌∷◌, Some, None, Ok, Err}
 use Rattle.std.specs.Prelude.{if◌then◌else◌}
 use Rattle.std.specs.Str.{bytes_eq}
 use Rattle.cc_base.specs.Literals.{NumberLiteral}
