@@ -16,8 +16,9 @@ use Rattle.cc_machine.specs.Environments.{extended, follow}
 use Rattle.cc_machine.specs.Growing.{Enters, Adds, Pops}
 use Rattle.cc_machine.specs.Lines.{GoesAs, Goes}
 use Rattle.cc_machine.specs.Naming.{Names}
-use Rattle.cc_machine.specs.Parts.{cell_in, frame_in, focus_in, store_of, stack_of, configuration_of, cell_environment, focus_environment, AreLinked, IsLinked, HasRoom}
+use Rattle.cc_machine.specs.Parts.{cell_in, frame_in, focus_in, store_of, stack_of, loaded_cells, configuration_of, cell_environment, focus_environment, AreLinked, IsLinked, HasRoom}
 use Rattle.cc_machine.specs.Placing.{body_in}
+use Rattle.cc_machine.specs.Programs.{program_cells}
 use Rattle.cc_machine.specs.Putting.{put_all}
 use Rattle.cc_machine.proofs.Following.{goes_same, Grows, grows_cell, same_parts, entered_goes}
 use Rattle.cc_machine.proofs.Linking.{store-push, stack-push, length-store, linked_front, linked_top, IsLinkedFrame}
@@ -31,11 +32,14 @@ names_value {c} {position} {before} {after} value linked within isv seen adds =
     let grows = grows_cell {c = c} {p = position} {before = before} {after = after} linked within adds in
     let st = (configuration_of before).store in
     let stored : (configuration_of after).store ≡ ValueCell value ∷ st =
-    (λ j. store_of (adds.links j).items (adds.cells j)) ∙ store-push before.links.items before.cells.items c ∙ ap (λ x. x ∷ st) seen in
-    let at : length st ≡ position = length-store before.links.items before.cells.items ∙ sym before.cells.ok.0 ∙ sym adds.newest in
+    (λ j. store_of (program_cells (adds.program j).now) (adds.links j).items (adds.cells j))
+    ∙ store-push (loaded_cells before) before.links.items before.cells.items c ∙ ap (λ x. x ∷ st) seen in
+    let at : length st ≡ position =
+    omega (arith, length-store (loaded_cells before) before.links.items before.cells.items, before.cells.ok.0, adds.newest) in
     record {
       links = adds.links;
       frames = adds.frames;
+      program = adds.program;
       labels = adds.labels;
       linked = grows.linked;
       len = grows.cells_len;
@@ -48,6 +52,7 @@ pub grows_names : {answer : Term} {before after : Parts} {position : ℕ} → Na
 grows_names {answer} {before} {after} {position} names = record {
   linked = names.linked;
   links = names.links;
+  program = names.program;
   cells_len = names.len;
   cells_room = names.capacity;
   frames_len = omega (arith, ap vec_len names.frames);
@@ -92,7 +97,8 @@ module _ {frame : Frame} {before middle : Parts} (linked : IsLinked before) (pop
     links = let h = room.links in omega (arith, ap vec_len pops.links, ap vec_capacity pops.links);
     cells = let h = room.cells in omega (arith, ap vec_len pops.cells, ap vec_capacity pops.cells);
     frames = let h = room.frames in omega (arith, pops.len, pops.capacity);
-    positions = let h = room.positions in omega (arith, ap (λ v. length v.items) pops.cells);
+    positions = let h = room.positions in
+        omega (arith, ap (λ v. length v.items) pops.cells, ap (λ p. length (program_cells p.now)) pops.program);
   }
 
   pub popped_goes : {after : Parts} {event : Option Event}
@@ -102,12 +108,13 @@ module _ {frame : Frame} {before middle : Parts} (linked : IsLinked before) (pop
       let x = step (configuration_of before) in
       let y = term_step (configuration_of middle).store (frame_in middle.links.items frame ∷ (configuration_of middle).stack) middle.labels (configuration_of middle).term in
       let same : x ≡ y =
-      (λ j. term_step (store_of (sym pops.links j).items (sym pops.cells j).items) (stack_of (sym pops.links j).items (pops.frames j)) (sym pops.labels j)
+      (λ j. term_step (store_of (program_cells (sym pops.program j).now) (sym pops.links j).items (sym pops.cells j).items) (stack_of (sym pops.links j).items (pops.frames j)) (sym pops.labels j)
       (focus_in (sym pops.links j).items (sym pops.focus j)))
       ∙ ap (λ k. term_step (configuration_of middle).store k middle.labels (configuration_of middle).term) (stack-push middle.links.items middle.frames.items frame) in
       record {
         linked = goes.linked;
         uses = record {
+          program = goes.uses.program ∙ pops.program;
           cells = let h = goes.uses.cells in omega (arith, ap (λ v. length v.items) pops.cells);
           room = λ steps room. goes.uses.room steps (popped_room (suc steps) room);
         };

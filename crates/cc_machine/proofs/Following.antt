@@ -14,7 +14,8 @@ use Rattle.cc_machine.specs.declared.parts.Parts.{Parts}
 use Rattle.cc_machine.specs.Environments.{extended, follow}
 use Rattle.cc_machine.specs.Growing.{Enters, Adds, Waits}
 use Rattle.cc_machine.specs.Lines.{GoesAs, Goes}
-use Rattle.cc_machine.specs.Parts.{focus_in, store_of, stack_of, configuration_in, configuration_of, cell_environment, frame_environment, focus_environment, frame_begun, frame_wanted, AreLinked, IsLinked, HasRoom, UsesOne}
+use Rattle.cc_machine.specs.Parts.{focus_in, store_of, stack_of, configuration_in, loaded_cells, configuration_of, cell_environment, frame_environment, focus_environment, frame_begun, frame_wanted, AreLinked, IsLinked, HasRoom, UsesOne}
+use Rattle.cc_machine.specs.Programs.{program_cells}
 use Rattle.cc_machine.specs.Putting.{put_all}
 use Rattle.cc_machine.proofs.Linking.{linked_node, linked_cell, linked_frame, entered}
 
@@ -25,6 +26,7 @@ goes_same x y before after event same goes = subst (λ z. Goes z before event af
 -- nothing is done where nothing is said
 pub uses_none : (parts : Parts) → UsesOne parts parts
 uses_none parts = record {
+  program = refl;
   cells = omega arith;
   room = λ n room. record {
     links = let h = room.links in omega arith;
@@ -41,6 +43,7 @@ stays x parts event linked follows = record { linked = linked; uses = uses_none 
 pub record Grows (before middle : Parts) : Type 0 where
   pub linked : AreLinked middle.links.items middle.cells.items middle.frames.items middle.labels
   pub links : middle.links ≡ before.links
+  pub program : middle.program ≡ before.program
   pub cells_len : vec_len middle.cells ≤ vec_len before.cells + 1
   pub cells_room : vec_capacity middle.cells ≡ vec_capacity before.cells
   pub frames_len : vec_len middle.frames ≤ vec_len before.frames + 1
@@ -50,6 +53,7 @@ pub grows_none : {parts : Parts} → IsLinked parts → Grows parts parts
 grows_none {parts} linked = record {
   linked = linked.linked;
   links = refl;
+  program = refl;
   cells_len = omega arith;
   cells_room = refl;
   frames_len = omega arith;
@@ -69,6 +73,7 @@ grows_cell {c} {p} {before} {after} linked within adds = record {
       (ap (λ v. v.items) adds.links) adds.cells (ap (λ v. v.items) adds.frames) adds.labels
       (linked_cell before.links.items before.cells.items before.frames.items before.labels linked.linked c within);
   links = adds.links;
+  program = adds.program;
   cells_len = omega (arith, adds.len);
   cells_room = adds.capacity;
   frames_len = omega (arith, ap vec_len adds.frames);
@@ -84,6 +89,7 @@ grows_frame {f} {before} {middle} {after} grows frames within begun wanted waits
       (linked_frame middle.links.items middle.cells.items middle.frames.items middle.labels grows.linked f
       (omega (arith, within, ap (λ v. length v.items) grows.links)) begun wanted);
   links = waits.links ∙ grows.links;
+  program = waits.program ∙ grows.program;
   cells_len = let h = grows.cells_len in omega (arith, ap vec_len waits.cells);
   cells_room = ap vec_capacity waits.cells ∙ grows.cells_room;
   frames_len = omega (arith, waits.len, ap vec_len frames);
@@ -94,7 +100,8 @@ grows_frame {f} {before} {middle} {after} grows frames within begun wanted waits
 room_left : {before middle : Parts} (n : ℕ) → Grows before middle → HasRoom before (suc n) → (links : ℕ) → links ≡ vec_len middle.links + 1
     → (capacity : ℕ) → capacity ≡ vec_capacity middle.links
     → (links + n ≤ capacity) × (vec_len middle.cells + n ≤ vec_capacity middle.cells)
-    × (vec_len middle.frames + n ≤ vec_capacity middle.frames) × (length middle.cells.items + n < 2 ^ 32)
+    × (vec_len middle.frames + n ≤ vec_capacity middle.frames)
+    × (length (loaded_cells middle) + length middle.cells.items + n < 2 ^ 32)
 room_left {before} {middle} n grows room links l capacity k =
     let a = room.links in
     let b = room.cells in
@@ -105,13 +112,13 @@ room_left {before} {middle} n grows room links l capacity k =
       omega (arith, ap vec_len grows.links, ap vec_capacity grows.links),
       omega (arith, grows.cells_room),
       omega (arith, grows.frames_room),
-      omega (arith, before.cells.ok.0, middle.cells.ok.0),
+      omega (arith, before.cells.ok.0, middle.cells.ok.0, ap (λ p. length (program_cells p.now)) grows.program),
     )
 
 -- the body of a binder is run next, after growth
 pub entered_goes : {x : StepOutcome} {before middle after : Parts} {event : Option Event} {body : Bor Node} {environment : ℕ} {position : Option ℕ}
     → Grows before middle → environment ≤ length before.links.items → Enters body environment position middle after
-    → GoesAs x event (configured (store_of middle.links.items middle.cells.items) (stack_of middle.links.items middle.frames.items) middle.labels
+    → GoesAs x event (configured (store_of (loaded_cells middle) middle.links.items middle.cells.items) (stack_of middle.links.items middle.frames.items) middle.labels
     (put_all (extended position (follow middle.links.items environment)) (term_of body.now)))
     → Goes x before event after
 entered_goes {x} {before} {middle} {after} {event} {body} {environment} {position} grows below enters goes =
@@ -127,6 +134,7 @@ entered_goes {x} {before} {middle} {after} {event} {body} {environment} {positio
         focus = subst (λ f. focus_environment f ≤ length after.links.items) (sym enters.focus) (omega (arith, at, more, ap length enters.links));
       };
       uses = record {
+        program = enters.program ∙ grows.program;
         cells = omega (arith, grows.cells_len, before.cells.ok.0, middle.cells.ok.0, ap (λ v. length v.items) enters.cells);
         room = λ n room.
             let left = room_left n grows room (vec_len after.links) enters.len (vec_capacity after.links) enters.capacity in
@@ -134,31 +142,32 @@ entered_goes {x} {before} {middle} {after} {event} {body} {environment} {positio
               links = left.0;
               cells = omega (arith, left.1, ap vec_len enters.cells, ap vec_capacity enters.cells);
               frames = omega (arith, left.2, ap vec_len enters.frames, ap vec_capacity enters.frames);
-              positions = omega (arith, left.3, ap (λ v. length v.items) enters.cells);
+              positions = omega (arith, left.3, ap (λ v. length v.items) enters.cells, ap (λ p. length (program_cells p.now)) enters.program);
             };
       };
       follows = subst (GoesAs x event)
           (sym (
-          (λ j. configuration_in (enters.links j) (enters.cells j).items (enters.frames j).items (enters.labels j)
+          (λ j. configuration_in (program_cells (enters.program j).now) (enters.links j) (enters.cells j).items (enters.frames j).items (enters.labels j)
           ((enters.focus ∙ ap (focuses.Code body) at) j))
-          ∙ entered middle.links.items middle.cells.items middle.frames.items middle.labels grows.linked link within body))
+          ∙ entered (loaded_cells middle) middle.links.items middle.cells.items middle.frames.items middle.labels grows.linked link within body))
           goes;
     }
 
 -- the focus is set after growth
 pub shown_goes : {x : StepOutcome} {before middle : Parts} {event : Option Event} (after : Parts) → Grows before middle
-    → after.links ≡ middle.links → after.cells ≡ middle.cells → after.frames ≡ middle.frames → after.labels ≡ middle.labels
+    → after.program ≡ middle.program → after.links ≡ middle.links → after.cells ≡ middle.cells → after.frames ≡ middle.frames → after.labels ≡ middle.labels
     → focus_environment after.focus ≤ length before.links.items
-    → GoesAs x event (configured (store_of middle.links.items middle.cells.items) (stack_of middle.links.items middle.frames.items) middle.labels
+    → GoesAs x event (configured (store_of (loaded_cells middle) middle.links.items middle.cells.items) (stack_of middle.links.items middle.frames.items) middle.labels
     (focus_in middle.links.items after.focus))
     → Goes x before event after
-shown_goes {x} {before} {middle} {event} after grows links cells frames labels below goes = record {
+shown_goes {x} {before} {middle} {event} after grows program links cells frames labels below goes = record {
   linked = record {
     linked = same_parts after.links.items middle.links.items after.cells.items middle.cells.items after.frames.items middle.frames.items after.labels middle.labels
         (ap (λ v. v.items) links) (ap (λ v. v.items) cells) (ap (λ v. v.items) frames) labels grows.linked;
     focus = omega (arith, below, ap (λ v. length v.items) links, ap (λ v. length v.items) grows.links);
   };
   uses = record {
+    program = program ∙ grows.program;
     cells = omega (arith, grows.cells_len, before.cells.ok.0, middle.cells.ok.0, ap (λ v. length v.items) cells);
     room = λ n room.
         let left = room_left n grows room (vec_len middle.links + 1) refl (vec_capacity middle.links) refl in
@@ -166,10 +175,10 @@ shown_goes {x} {before} {middle} {event} after grows links cells frames labels b
           links = omega (arith, left.0, ap vec_len links, ap vec_capacity links);
           cells = omega (arith, left.1, ap vec_len cells, ap vec_capacity cells);
           frames = omega (arith, left.2, ap vec_len frames, ap vec_capacity frames);
-          positions = omega (arith, left.3, ap (λ v. length v.items) cells);
+          positions = omega (arith, left.3, ap (λ v. length v.items) cells, ap (λ p. length (program_cells p.now)) program);
         };
   };
   follows = subst (GoesAs x event)
-      (sym (λ j. configured (store_of (links j).items (cells j).items) (stack_of (links j).items (frames j).items) (labels j) (focus_in (links j).items after.focus)))
+      (sym (λ j. configured (store_of (program_cells (program j).now) (links j).items (cells j).items) (stack_of (links j).items (frames j).items) (labels j) (focus_in (links j).items after.focus)))
       goes;
 }

@@ -10,6 +10,7 @@ use Rattle.cc_runs.proofs.DeviceTable.{moves_keep_the_devices}
 use Rattle.cc_machine.specs.declared.parts.Parts.{Parts}
 use Rattle.cc_machine.specs.Lines.{GoesWith, MovesAs, state_in}
 use Rattle.cc_machine.specs.Parts.{store_of, stack_of, focus_in, focus_environment, configuration_of, IsLinked, HasRoom, UsesOne}
+use Rattle.cc_machine.specs.Programs.{program_cells}
 use Rattle.cc_machine.specs.Reserving.{HoldsTheSame}
 use Rattle.cc_machine.proofs.Following.{same_parts}
 use Rattle.cc_machine.proofs.StandingLemmas.{moves_exactly, steps_alike, stands_next, fits_next}
@@ -24,7 +25,7 @@ module _ {before after : Parts} (same : HoldsTheSame before after) where
   pub same_held : configuration_of after ≡ configuration_of before
   same_held = λ j.
       record {
-        store = store_of (same.links j) (same.cells j);
+        store = store_of (program_cells (same.program j).now) (same.links j) (same.cells j);
         stack = stack_of (same.links j) (same.frames j);
         labels_made = same.labels j;
         term = focus_in (same.links j) (same.focus j);

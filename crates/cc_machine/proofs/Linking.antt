@@ -1,14 +1,13 @@
 -- The parts of a machine as they grow: nodes, cells and frames are added at the end of their lists.
 use denote.Bor.{Bor}
 use mathlib.Core.List.{reverse_aux}
-use Rattle.std.proofs.Common.{◌≡◌, ℕ, zero, suc, ◌+◌, ◌-◌, ◌<◌, ◌≤◌, ◌^◌, List, [], ◌∷◌, ◌++◌, map, reverse, length, Option, Some, None, option_map, refl, sym, ap, ◌∙◌, subst, arith}
+use Rattle.std.proofs.Common.{◌≡◌, ℕ, zero, suc, ◌+◌, ◌<◌, ◌≤◌, ◌^◌, List, [], ◌∷◌, ◌++◌, map, reverse, length, Option, Some, None, option_map, refl, sym, ap, ◌∙◌, subst, arith}
 use Rattle.std.specs.List.{slice_get}
-use Rattle.std.proofs.lemmas.List.{map-append, reverse-append, length-reverse, length-append}
-use Rattle.cc_capture.specs.declared.var.Var.{Var}
-use Rattle.cc_capture.specs.declared.var.Var.TheVariants.{Bound, Free}
+use Rattle.std.proofs.lemmas.Grind.{reverse_onto}
+use Rattle.std.proofs.lemmas.List.{map-append, reverse-append, length-reverse, length-append, append-nil}
 use Rattle.cc_core.specs.declared.terms.Node.{Node}
 use Rattle.cc_core.specs.Contexts.{lookup}
-use Rattle.cc_core.specs.Stores.{ValueCell, cell_at}
+use Rattle.cc_core.specs.Stores.{ValueCell, Store}
 use Rattle.cc_core.specs.TermViews.{term_of}
 use Rattle.cc_core.proofs.Lookups.{length_map, lookup-newest, lookup-other, slice_get-last}
 use Rattle.cc_core.proofs.IndexedLookups.{lookup-past}
@@ -20,10 +19,8 @@ use Rattle.cc_machine.specs.declared.parts.Frame.{Frame}
 use Rattle.cc_machine.specs.declared.parts.Frame.TheVariants as frame_forms
 use Rattle.cc_machine.specs.declared.parts.Focus.TheVariants as focuses
 use Rattle.cc_machine.specs.Environments.{extended, link_position, link_before, follow}
-use Rattle.cc_machine.specs.Finding.{held_by, held_at}
-use Rattle.cc_machine.specs.Operands.{free_position}
 use Rattle.cc_machine.specs.Parts.{cell_in, frame_in, store_of, stack_of, configuration_in, cell_environment, frame_environment, frame_begun, frame_wanted, AreLinked}
-use Rattle.cc_machine.specs.Putting.{put_all, put_body, resolved}
+use Rattle.cc_machine.specs.Putting.{put_all, put_body}
 
 -- what stands at an index of a list with one element more
 pub slice_get-before : {A : Type 0} (xs : List A) (y : A) (i : ℕ) → i < length xs → slice_get (xs ++ y ∷ []) i ≡ slice_get xs i
@@ -102,25 +99,28 @@ module _ (links : List Link) (l : Link) (older : (at : ℕ) → link_before (sli
   frames-more [] h = refl
   frames-more (f ∷ fs) h = λ j. frame_in-more f (h zero) j ∷ frames-more fs (λ at. h (suc at)) j
 
-  pub store-more : (cs : List Cell) → ((at : ℕ) → cell_environment (slice_get cs at) ≤ length links)
-      → store_of (links ++ l ∷ []) cs ≡ store_of links cs
-  store-more cs h = ap reverse (cells-more cs h)
+  pub store-more : (base : Store) (cs : List Cell) → ((at : ℕ) → cell_environment (slice_get cs at) ≤ length links)
+      → store_of base (links ++ l ∷ []) cs ≡ store_of base links cs
+  store-more base cs h = ap (λ xs. reverse xs ++ base) (cells-more cs h)
 
   pub stack-more : (fs : List Frame) → ((at : ℕ) → frame_environment (slice_get fs at) ≤ length links)
       → stack_of (links ++ l ∷ []) fs ≡ stack_of links fs
   stack-more fs h = ap reverse (frames-more fs h)
 
 -- what is added stands first in the store and on the stack
-pub store-push : (links : List Link) (cs : List Cell) (c : Cell) → store_of links (cs ++ c ∷ []) ≡ cell_in links c ∷ store_of links cs
-store-push links cs c =
-    ap reverse (map-append (cell_in links) cs (c ∷ [])) ∙ reverse-append (map (cell_in links) cs) (cell_in links c ∷ [])
+pub store-push : (base : Store) (links : List Link) (cs : List Cell) (c : Cell)
+    → store_of base links (cs ++ c ∷ []) ≡ cell_in links c ∷ store_of base links cs
+store-push base links cs c =
+    ap (λ xs. xs ++ base)
+    (ap reverse (map-append (cell_in links) cs (c ∷ [])) ∙ reverse-append (map (cell_in links) cs) (cell_in links c ∷ []))
 
 pub stack-push : (links : List Link) (fs : List Frame) (f : Frame) → stack_of links (fs ++ f ∷ []) ≡ frame_in links f ∷ stack_of links fs
 stack-push links fs f =
     ap reverse (map-append (frame_in links) fs (f ∷ [])) ∙ reverse-append (map (frame_in links) fs) (frame_in links f ∷ [])
 
-pub length-store : (links : List Link) (cs : List Cell) → length (store_of links cs) ≡ length cs
-length-store links cs = length-reverse (map (cell_in links) cs) ∙ length_map (cell_in links) cs
+pub length-store : (base : Store) (links : List Link) (cs : List Cell) → length (store_of base links cs) ≡ length base + length cs
+length-store base links cs =
+    omega (arith, length-append (reverse (map (cell_in links) cs)) base, length-reverse (map (cell_in links) cs), length_map (cell_in links) cs)
 
 -- a position counts from the oldest on
 lookup-older_part : {A : Type 0} (xs acc : List A) (p : ℕ) → p < length acc → lookup (reverse_aux xs acc) p ≡ lookup acc p
@@ -143,18 +143,21 @@ slice_get-map f [] i = refl
 slice_get-map f (x ∷ xs) zero = refl
 slice_get-map f (x ∷ xs) (suc i) = slice_get-map f xs i
 
-pub lookup-store : (links : List Link) (cs : List Cell) (p : ℕ)
-    → lookup (store_of links cs) p ≡ option_map (cell_in links) (slice_get cs p)
-lookup-store links cs p = lookup-reverse (map (cell_in links) cs) p ∙ slice_get-map (cell_in links) cs p
+-- a position of the program is that of its own cell, and each other one counts from there
+reversed_onto : {A : Type 0} (xs ys : List A) → reverse xs ++ ys ≡ reverse_aux xs ys
+reversed_onto xs [] = append-nil (reverse xs)
+reversed_onto xs (y ∷ ys) = sym (reverse_onto xs y ys)
 
--- the cell of a variable
-pub held_at-cell : (links : List Link) (cs : List Cell) (e : ℕ) (v : Var)
-    → cell_at (store_of links cs) (resolved (follow links e) v) ≡ option_map (cell_in links) (held_at links cs e v)
-held_at-cell links cs e v = of (resolved (follow links e) v)
-  where
-    of : (w : Var) → cell_at (store_of links cs) w ≡ option_map (cell_in links) (held_by cs (free_position w))
-    of (Free p) = lookup-store links cs p
-    of (Bound i) = refl
+pub lookup-loaded : (base : Store) (links : List Link) (cs : List Cell) (p : ℕ) → p < length base
+    → lookup (store_of base links cs) p ≡ lookup base p
+lookup-loaded base links cs p h =
+    ap (λ st. lookup st p) (reversed_onto (map (cell_in links) cs) base) ∙ lookup-older_part (map (cell_in links) cs) base p h
+
+pub lookup-own : (base : Store) (links : List Link) (cs : List Cell) (p k : ℕ) → p ≡ length base + k
+    → lookup (store_of base links cs) p ≡ option_map (cell_in links) (slice_get cs k)
+lookup-own base links cs p k e =
+    ap (λ st. lookup st p) (reversed_onto (map (cell_in links) cs) base) ∙ lookup-newer_part (map (cell_in links) cs) base k p e
+    ∙ slice_get-map (cell_in links) cs k
 
 -- longer lists are linked too
 module _ (links : List Link) (cs : List Cell) (fs : List Frame) (made : ℕ) (linked : AreLinked links cs fs made) where
@@ -232,19 +235,10 @@ linked_top links cs fs made f linked = record {
 }
 
 -- a body in a new node's environment
-pub entered : (links : List Link) (cs : List Cell) (fs : List Frame) (made : ℕ) → AreLinked links cs fs made
+pub entered : (base : Store) (links : List Link) (cs : List Cell) (fs : List Frame) (made : ℕ) → AreLinked links cs fs made
     → (l : Link) → l.before ≤ length links → (body : Bor Node)
-    → configuration_in (links ++ l ∷ []) cs fs made (focuses.Code body (suc (length links)))
-    ≡ configured (store_of links cs) (stack_of links fs) made (put_all (extended l.position (follow links l.before)) (term_of body.now))
-entered links cs fs made linked l h body = λ j.
-    configured (store-more links l linked.older cs linked.cells j) (stack-more links l linked.older fs linked.frames j) made
+    → configuration_in base (links ++ l ∷ []) cs fs made (focuses.Code body (suc (length links)))
+    ≡ configured (store_of base links cs) (stack_of links fs) made (put_all (extended l.position (follow links l.before)) (term_of body.now))
+entered base links cs fs made linked l h body = λ j.
+    configured (store-more links l linked.older base cs linked.cells j) (stack-more links l linked.older fs linked.frames j) made
     (put_all (follow-newest links l linked.older h j) (term_of body.now))
-
--- the cell that was found for a variable, and that there is none
-pub found_cell : (links : List Link) (cs : List Cell) (e : ℕ) (v : Var) (c : Cell) → Some c ≡ held_at links cs e v
-    → cell_at (store_of links cs) (resolved (follow links e) v) ≡ Some (cell_in links c)
-found_cell links cs e v c is = held_at-cell links cs e v ∙ ap (option_map (cell_in links)) (sym is)
-
-pub no_cell : (links : List Link) (cs : List Cell) (e : ℕ) (v : Var) → None ≡ held_at links cs e v
-    → cell_at (store_of links cs) (resolved (follow links e) v) ≡ None
-no_cell links cs e v is = held_at-cell links cs e v ∙ ap (option_map (cell_in links)) (sym is)

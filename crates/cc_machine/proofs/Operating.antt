@@ -53,6 +53,7 @@ module _ {before : Parts} (q : Question) (devices devices' : Devices) (asked : S
   answered_goes {after} answer event resumes replies shows = record {
     linked = resumes.linked;
     uses = record {
+      program = resumes.program;
       cells = let h = resumes.cells in omega arith;
       room = λ n room. fewer_room after n (resumes.room (suc n) room);
     };

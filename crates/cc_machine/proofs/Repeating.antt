@@ -21,8 +21,9 @@ use Rattle.cc_machine.specs.declared.parts.Parts.{Parts}
 use Rattle.cc_machine.specs.Environments.{extended, follow}
 use Rattle.cc_machine.specs.Growing.{Enters, Adds, Waits, Pops}
 use Rattle.cc_machine.specs.Lines.{Goes}
-use Rattle.cc_machine.specs.Parts.{frame_in, store_of, stack_of, configuration_of, AreLinked, IsLinked}
+use Rattle.cc_machine.specs.Parts.{frame_in, store_of, stack_of, loaded_cells, configuration_of, AreLinked, IsLinked}
 use Rattle.cc_machine.specs.Placing.{term_in, body_in}
+use Rattle.cc_machine.specs.Programs.{program_cells}
 use Rattle.cc_machine.specs.Putting.{put_all}
 use Rattle.cc_machine.specs.Unwinding.{Unwinds}
 use Rattle.cc_machine.proofs.Following.{goes_same, Grows, grows_none, grows_cell, grows_frame, same_parts, entered_goes, shown_goes}
@@ -41,16 +42,18 @@ called {before} {middle} {after} {position} number function begun wanted n linke
     let st = (configuration_of before).store in
     let k = (configuration_of before).stack in
     let stored : (configuration_of after).store ≡ ValueCell (LiteralTerm (NumberLiteral (pos n))) ∷ st =
-    (λ j. store_of (waits.links j).items (waits.cells j).items) ∙ (λ j. store_of (adds.links j).items (adds.cells j))
-    ∙ store-push before.links.items before.cells.items (cell_forms.Small (smalls.Number number))
+    (λ j. store_of (program_cells (waits.program j).now) (waits.links j).items (waits.cells j).items)
+    ∙ (λ j. store_of (program_cells (adds.program j).now) (adds.links j).items (adds.cells j))
+    ∙ store-push (loaded_cells before) before.links.items before.cells.items (cell_forms.Small (smalls.Number number))
     ∙ ap (λ z. ValueCell (LiteralTerm (NumberLiteral z)) ∷ st) is in
     let stacked : (configuration_of after).stack ≡ RepetitionFrame (Free function) begun wanted ∷ k =
     (λ j. stack_of (waits.links j).items (waits.frames j)) ∙ (λ j. stack_of (adds.links j).items ((adds.frames j).items ++ frame_forms.Repeat function begun wanted ∷ []))
     ∙ stack-push before.links.items before.frames.items (frame_forms.Repeat function begun wanted) in
-    let at : length st ≡ position = length-store before.links.items before.cells.items ∙ sym before.cells.ok.0 ∙ sym adds.newest in
+    let at : length st ≡ position =
+    omega (arith, length-store (loaded_cells before) before.links.items before.cells.items, before.cells.ok.0, adds.newest) in
     shown_goes (record after { focus = focuses.Apply function position })
     (grows_frame {f = frame_forms.Repeat function begun wanted} grows adds.frames (omega arith) few some waits)
-    refl refl refl refl (omega arith)
+    refl refl refl refl refl (omega arith)
     (refl, λ j. configured (sym stored j) (sym stacked j) ((sym adds.labels ∙ sym waits.labels) j) (Application (Free function) (Free (at j))))
 
 -- after a call of a repetition
@@ -83,22 +86,23 @@ waits_goes {before} {after} right body environment linked below other waits =
     (let-other c.store c.stack before.labels t b other)
     (shown_goes {x = y} (record after { focus = focuses.Code right environment })
     (grows_frame {f = frame_forms.Body body environment} (grows_none linked) refl below (omega arith) (omega arith) waits)
-    refl refl refl refl below (
+    refl refl refl refl refl below (
       refl,
-      λ j. configured (store_of (sym waits.links j).items (sym waits.cells j).items) (sym stacked j) (sym waits.labels j)
+      λ j. configured (store_of (program_cells (sym waits.program j).now) (sym waits.links j).items (sym waits.cells j).items) (sym stacked j) (sym waits.labels j)
           (put_all (follow (sym waits.links j).items environment) (term_of right.now)),
     ))
 
 -- a boundary has a new label
 pub bounded_goes : {before first second third after : Parts} {position environment : ℕ} {body : Bor Node} → IsLinked before → environment ≤ length before.links.items
     → Adds (cell_forms.Label before.labels) position before first → Waits (frame_forms.Scope before.labels) first second
-    → third.links ≡ second.links → third.cells ≡ second.cells → third.frames ≡ second.frames → third.labels ≡ before.labels + 1
+    → third.program ≡ second.program → third.links ≡ second.links → third.cells ≡ second.cells → third.frames ≡ second.frames → third.labels ≡ before.labels + 1
     → Enters body environment (Some position) third after
     → Goes (boundary_step (configuration_of before).store (configuration_of before).stack before.labels (body_in before environment body.now)) before (Some (Entered before.labels)) after
-bounded_goes {before} {first} {second} {third} {after} {position} {environment} {body} linked below adds waits links cells' frames' labels enters =
+bounded_goes {before} {first} {second} {third} {after} {position} {environment} {body} linked below adds waits program links cells' frames' labels enters =
     let st = (configuration_of before).store in
     let k = (configuration_of before).stack in
     let more : before.labels + 1 ≡ suc before.labels = omega arith in
+    let all_program : third.program ≡ before.program = program ∙ waits.program ∙ adds.program in
     let all_links : third.links ≡ before.links = links ∙ waits.links ∙ adds.links in
     let all_cells : third.cells.items ≡ before.cells.items ++ cell_forms.Label before.labels ∷ [] =
     ap (λ v. v.items) cells' ∙ ap (λ v. v.items) waits.cells ∙ adds.cells in
@@ -111,16 +115,19 @@ bounded_goes {before} {first} {second} {third} {after} {position} {environment} 
       linked = same_parts third.links.items before.links.items third.cells.items (before.cells.items ++ cell_forms.Label before.labels ∷ []) third.frames.items
           (before.frames.items ++ frame_forms.Scope before.labels ∷ []) third.labels (suc before.labels) (ap (λ v. v.items) all_links) all_cells all_frames (labels ∙ more) frame_linked;
       links = all_links;
+      program = all_program;
       cells_len = omega (arith, adds.len, ap vec_len cells', ap vec_len waits.cells);
       cells_room = ap vec_capacity cells' ∙ ap vec_capacity waits.cells ∙ adds.capacity;
       frames_len = omega (arith, waits.len, ap vec_len frames', ap vec_len adds.frames);
       frames_room = ap vec_capacity frames' ∙ waits.capacity ∙ ap vec_capacity adds.frames;
     } in
     let stored : (configuration_of third).store ≡ LabelCell before.labels ∷ st =
-    (λ j. store_of (all_links j).items (all_cells j)) ∙ store-push before.links.items before.cells.items (cell_forms.Label before.labels) in
+    (λ j. store_of (program_cells (all_program j).now) (all_links j).items (all_cells j))
+    ∙ store-push (loaded_cells before) before.links.items before.cells.items (cell_forms.Label before.labels) in
     let stacked : (configuration_of third).stack ≡ ScopeFrame before.labels ∷ k =
     (λ j. stack_of (all_links j).items (all_frames j)) ∙ stack-push before.links.items before.frames.items (frame_forms.Scope before.labels) in
-    let at : length st ≡ position = length-store before.links.items before.cells.items ∙ sym before.cells.ok.0 ∙ sym adds.newest in
+    let at : length st ≡ position =
+    omega (arith, length-store (loaded_cells before) before.links.items before.cells.items, before.cells.ok.0, adds.newest) in
     entered_goes grows below enters (
       refl,
       λ j. configured (sym stored j) (sym stacked j) ((sym more ∙ sym labels) j)
@@ -133,6 +140,7 @@ bounded_goes {before} {first} {second} {third} {after} {position} {environment} 
 pub record Unwinding (label : ℕ) (before now : Parts) : Type 0 where
   pub links : now.links ≡ before.links
   pub cells : now.cells ≡ before.cells
+  pub program : now.program ≡ before.program
   pub labels : now.labels ≡ before.labels
   pub focus : now.focus ≡ before.focus
   pub linked : AreLinked now.links.items now.cells.items now.frames.items now.labels
@@ -156,6 +164,7 @@ module _ {label : ℕ} {before now next : Parts} {frame : Frame} (unwinding : Un
   unwinding_more passes = record {
     links = pops.links ∙ unwinding.links;
     cells = pops.cells ∙ unwinding.cells;
+    program = pops.program ∙ unwinding.program;
     labels = pops.labels ∙ unwinding.labels;
     focus = pops.focus ∙ unwinding.focus;
     linked = left_linked;
@@ -169,6 +178,7 @@ module _ {label : ℕ} {before now next : Parts} {frame : Frame} (unwinding : Un
   unwinds_found found = record {
     links = pops.links ∙ unwinding.links;
     cells = pops.cells ∙ unwinding.cells;
+    program = pops.program ∙ unwinding.program;
     labels = pops.labels ∙ unwinding.labels;
     focus = pops.focus ∙ unwinding.focus;
     linked = left_linked;

@@ -51,10 +51,11 @@ question_of wanted =
       argument = option_map shown_literal wanted.argument;
     }
 
--- The parts go on with the answer as the outcome does. Their environments are as they should be, no cell is added, and
--- they have all the room that they had.
+-- The parts go on with the answer as the outcome does. Their environments are as they should be, the program is the same,
+-- no cell is added, and they have all the room that they had.
 pub record Resumes (outcome : StepOutcome) (answer : Literal) (before after : Parts) : Type 0 where
   pub linked : IsLinked after
+  pub program : after.program ≡ before.program
   pub cells : length after.cells.items ≡ length before.cells.items
   pub room : (steps : ℕ) → HasRoom before steps → HasRoom after steps
   pub resumed : resumed_with answer outcome ≡ Some (configuration_of after)

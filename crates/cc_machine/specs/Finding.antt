@@ -1,17 +1,13 @@
--- The cell that a variable stands for in an environment.
-use Rattle.std.specs.Prelude.{ℕ, List, Option, Some, None, slice_get}
+-- The cell that a variable stands for.
+use Rattle.std.specs.Prelude.{◌≡◌, ◌≤◌, length, Option}
+use Rattle.std.specs.Option.{option_map}
 use Rattle.cc_capture.specs.declared.var.Var.{Var}
-use Rattle.cc_machine.specs.declared.links.Link.{Link}
+use Rattle.cc_core.specs.Stores.{cell_at}
 use Rattle.cc_machine.specs.declared.parts.Cell.{Cell}
-use Rattle.cc_machine.specs.Environments.{follow}
-use Rattle.cc_machine.specs.Operands.{free_position}
-use Rattle.cc_machine.specs.Putting.{resolved}
+use Rattle.cc_machine.specs.declared.parts.Parts.{Parts}
+use Rattle.cc_machine.specs.Parts.{cell_in, cell_environment, configuration_of, IsLinked}
 
--- the cell at the position, if there is a position
-abbrev pub held_by : List Cell → Option ℕ → Option Cell
-held_by held (Some position) = slice_get held position
-held_by held None = None
-
--- the cell of the variable, if it has one
-abbrev pub held_at : List Link → List Cell → ℕ → Var → Option Cell
-held_at links held environment variable = held_by held (free_position (resolved (follow links environment) variable))
+-- What was found is the cell of the variable, if it has one. Its environment is one of those that there are.
+pub record IsCellOf (parts : Parts) (variable : Var) (found : Option Cell) : Type 0 where
+  pub cell : cell_at (configuration_of parts).store variable ≡ option_map (cell_in parts.links.items) found
+  pub within : IsLinked parts → cell_environment found ≤ length parts.links.items

@@ -1,11 +1,12 @@
 -- What a small change does to the parts. The room that is left is said besides.
 use denote.Bor.{Bor}
-use Rattle.std.specs.Prelude.{◌≡◌, ℕ, ◌+◌, ◌∷◌, [], ◌++◌, Option, vec_len, vec_capacity}
+use Rattle.std.specs.Prelude.{◌≡◌, ℕ, ◌+◌, ◌∷◌, [], ◌++◌, Option, length, vec_len, vec_capacity}
 use Rattle.cc_core.specs.declared.terms.Node.{Node}
 use Rattle.cc_machine.specs.declared.parts.Cell.{Cell}
 use Rattle.cc_machine.specs.declared.parts.Frame.{Frame}
 use Rattle.cc_machine.specs.declared.parts.Focus.TheVariants as focuses
 use Rattle.cc_machine.specs.declared.parts.Parts.{Parts}
+use Rattle.cc_machine.specs.Parts.{loaded_cells}
 
 -- the body is run next, with one binder more, which stands for the position if there is one
 pub record Enters (body : Bor Node) (environment : ℕ) (position : Option ℕ) (before after : Parts) : Type 0 where
@@ -14,17 +15,19 @@ pub record Enters (body : Bor Node) (environment : ℕ) (position : Option ℕ) 
   pub capacity : vec_capacity after.links ≡ vec_capacity before.links
   pub cells : after.cells ≡ before.cells
   pub frames : after.frames ≡ before.frames
+  pub program : after.program ≡ before.program
   pub labels : after.labels ≡ before.labels
   pub focus : after.focus ≡ focuses.Code body (vec_len before.links + 1)
 
 -- a new cell stands at the position
 pub record Adds (cell : Cell) (position : ℕ) (before after : Parts) : Type 0 where
-  pub newest : position ≡ vec_len before.cells
+  pub newest : position ≡ length (loaded_cells before) + vec_len before.cells
   pub cells : after.cells.items ≡ before.cells.items ++ cell ∷ []
   pub len : vec_len after.cells ≡ vec_len before.cells + 1
   pub capacity : vec_capacity after.cells ≡ vec_capacity before.cells
   pub links : after.links ≡ before.links
   pub frames : after.frames ≡ before.frames
+  pub program : after.program ≡ before.program
   pub labels : after.labels ≡ before.labels
   pub focus : after.focus ≡ before.focus
 
@@ -35,6 +38,7 @@ pub record Waits (frame : Frame) (before after : Parts) : Type 0 where
   pub capacity : vec_capacity after.frames ≡ vec_capacity before.frames
   pub links : after.links ≡ before.links
   pub cells : after.cells ≡ before.cells
+  pub program : after.program ≡ before.program
   pub labels : after.labels ≡ before.labels
   pub focus : after.focus ≡ before.focus
 
@@ -45,6 +49,7 @@ pub record Pops (frame : Frame) (before after : Parts) : Type 0 where
   pub capacity : vec_capacity after.frames ≡ vec_capacity before.frames
   pub links : after.links ≡ before.links
   pub cells : after.cells ≡ before.cells
+  pub program : after.program ≡ before.program
   pub labels : after.labels ≡ before.labels
   pub focus : after.focus ≡ before.focus
 
@@ -56,5 +61,6 @@ pub record HasNoFrame (before after : Parts) : Type 0 where
   pub capacity : vec_capacity after.frames ≡ vec_capacity before.frames
   pub links : after.links ≡ before.links
   pub cells : after.cells ≡ before.cells
+  pub program : after.program ≡ before.program
   pub labels : after.labels ≡ before.labels
   pub focus : after.focus ≡ before.focus

@@ -11,6 +11,7 @@ use Rattle.cc_machine.specs.Parts.{configuration_of, AreLinked}
 pub record Names (answer : Term) (before after : Parts) (position : ℕ) : Type 0 where
   pub links : after.links ≡ before.links
   pub frames : after.frames ≡ before.frames
+  pub program : after.program ≡ before.program
   pub labels : after.labels ≡ before.labels
   pub linked : AreLinked after.links.items after.cells.items after.frames.items after.labels
   pub len : vec_len after.cells ≤ vec_len before.cells + 1

@@ -1,5 +1,5 @@
 -- The configuration that the parts of a machine stand for.
-use Rattle.std.specs.Prelude.{ℕ, suc, ◌+◌, ◌<◌, ◌≤◌, ◌^◌, List, map, reverse, length, Option, Some, None, slice_get}
+use Rattle.std.specs.Prelude.{◌≡◌, ℕ, suc, ◌+◌, ◌<◌, ◌≤◌, ◌^◌, List, ◌++◌, map, reverse, length, Option, Some, None, slice_get}
 use Rattle.std.specs.Prelude.{vec_len, vec_capacity}
 use Rattle.cc_base.specs.Literals.{Literal, UnitLiteral, TruthLiteral, NumberLiteral}
 use Rattle.cc_capture.specs.declared.var.Var.TheVariants.{Free}
@@ -20,6 +20,7 @@ use Rattle.cc_machine.specs.declared.parts.Focus.{Focus}
 use Rattle.cc_machine.specs.declared.parts.Focus.TheVariants as focuses
 use Rattle.cc_machine.specs.declared.parts.Parts.{Parts}
 use Rattle.cc_machine.specs.Environments.{link_before, follow}
+use Rattle.cc_machine.specs.Programs.{program_cells}
 use Rattle.cc_machine.specs.Putting.{put_all, put_body}
 
 -- the literal that was computed
@@ -53,22 +54,26 @@ focus_in links (focuses.Position position) = VariableTerm (Free position)
 focus_in links (focuses.Small small) = LiteralTerm (small_literal small)
 focus_in links (focuses.Apply function argument) = Application (Free function) (Free argument)
 
--- the store of the cells, which are listed from the oldest on
-abbrev pub store_of : List Link → List Cell → Store
-store_of links held = reverse (map (cell_in links) held)
+-- the store of the cells, which are listed from the oldest on, and are newer than those of the program
+abbrev pub store_of : Store → List Link → List Cell → Store
+store_of program links held = reverse (map (cell_in links) held) ++ program
 
 -- the stack of the frames, of which the last one is the top
 abbrev pub stack_of : List Link → List Frame → Stack
 stack_of links waiting = reverse (map (frame_in links) waiting)
 
 -- the configuration that these parts stand for
-abbrev pub configuration_in : List Link → List Cell → List Frame → ℕ → Focus → Configuration
-configuration_in links held waiting labels focus =
-    configured (store_of links held) (stack_of links waiting) labels (focus_in links focus)
+abbrev pub configuration_in : Store → List Link → List Cell → List Frame → ℕ → Focus → Configuration
+configuration_in program links held waiting labels focus =
+    configured (store_of program links held) (stack_of links waiting) labels (focus_in links focus)
+
+-- the cells of the program that runs
+abbrev pub loaded_cells : Parts → Store
+loaded_cells parts = program_cells parts.program.now
 
 abbrev pub configuration_of : Parts → Configuration
 configuration_of parts =
-    configuration_in parts.links.items parts.cells.items parts.frames.items parts.labels parts.focus
+    configuration_in (loaded_cells parts) parts.links.items parts.cells.items parts.frames.items parts.labels parts.focus
 
 -- the environment that a cell, a frame or the focus has
 abbrev pub cell_environment : Option Cell → ℕ
@@ -122,9 +127,11 @@ pub record HasRoom (parts : Parts) (steps : ℕ) : Type 0 where
   pub links : vec_len parts.links + steps ≤ vec_capacity parts.links
   pub cells : vec_len parts.cells + steps ≤ vec_capacity parts.cells
   pub frames : vec_len parts.frames + steps ≤ vec_capacity parts.frames
-  pub positions : length parts.cells.items + steps < 2 ^ 32
+  pub positions : length (loaded_cells parts) + length parts.cells.items + steps < 2 ^ 32
 
--- At most one cell was added, and there is room for all but one of the steps that there was room for.
+-- The program is the same, at most one cell was added, and there is room for all but one of the steps that there was room
+-- for.
 pub record UsesOne (before after : Parts) : Type 0 where
+  pub program : after.program ≡ before.program
   pub cells : length after.cells.items ≤ length before.cells.items + 1
   pub room : (steps : ℕ) → HasRoom before (suc steps) → HasRoom after steps

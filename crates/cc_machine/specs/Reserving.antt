@@ -8,6 +8,7 @@ pub record HoldsTheSame (before after : Parts) : Type 0 where
   pub links : after.links.items ≡ before.links.items
   pub cells : after.cells.items ≡ before.cells.items
   pub frames : after.frames.items ≡ before.frames.items
+  pub program : after.program ≡ before.program
   pub labels : after.labels ≡ before.labels
   pub focus : after.focus ≡ before.focus
   pub room : (steps : ℕ) → HasRoom before steps → HasRoom after steps

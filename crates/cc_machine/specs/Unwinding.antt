@@ -13,6 +13,7 @@ is_below false stack = None
 pub record Unwinds (label : ℕ) (before after : Parts) (found : Bool) : Type 0 where
   pub links : after.links ≡ before.links
   pub cells : after.cells ≡ before.cells
+  pub program : after.program ≡ before.program
   pub labels : after.labels ≡ before.labels
   pub focus : after.focus ≡ before.focus
   pub linked : AreLinked after.links.items after.cells.items after.frames.items after.labels

@@ -1,7 +1,7 @@
 //! Small changes of the parts, for which there is room.
 ghost use Rattle.std.specs.Prelude.{◌≡◌, ◌<◌, ◌≤◌, ◌+◌, ◌^◌, IsOk, OnOk, length, vec_len, vec_capacity, MatchOption};
 ghost use Rattle.cc_machine.specs.Growing.{Enters, Adds, Waits, Pops, HasNoFrame};
-ghost use Rattle.cc_machine.specs.Parts.{HasRoom};
+ghost use Rattle.cc_machine.specs.Parts.{HasRoom, loaded_cells};
 ghost use Rattle.cc_machine.specs.Reserving.{HoldsTheSame};
 
 use crate::links::Link;
@@ -12,7 +12,7 @@ use std::alloc::AllocError;
 impl<'a> Parts<'a> {
     /// Makes room for so many steps. Fails only for want of memory, and keeps what the parts hold, and their room.
     pub fn reserve(&mut self, steps: usize) -> Result<(), AllocError>
-        requires { length self.old.cells.items + steps < 4294967296 }
+        requires { length (loaded_cells self.old) + length self.old.cells.items + steps < 4294967296 }
         ensures succeeds { HasRoom self.old steps → IsOk result }
         ensures room { OnOk result (HasRoom self.new steps) }
         ensures same { HoldsTheSame self.old self.new }
@@ -38,10 +38,10 @@ impl<'a> Parts<'a> {
     /// Adds a cell, and answers its position.
     pub fn add(&mut self, cell: Cell<'a>) -> u32
         requires room { vec_len self.old.cells < vec_capacity self.old.cells }
-        requires positions { length self.old.cells.items < 4294967296 }
+        requires positions { length (loaded_cells self.old) + length self.old.cells.items < 4294967296 }
         ensures { Adds cell.entry result self.old self.new }
     {
-        let position = self.cells.len() as u32;
+        let position = self.program.count() + self.cells.len() as u32;
         self.cells.push_reserved(cell);
         position
     }

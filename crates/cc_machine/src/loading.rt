@@ -1,29 +1,56 @@
-//! The cells of a program.
-ghost use Rattle.std.specs.Prelude.{◌≡◌, ◌+◌, ◌<◌, ◌++◌, map, length, OnOk};
-ghost use Rattle.cc_runs.specs.Links.{device_cells};
-ghost use Rattle.cc_machine.specs.Loading.{AddsDevices, AddsValues};
+//! The cells of a program, which its machines share.
+ghost use Rattle.std.specs.Prelude.{◌≡◌, ◌<◌, ◌≤◌, ◌++◌, List, Some, length, slice_get};
+ghost use Rattle.cc_core.specs.Contexts.{lookup};
+ghost use Rattle.cc_core.specs.Stores as stores;
+ghost use Rattle.cc_machine.specs.declared.links.Link.{Link};
+ghost use Rattle.cc_machine.specs.Loading.{numbered_from, values_and_unit};
+ghost use Rattle.cc_machine.specs.Parts.{cell_in, cell_environment};
+ghost use Rattle.cc_machine.specs.Programs.{program_cells};
 
-use crate::{Cell, TypedValue};
+use crate::{Cell, Program, Small, TypedValue};
 use cc_base::literal::Base;
-use std::alloc::AllocError;
 
-/// Adds the cells of devices, each with its number. Fails only for want of memory.
-pub fn add_devices<'a>(cells: &mut Vec<Cell<'a>>, devices: &[Base]) -> Result<(), AllocError>
-    requires { length devices.now < 4294967296 }
-    ensures { OnOk result (AddsDevices devices.now cells.old.items cells.new.items) }
+// The cell of the device of the number.
+fn device_cell<'a>(devices: &[Base], number: u32) -> Cell<'a>
+    requires { number < length devices.now }
+    ensures cell { (links : List Link) (others : List stores.Cell) → Some (cell_in links result) ≡ slice_get (numbered_from 0 devices.now ++ others) number }
+    ensures outermost { cell_environment (Some result) ≡ 0 }
 {
-    for number in 0..devices.len() {
-        cells.push(Cell::Device(number as u32, devices[number]))?;
-    }
-    Ok(())
+    Cell::Device(number, devices[number as usize])
 }
 
-/// Adds the cells of values. Fails only for want of memory.
-pub fn add_values<'a>(cells: &mut Vec<Cell<'a>>, values: &'a [TypedValue]) -> Result<(), AllocError>
-    ensures { OnOk result (AddsValues values.now cells.old.items cells.new.items) }
+// The cell of the value of the index, or that of unit behind them all.
+fn value_cell(values: &[TypedValue], index: usize) -> Cell<'_>
+    requires { index ≤ length values.now }
+    ensures cell { (links : List Link) → Some (cell_in links result) ≡ slice_get (values_and_unit values.now) index }
+    ensures outermost { cell_environment (Some result) ≡ 0 }
 {
-    for typed in values {
-        cells.push(Cell::Code(&typed.value, 0))?;
+    match values.get(index) {
+        Some(typed) => Cell::Code(&typed.value, 0),
+        None => Cell::Small(Small::Unit),
     }
-    Ok(())
+}
+
+impl Program {
+    /// How many cells it has.
+    pub fn count(&self) -> u32
+        ensures { result ≡ length (program_cells self.now) }
+    {
+        (self.devices().len() + self.cells().len() + 1) as u32
+    }
+
+    /// Its cell at the position. No environment is around it.
+    pub fn cell(&self, position: u32) -> Cell<'_>
+        requires { position < length (program_cells self.now) }
+        ensures cell { (links : List Link) → Some (cell_in links result) ≡ lookup (program_cells self.now) position }
+        ensures outermost { cell_environment (Some result) ≡ 0 }
+    {
+        let devices = self.devices();
+        let at = position as usize;
+        if at < devices.len() {
+            device_cell(devices, position)
+        } else {
+            value_cell(self.cells(), at - devices.len())
+        }
+    }
 }

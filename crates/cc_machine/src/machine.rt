@@ -2,8 +2,7 @@
 ghost use Rattle.cc_machine.specs.Standing.{StandsSoundly};
 ghost use Rattle.cc_machine.specs.Parts.{configuration_of, IsLinked, HasRoom};
 
-use crate::loading::{add_devices, add_values};
-use crate::{Cell, Focus, Parts, Program, Small, Wanted};
+use crate::{Focus, Parts, Program, Wanted};
 use cc_base::literal::Lit;
 use cc_device::{Devices, Event, Shown};
 use std::alloc::{AllocError, Global};
@@ -38,19 +37,16 @@ impl<'a> Machine<'a> {
     ghost use Rattle.cc_machine.specs.Asking.{IsAnswerTo, asked_text, question_in, question_of};
     ghost use Rattle.cc_machine.specs.Lines.{IsWriting};
 
-    /// The machine at the start of the program. Fails only for want of memory.
+    /// The machine at the start of the program, whose cells it shares. Fails only for want of memory.
     pub fn load(alloc: Global, program: &'a Program) -> Result<Machine<'a>, AllocError>
         ensures start { IfOk result (λ machine. held_by machine ≡ erased_configuration (start_of program.now)) }
         ensures spare { IfOk result (λ machine. spare_of machine ≡ 0) }
     {
-        let mut cells = Vec::new(alloc);
-        add_devices(&mut cells, program.devices())?;
-        add_values(&mut cells, program.cells())?;
-        cells.push(Cell::Small(Small::Unit))?;
         program.starts_soundly();
         let parts = Parts {
+            program,
             links: Vec::new(alloc),
-            cells,
+            cells: Vec::new(alloc),
             frames: Vec::new(alloc),
             labels: 0,
             focus: Focus::Code(program.term(), 0),

@@ -1,5 +1,6 @@
 //! The parts of a machine.
 use crate::links::Link;
+use crate::program::Program;
 use cc_base::literal::Base;
 use cc_core::Node;
 
@@ -48,9 +49,11 @@ pub enum Focus<'a> {
     Apply(u32, u32),
 }
 
-/// A store, a stack, the number of labels made, and a term. Nodes of environments are shared by all of them.
+/// A store, a stack, the number of labels made, and a term. Nodes of environments are shared by all of them. The oldest
+/// cells of the store are those of the program, which stand there alone; the others stand in `cells`.
 #[derive(Drop)]
 pub struct Parts<'a> {
+    pub program: &'a Program,
     pub links: Vec<Link>,
     pub cells: Vec<Cell<'a>>,
     pub frames: Vec<Frame<'a>>,

@@ -1,6 +1,7 @@
 //! What stands in cells, and the literals there.
 ghost use Rattle.std.specs.Prelude.{◌≡◌, Some, None, List, slice_get, option_map};
 ghost use Rattle.cc_base.specs.Literals.{literal_of};
+ghost use Rattle.cc_capture.specs.declared.var.Var.TheVariants.{Free};
 ghost use Rattle.cc_core.specs.Stores as stores;
 ghost use Rattle.cc_core.specs.TermViews.{term_of};
 ghost use Rattle.cc_device.specs.DeviceViews.{shown_literal};
@@ -10,7 +11,8 @@ ghost use Rattle.cc_machine.specs.declared.links.Link.{Link};
 ghost use Rattle.cc_machine.specs.Environments.{follow};
 ghost use Rattle.cc_machine.specs.Lines.{number_in, truth_in};
 ghost use Rattle.cc_machine.specs.Parts.{cell_in, configuration_of, literal_of_term, small_literal};
-ghost use Rattle.cc_machine.specs.Finding.{held_at};
+ghost use Rattle.cc_machine.specs.Finding.{IsCellOf};
+ghost use Rattle.cc_machine.specs.Placing.{variable_in};
 ghost use Rattle.cc_machine.specs.Putting.{resolved};
 
 use crate::links::resolve;
@@ -89,22 +91,35 @@ fn literal_in_cell<'a>(cell: Cell<'a>) -> Option<ShownLit<'a>>
 }
 
 // The cell at the index, if there is one.
-fn cell_at<'a>(cells: &[Cell<'a>], position: usize) -> Option<Cell<'a>>
-    ensures { result ≡ slice_get cells.now position }
+fn own_cell<'a>(cells: &[Cell<'a>], index: usize) -> Option<Cell<'a>>
+    ensures { result ≡ slice_get cells.now index }
 {
-    match cells.get(position) {
+    match cells.get(index) {
         Some(cell) => Some(*cell),
         None => None,
     }
 }
 
 impl<'a> Parts<'a> {
+    // The cell at the position, if there is one.
+    fn cell_at(&self, position: u32) -> Option<Cell<'a>>
+        ensures { IsCellOf self.now (Free position) result }
+    {
+        let program = self.program;
+        let count = program.count();
+        if position < count {
+            Some(program.cell(position))
+        } else {
+            own_cell(&self.cells, (position - count) as usize)
+        }
+    }
+
     /// The cell that the variable stands for in the environment, if it stands for one.
     pub fn cell_of(&self, environment: usize, variable: Var) -> Option<Cell<'a>>
-        ensures { result ≡ held_at self.now.links.items self.now.cells.items environment variable }
+        ensures { IsCellOf self.now (variable_in self.now environment variable) result }
     {
         match resolve(&self.links, environment, variable) {
-            Some(position) => cell_at(&self.cells, position as usize),
+            Some(position) => self.cell_at(position),
             None => None,
         }
     }

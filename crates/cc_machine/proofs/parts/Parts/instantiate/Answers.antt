@@ -3,18 +3,17 @@ use Rattle.cc_core.specs.Shapes.{AnyShape}
 use Rattle.cc_runs.specs.Machine.{Stuck, type_apply_step}
 use Rattle.cc_machine.specs.Parts.{configuration_of}
 use Rattle.cc_machine.proofs.Following.{goes_same, stays}
-use Rattle.cc_machine.proofs.Linking.{found_cell, no_cell}
 use Rattle.cc_machine.proofs.parts.Parts.instantiate.Goals as goal
 
 pub returns-in-Some : goal.returns-in-Some
 returns-in-Some c =
     let now = configuration_of c.args.self.now in
-    let found = found_cell c.args.self.now.links.items c.args.self.now.cells.items c.args.environment c.args.function c.in-Some.cell c.in-Some.ensures in
+    let found = c.in-Some.ensures.cell in
     goes_same _ _ _ _ _ (λ j. type_apply_step now.store now.stack now.labels_made AnyShape (found j)) c.instantiate_cell.ensures
 
 pub returns-in-None : goal.returns-in-None
 returns-in-None c =
     let now = configuration_of c.args.self.now in
-    let found = no_cell c.args.self.now.links.items c.args.self.now.cells.items c.args.environment c.args.function c.in-None.ensures in
+    let found = c.in-None.ensures.cell in
     goes_same _ _ _ _ _ (λ j. type_apply_step now.store now.stack now.labels_made AnyShape (found j))
     (stays Stuck c.args.self.now None c.requires.linked tt)

@@ -3,13 +3,12 @@ use Rattle.cc_runs.specs.Machine.{Stuck, unbox_step}
 use Rattle.cc_machine.specs.Operands.{HoldsFreeContent}
 use Rattle.cc_machine.specs.Parts.{configuration_of}
 use Rattle.cc_machine.proofs.Following.{goes_same, stays}
-use Rattle.cc_machine.proofs.Linking.{found_cell, no_cell}
 use Rattle.cc_machine.proofs.parts.Parts.open.Goals as goal
 
 pub open_cell-requires-clause-content : goal.open_cell-requires-clause-content
 open_cell-requires-clause-content c =
     subst HoldsFreeContent
-    (found_cell c.args.self.now.links.items c.args.self.now.cells.items c.args.environment c.args.held c.in-Some.cell c.in-Some.ensures)
+    c.in-Some.ensures.cell
     c.requires.content
 
 pub returns-in-Some : goal.returns-in-Some
@@ -17,7 +16,7 @@ returns-in-Some c =
     let now = configuration_of c.args.self.now in
     goes_same _ _ _ _ _
     (ap (unbox_step now.store now.stack now.labels_made)
-    (found_cell c.args.self.now.links.items c.args.self.now.cells.items c.args.environment c.args.held c.in-Some.cell c.in-Some.ensures))
+    c.in-Some.ensures.cell)
     c.open_cell.ensures
 
 pub returns-in-None : goal.returns-in-None
@@ -25,5 +24,5 @@ returns-in-None c =
     let now = configuration_of c.args.self.now in
     goes_same _ _ _ _ _
     (ap (unbox_step now.store now.stack now.labels_made)
-    (no_cell c.args.self.now.links.items c.args.self.now.cells.items c.args.environment c.args.held c.in-None.ensures))
+    c.in-None.ensures.cell)
     (stays Stuck c.args.self.now None c.requires.linked tt)
