@@ -44,7 +44,7 @@ itself InCycle = refl
 itself RefusedModule = refl
 itself NoDefinition = refl
 
-finding_decides : (left right : Finding) → Decides (same_finding left right) (left ≡ right)
+pub finding_decides : (left right : Finding) → Decides (same_finding left right) (left ≡ right)
 finding_decides left right = (
   one_finding left right,
   λ one.

@@ -85,7 +85,7 @@ key_at_judgement (entry ∷ entries) (first ∷ rest) zero one stands =
 key_at_judgement (entry ∷ entries) (first ∷ rest) (suc at) one stands = key_at_judgement entries rest at one stands
 
 -- what was found for the judgement at a place
-findings_at : (verdicts : List (List ℕ × DeclaredVerdict)) (grounds : List Grounds) (at : ℕ) (one : Judgement)
+pub findings_at : (verdicts : List (List ℕ × DeclaredVerdict)) (grounds : List Grounds) (at : ℕ) (one : Judgement)
     (others : Grounds) → slice_get (judgements_from verdicts grounds) at ≡ Some one → slice_get grounds at ≡ Some others
     → one.findings ≡ map finding_of others.findings
 findings_at [] grounds at one others stands on = cc

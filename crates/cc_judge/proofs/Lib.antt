@@ -15,3 +15,5 @@ pub mod PushedPlaces
 pub mod FoundImports
 pub mod PutPlans
 pub mod ScheduledPlans
+pub mod SettledJudgements
+pub mod StillFound

@@ -201,6 +201,13 @@ module _ (devices : List DeviceDecl) (texts : Texts) (differ : NamesOfDevicesDif
       subst P (sym at_text)
       (found_fits devices texts verdicts grounds plans differ sorted planned place found within asked found_zip)
 
+  pub made_found : (all : List ℕ → ModuleVerdict) → AreVerdicts devices texts all
+      → found ≡ findings_for texts all entry.0 reading
+  made_found all are =
+      found_right texts verdicts grounds plans all (planned all are) place found asked found_zip
+      ∙ sym (ap (λ e. findings_for texts all e.0 (text_at texts place)) at_entry)
+      ∙ sym (ap (findings_for texts all entry.0) at_text)
+
   pub made_stale : (all : List ℕ → ModuleVerdict) → AreVerdicts devices texts all
       → is_stale (judgements_from verdicts grounds) entry.0 reading found
       ≡ is_stale_at (judgements_from verdicts grounds) texts all place

@@ -12,6 +12,7 @@ use Rattle.cc_module.specs.Judgements.{module_verdict_of}
 use Rattle.cc_judge.specs.declared.grounds.Grounds.{Grounds}
 use Rattle.cc_judge.specs.declared.last.Last.{Last}
 use Rattle.cc_judge.specs.Judgements.{Judgement, AreJudged}
+use Rattle.cc_judge.specs.Settled.{AreSettled}
 
 -- a module's name and its verdict
 abbrev pub named_verdict : List ℕ × ModuleVerdict → List ℕ × plain.ModuleVerdict
@@ -40,8 +41,10 @@ judgements_from (entry ∷ entries) (first ∷ rest) = judged_on entry first ∷
 abbrev pub judgements_of : Last → List Judgement
 judgements_of last = judgements_from last.verdicts.items last.grounds.items
 
--- The names stand in order, there are grounds for each verdict, and each verdict is deserved.
+-- The names stand in order, there are grounds for each verdict, each verdict is deserved, and what was found for it is
+-- found in the other verdicts.
 pub record IsKept (devices : List DeviceDecl) (last : Last) : Type 0 where
   pub names : IsStrictlySortedBy compare_names (keys_of last.verdicts.items)
   pub one_each : length last.grounds.items ≡ length last.verdicts.items
   pub judged : AreJudged devices (judgements_of last)
+  pub settled : AreSettled (judgements_of last)

@@ -1,8 +1,9 @@
 pub mod Judgements
 pub mod StaleExamples
 pub mod SameFindings
-pub mod Kept
 pub mod Places
+pub mod Settled
+pub mod Kept
 pub mod Dependencies
 pub mod KnownGraphs
 pub mod Plans

@@ -12,6 +12,7 @@ ghost use Rattle.cc_judge.specs.Found.{AreFoundFor};
 ghost use Rattle.cc_judge.specs.Judgements.{AreCurrent, stale_count};
 ghost use Rattle.cc_judge.specs.Kept.{judgements_of, IsKept};
 ghost use Rattle.cc_judge.specs.Plans.{ArePlans, AsksPlanned, PlansPlace, AreAllPlanned, IsRightPlan, is_stale_at, steps_for};
+ghost use Rattle.cc_judge.specs.Settled.{AreStillFound};
 
 use crate::carrying::carry_out;
 use crate::dependencies::{Dependencies, find_dependencies};
@@ -19,11 +20,13 @@ use crate::findings::findings;
 use crate::grounds::SharedText;
 use crate::last::Last;
 use crate::plans::{Plan, plan_module};
+use crate::staying::no_names;
 use cc_base::device::DeviceDecl;
 use cc_base::literal::Import;
 use cc_base::name::Name;
 use cc_base::steps::Steps;
 use cc_module::finding::Finding;
+use cc_names::names::Names;
 use std::alloc::{AllocError, Global};
 use std::mem::replace;
 use std::sync::ledger::Ledger;
@@ -84,6 +87,7 @@ fn plan_new<L: Ledger>(
     dependencies: &Dependencies,
     last: &Last,
     plans: &[Option<Plan>],
+    known: &mut Vec<Names>,
     place: usize,
     steps: &mut Steps<L>,
 ) -> Result<Plan, AllocError>
@@ -92,10 +96,12 @@ fn plan_new<L: Ledger>(
     requires found { AreDependencies (judgements_of last.now) texts.now dependencies.now }
     requires kept { IsKept devices.now last.now }
     requires plans { ArePlans devices.now texts.now (judgements_of last.now) plans.now }
+    requires known { AreStillFound devices.now texts.now (judgements_of last.now) known.old.items }
     requires within { place < length texts.now }
     requires asked { AsksPlanned texts.now plans.now place }
     ensures ticks { (verdicts : List ℕ → ModuleVerdict) → AreVerdicts devices.now texts.now verdicts → steps.new ≤ steps.old + (if is_stale_at (judgements_of last.now) texts.now verdicts place then 1 else 0) }
     ensures plan { IfOk result (λ plan. IsRightPlan devices.now texts.now (judgements_of last.now) place plan) }
+    ensures known { OnOk result (AreStillFound devices.now texts.now (judgements_of last.now) known.new.items) }
 {
     let name = &texts[place].0;
     let text = &dependencies.readings[place];
@@ -109,7 +115,9 @@ fn plan_new<L: Ledger>(
         text.imports(),
     )?;
     let judged = dependencies.judged[place];
-    plan_module(alloc, devices, last, name, text, judged, found, steps)
+    plan_module(
+        alloc, devices, texts, last, plans, known, name, text, judged, found, steps,
+    )
 }
 
 // Makes the plan for the place, if it has none yet.
@@ -120,6 +128,7 @@ fn plan_place<L: Ledger>(
     dependencies: &Dependencies,
     last: &Last,
     plans: &mut Vec<Option<Plan>>,
+    known: &mut Vec<Names>,
     place: usize,
     steps: &mut Steps<L>,
 ) -> Result<(), AllocError>
@@ -128,11 +137,13 @@ fn plan_place<L: Ledger>(
     requires found { AreDependencies (judgements_of last.now) texts.now dependencies.now }
     requires kept { IsKept devices.now last.now }
     requires plans { ArePlans devices.now texts.now (judgements_of last.now) plans.old.items }
+    requires known { AreStillFound devices.now texts.now (judgements_of last.now) known.old.items }
     requires count { length plans.old.items ≡ length texts.now }
     requires within { place < length texts.now }
     requires asked { AsksPlanned texts.now plans.old.items place }
     ensures ticks { (verdicts : List ℕ → ModuleVerdict) → AreVerdicts devices.now texts.now verdicts → steps.new ≤ steps.old + steps_for (judgements_of last.now) texts.now verdicts plans.old.items place }
     ensures ok { OnOk result (PlansPlace devices.now texts.now (judgements_of last.now) place plans.old.items plans.new.items) }
+    ensures known { OnOk result (AreStillFound devices.now texts.now (judgements_of last.now) known.new.items) }
 {
     if plans[place].is_some() {
         return Ok(());
@@ -144,6 +155,7 @@ fn plan_place<L: Ledger>(
         dependencies,
         last,
         plans.as_slice(),
+        known,
         place,
         steps,
     )?;
@@ -168,6 +180,7 @@ fn plan_all<L: Ledger>(
     ensures plans { IfOk result (λ plans. AreAllPlanned devices.now texts.now (judgements_of last.now) plans.items) }
 {
     let mut plans = no_plans(alloc, texts.len())?;
+    let mut known = no_names(alloc, texts.len())?;
     for place in dependencies.schedule.iter() {
         plan_place(
             alloc,
@@ -176,6 +189,7 @@ fn plan_all<L: Ledger>(
             dependencies,
             last,
             &mut plans,
+            &mut known,
             *place,
             &mut *steps,
         )?;

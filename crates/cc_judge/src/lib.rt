@@ -15,3 +15,4 @@ pub mod names;
 mod plans;
 pub mod reading;
 mod same;
+mod staying;

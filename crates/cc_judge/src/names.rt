@@ -26,6 +26,32 @@ pub fn place_of_text(texts: &[(Name, SharedText)], name: &Name) -> Option<usize>
     search_texts(texts, name).ok()
 }
 
+// Whether the present module of the name stands at the place.
+fn is_text_at(texts: &[(Name, SharedText)], at: usize, name: &Name) -> bool
+    ensures { (result ≡ true) ↔ (slice_get (keys_of texts.now) at ≡ Some name.now) }
+{
+    match texts.get(at) {
+        Some(entry) => entry.0 == *name,
+        None => false,
+    }
+}
+
+/// The place of the present module of the name, which may be this place.
+pub(crate) fn place_of_text_near(
+    texts: &[(Name, SharedText)],
+    near: usize,
+    name: &Name,
+) -> Option<usize>
+    requires { IsStrictlySortedBy compare_names (keys_of texts.now) }
+    ensures { MatchOption result (IsAbsentKey (keys_of texts.now) name.now) (λ at. slice_get (keys_of texts.now) at ≡ Some name.now) }
+{
+    if is_text_at(texts, near, name) {
+        Some(near)
+    } else {
+        place_of_text(texts, name)
+    }
+}
+
 /// The place of the verdict of the module of the name.
 pub fn place_of_verdict(verdicts: &[(Name, ModuleVerdict)], name: &Name) -> Option<usize>
     requires { IsStrictlySortedBy compare_names (keys_of verdicts.now) }

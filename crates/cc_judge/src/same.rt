@@ -1,10 +1,11 @@
 //! Whether what is found is the same.
 
-ghost use Rattle.std.specs.Prelude.{◌≡◌, map, ◌&&◌};
+ghost use Rattle.std.specs.Prelude.{◌≡◌, map, nat_eq, ◌&&◌, IsTrue};
 ghost use Rattle.std.specs.Str.{bytes_eq};
 ghost use Rattle.cc_core.specs.TermViews.{type_of};
 ghost use Rattle.cc_module.specs.Findings.{finding_of};
 ghost use Rattle.cc_judge.specs.SameFindings as plain;
+ghost use Rattle.cc_judge.specs.Settled.{AreOneIfFound};
 
 use crate::grounds::Grounds;
 use crate::reading::ReadText;
@@ -33,7 +34,8 @@ fn is_found_as(ty: &Ty, finding: &Finding) -> bool
     }
 }
 
-fn same_finding(left: &Finding, right: &Finding) -> bool
+/// Whether the two are the same.
+pub(crate) fn same_finding(left: &Finding, right: &Finding) -> bool
     ensures { result ≡ plain.same_finding (finding_of left.now) (finding_of right.now) }
 {
     match left {
@@ -42,6 +44,27 @@ fn same_finding(left: &Finding, right: &Finding) -> bool
         Finding::Cycle => 2 == kind_of(right),
         Finding::RefusedModule => 3 == kind_of(right),
         Finding::NoDef => 4 == kind_of(right),
+    }
+}
+
+/// Whether a definition is found.
+pub(crate) fn is_found(finding: &Finding) -> bool
+    ensures { result ≡ nat_eq (plain.kind_of (finding_of finding.now)) 0 }
+{
+    kind_of(finding) == 0
+}
+
+/// Whether the two are the same, where it may be known that they are if both are definitions.
+pub(crate) fn same_as_known(known: bool, left: &Finding, right: &Finding) -> bool
+    requires { IsTrue known → AreOneIfFound (finding_of left.now) (finding_of right.now) }
+    ensures { result ≡ plain.same_finding (finding_of left.now) (finding_of right.now) }
+{
+    if known {
+        let kind = kind_of(left);
+        let other = kind_of(right);
+        kind == other
+    } else {
+        same_finding(left, right)
     }
 }
 

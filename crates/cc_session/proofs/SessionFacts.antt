@@ -19,6 +19,7 @@ use Rattle.cc_judge.specs.declared.last.Last.{Last}
 use Rattle.cc_judge.specs.Judgements.{AreJudged, verdicts_of}
 use Rattle.cc_judge.specs.Kept.{named_verdict, named_verdicts, judgements_from, judgements_of, IsKept}
 use Rattle.cc_judge.specs.Places.{IsAbsentKey}
+use Rattle.cc_judge.specs.Settled.{AreSettled}
 use Rattle.cc_verdicts.specs.ModuleLaws.{NamesOfDevicesDiffer}
 use Rattle.cc_base.specs.declared.code.Code.{Code}
 use Rattle.cc_base.specs.declared.code.Code.TheVariants.{E32, E34}
@@ -44,10 +45,12 @@ unfolding IsStrictlySortedBy
 nothing_kept devices last no_verdicts no_grounds =
     let N : List (List ℕ × ModuleVerdict) → Type 0 = λ vs. IsStrictlySortedBy compare_names (keys_of vs) in
     let J : List (List ℕ × ModuleVerdict) → Type 0 = λ vs. AreJudged devices (judgements_from vs last.grounds.items) in
+    let S : List (List ℕ × ModuleVerdict) → Type 0 = λ vs. AreSettled (judgements_from vs last.grounds.items) in
     record {
       names = subst N (sym no_verdicts) tt;
       one_each = ap length no_grounds ∙ sym (ap length no_verdicts);
       judged = subst J (sym no_verdicts) tt;
+      settled = subst S (sym no_verdicts) tt;
     }
 
 pub new_session : (devices : List DeviceDecl) (present : Texts) (last : Last) → NamesOfDevicesDiffer devices

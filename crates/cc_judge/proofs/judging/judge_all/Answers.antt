@@ -4,8 +4,10 @@ use Rattle.cc_judge.specs.Carrying.{AreReady, HasRoom}
 use Rattle.cc_judge.specs.Judgements.{Judgement, AreJudged}
 use Rattle.cc_judge.specs.Kept.{judgements_from, judgements_of}
 use Rattle.cc_judge.specs.Plans.{planned}
+use Rattle.cc_judge.specs.Settled.{AreSettled}
 use Rattle.cc_verdicts.proofs.PresentLaws.{present_verdicts_exist}
 use Rattle.cc_judge.proofs.AllPlanned.{plans_ready, carried_judgements, judgements_judged, names_sorted}
+use Rattle.cc_judge.proofs.SettledJudgements.{judgements_settled}
 use Rattle.cc_judge.proofs.judging.judge_all.Goals as goal
 
 pub returns-in_err-plans-clause-ticks : goal.returns-in_err-plans-clause-ticks
@@ -80,4 +82,5 @@ returns-clause-kept g c =
           c.carry_out.ensures.one_each same;
       one_each = c.carry_out.ensures.one_each;
       judged = subst J (sym same) (judgements_judged devices texts all c.requires.differ c.requires.present are);
+      settled = subst AreSettled (sym same) (judgements_settled texts all);
     }

@@ -5,6 +5,7 @@ use Rattle.cc_judge.specs.Kept.{judgements_of}
 use Rattle.cc_judge.proofs.PlaceSchedules.{asks_planned}
 use Rattle.cc_judge.proofs.PutPlans.{none_right}
 use Rattle.cc_judge.proofs.RightPlans.{plans_counted}
+use Rattle.cc_judge.proofs.StillFound.{nothing_known}
 use Rattle.cc_judge.proofs.ScheduledPlans.{scheduled_at, planned_more, all_places_planned, ticks_more, ticks_enough}
 use Rattle.cc_judge.proofs.ScheduledPlans.{ticks_all}
 use Rattle.cc_judge.proofs.judging.plan_all.Goals as goal
@@ -17,6 +18,8 @@ loop-place-init g c =
       count = plans_counted c.args.devices.now c.args.texts.now (judgements_of c.args.last.now)
           c.in_ok-plans.plans.items c.requires.differ c.requires.present are;
       right = are;
+      known = nothing_known c.args.devices.now c.args.texts.now (judgements_of c.args.last.now)
+          c.in_ok-known.known.items c.in_ok-known.ensures;
       planned = λ place among. absurd among;
       ticks = λ all is. omega arith;
     }
@@ -62,6 +65,7 @@ loop-place-preserved g c =
       count = plans_counted c.args.devices.now texts last c.plan_place.new.plans.items c.requires.differ
           c.requires.present made.plans;
       right = made.plans;
+      known = c.in_ok-plan_place.ensures.known;
       planned = planned_more items i place c.loop-place.plans.items c.plan_place.new.plans.items c.loop-place-test.true
           is c.loop-place.invariant.planned made.stay made.planned;
       ticks = λ all are.

@@ -4,7 +4,7 @@ use Rattle.std.specs.Option.{option_map}
 use Rattle.cc_module.specs.Findings.{finding_of}
 use Rattle.cc_parse.specs.Trees.{imports_syntax}
 use Rattle.cc_judge.proofs.Graphs.{read_length}
-use Rattle.cc_judge.proofs.RightPlans.{made_fits, made_judged, made_stale, made_right, plans_counted}
+use Rattle.cc_judge.proofs.RightPlans.{made_fits, made_found, made_judged, made_stale, made_right, plans_counted}
 use Rattle.cc_judge.specs.Kept.{judgements_of}
 use Rattle.cc_judge.proofs.judging.plan_new.Goals as goal
 
@@ -28,6 +28,16 @@ findings_of-requires-clause-count g c =
 pub plan_module-requires-clause-fit : goal.plan_module-requires-clause-fit
 plan_module-requires-clause-fit g c =
     made_fits c.args.devices.now c.args.texts.now c.requires.differ c.requires.present
+    c.args.dependencies.now.readings.items c.requires.found.read c.args.last.now.verdicts.items
+    c.args.last.now.grounds.items c.args.plans.now c.requires.plans c.args.place c.requires.within c.requires.asked
+    (get_or c.args.texts.now c.args.place c.index-texts-place.result)
+    (ap (get_or c.args.texts.now c.args.place) c.index-texts-place.is) c.index-text.result.now c.index-text.ensures
+    (option_map imports_syntax c.imports.result.now) c.imports.ensures
+    (map finding_of c.in_ok-found.found.items) c.in_ok-found.ensures
+
+pub plan_module-requires-clause-found : goal.plan_module-requires-clause-found
+plan_module-requires-clause-found g c =
+    made_found c.args.devices.now c.args.texts.now c.requires.differ c.requires.present
     c.args.dependencies.now.readings.items c.requires.found.read c.args.last.now.verdicts.items
     c.args.last.now.grounds.items c.args.plans.now c.requires.plans c.args.place c.requires.within c.requires.asked
     (get_or c.args.texts.now c.args.place c.index-texts-place.result)
