@@ -1,97 +1,69 @@
-//! Names, found by a table.
+//! Names, found by their texts.
 
-ghost use Rattle.std.specs.Prelude.{◌≡◌, ◌≤◌, [], length, position, encode_utf8_all, IfOk, OnOk};
+ghost use Rattle.std.specs.Prelude.{◌≡◌, ◌≤◌, ℕ, List, [], length, position, encode_utf8_all, true, Some, IfOk, OnOk, is_some, if◌then◌else◌};
 ghost use Rattle.std.specs.List.{list_any};
 ghost use Rattle.std.specs.Str.{bytes_eq};
 ghost use Rattle.indexmap.specs.IndexSet.{insert_key};
+ghost use Rattle.cc_names.specs.Places.{place_in};
 
 use cc_base::name::Name;
-use indexmap::{Equivalent, IndexSet};
 use std::alloc::{AllocError, Global};
-use std::hash::{Hash, Hasher};
+use std::collections::BTreeMap;
 use std::marker::Model;
 
-// Bytes that a name is looked up by. They are hashed as the text that they may be.
-#[derive(Clone, Copy)]
-struct Spelling<'a> {
-    bytes: &'a [u8],
-}
-
-impl<'a> PartialEq for Spelling<'a> {
-    ghost use Rattle.std.specs.Cmp.{partial_equiv_from_equiv};
-    ghost use Rattle.std.specs.Cmp.Lexicographic.{on_texts_equal};
-    ghost use Rattle.std.specs.Str.{bytes_eq};
-
-    ghost eq = { λ a b. bytes_eq a.bytes.now b.bytes.now };
-
-    ghost laws = { partial_equiv_from_equiv (on_texts_equal (λ spelling. spelling.bytes.now)) };
-
-    fn eq(&self, other: &Spelling<'a>) -> bool {
-        self.bytes == other.bytes
-    }
-}
-
-impl<'a> Eq for Spelling<'a> {
-    ghost use Rattle.std.specs.Cmp.Lexicographic.{on_texts_equal};
-
-    ghost laws = { on_texts_equal (λ spelling. spelling.bytes.now) };
-}
-
-impl<'a> Hash for Spelling<'a> {
-    ghost use Rattle.std.proofs.Common.{ap};
-    ghost use Rattle.std.specs.Cmp.Lexicographic.{bytes_decides};
-    ghost use Rattle.std.specs.Hash as fed;
-
-    ghost hash_input = { λ spelling. fed.str spelling.bytes.now };
-
-    ghost respects_eq = { λ a b same. ap fed.str ((bytes_decides a.bytes.now b.bytes.now).0 same) };
-
-    fn hash<H: Hasher>(&self, state: &mut H) {
-        state.write(self.bytes);
-        state.write_u8(0xff);
-    }
-}
-
-impl<'a> Equivalent<Name> for Spelling<'a> {
-    ghost use Rattle.std.proofs.Common.{ap, ◌∙◌};
-    ghost use Rattle.std.specs.Cmp.Lexicographic.{bytes_decides, nat_list_eq_equiv};
-    ghost use Rattle.std.specs.Hash as fed;
-    ghost use Rattle.std.specs.Prelude.{encode_utf8_all};
-    ghost use Rattle.std.specs.Str.{bytes_eq};
-    ghost use Rattle.cc_base.specs.NameTexts.{bytes_eq-encodes};
-
-    ghost equivalent = { λ spelling name. bytes_eq spelling.bytes.now (encode_utf8_all name) };
-
-    ghost respects_hash = { λ spelling name same. ap fed.str ((bytes_decides spelling.bytes.now (encode_utf8_all name)).0 same) };
-
-    ghost respects_eq = { λ spelling name other same. nat_list_eq_equiv.congr spelling.bytes.now (encode_utf8_all name) (encode_utf8_all other) same ∙ bytes_eq-encodes name other };
-
-    fn equivalent(&self, key: &Name) -> bool {
-        self.bytes == key.as_str().as_bytes()
+// Gives the text, which has a place, this one.
+fn put_back(places: &mut BTreeMap<Vec<u8>, usize>, text: &[u8], place: usize)
+    requires { is_some (place_in places.old text.now) ≡ true }
+    ensures { (other : List ℕ) → place_in places.new other ≡ (if bytes_eq text.now other then Some place else place_in places.old other) }
+{
+    match places.get_mut(text) {
+        Some(stored) => *stored = place,
+        None => {}
     }
 }
 
 /// Names that differ, in order. Contracts see their list.
 #[derive(Drop)]
 pub struct Names {
-    names: IndexSet<Name>,
+    names: Vec<Name>,
+    places: BTreeMap<Vec<u8>, usize>,
+    alloc: Global,
 }
 
 impl Model for Names {
     ghost use Rattle.std.specs.Prelude.{List, ℕ};
+    ghost use Rattle.cc_names.specs.Places.{FindsPlaces};
 
     ghost Value = { List (List ℕ) };
 
-    ghost view = { λ n. n.names.keys };
+    ghost view = { λ n. n.names.items };
+
+    ghost invariant = { λ n. FindsPlaces n.places n.names.items };
 }
 
 impl Names {
+    // The number of names before the one of the text, if it is that of one of these.
+    fn place_of(&self, text: &[u8]) -> Option<usize>
+        ensures { result ≡ position (λ name. bytes_eq text.now (encode_utf8_all name)) self.now }
+    {
+        self.places.get(text).copied()
+    }
+
+    // The number of names before the name, if it is one of these.
+    fn named(&self, name: &Name) -> Option<usize>
+        ensures { result ≡ position (bytes_eq name.now) self.now }
+    {
+        self.place_of(name.as_str().as_bytes())
+    }
+
     /// No name. It takes no memory.
     pub fn new(alloc: Global) -> Names
         ensures { result ≡ [] }
     {
         Names {
-            names: IndexSet::new(alloc),
+            names: Vec::new(alloc),
+            places: BTreeMap::new(alloc),
+            alloc,
         }
     }
 
@@ -99,14 +71,14 @@ impl Names {
     pub fn contains(&self, name: &Name) -> bool
         ensures { result ≡ list_any (bytes_eq name.now) self.now }
     {
-        self.names.contains(name)
+        self.named(name).is_some()
     }
 
     /// The number of names before the name, if it is one of these. Fails only where that is beyond 2^32 - 1.
     pub fn position(&self, name: &Name) -> Result<Option<u32>, AllocError>
         ensures { IfOk result (λ p. p ≡ position (bytes_eq name.now) self.now) }
     {
-        match self.names.get_index_of(name) {
+        match self.named(name) {
             Some(index) => match u32::try_from(index) {
                 Ok(place) => Ok(Some(place)),
                 Err(_) => Err(AllocError),
@@ -120,7 +92,7 @@ impl Names {
         requires { length self.now ≤ 4294967296 }
         ensures { result ≡ position (λ name. bytes_eq word.now (encode_utf8_all name)) self.now }
     {
-        match self.names.get_index_of(Spelling { bytes: word }) {
+        match self.place_of(word) {
             Some(index) => Some(index as u32),
             None => None,
         }
@@ -130,9 +102,19 @@ impl Names {
     pub fn add(&mut self, name: &Name) -> Result<(), AllocError>
         ensures { OnOk result (self.new ≡ insert_key bytes_eq self.old name.now) }
     {
-        match self.names.insert(name.clone()?) {
-            Ok(_) => Ok(()),
-            Err(_) => Err(AllocError),
+        let copy = name.clone()?;
+        let text = name.as_str().as_bytes().to_vec(self.alloc)?;
+        let place = self.names.len();
+        self.names.reserve(1)?;
+        match self.places.insert(text, place)? {
+            Some(earlier) => {
+                put_back(&mut self.places, name.as_str().as_bytes(), earlier);
+                Ok(())
+            }
+            None => {
+                self.names.push_reserved(copy);
+                Ok(())
+            }
         }
     }
 }
