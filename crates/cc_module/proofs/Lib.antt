@@ -3,3 +3,4 @@ mod JudgedTexts
 mod JudgedTrees
 mod TextsRead
 mod NamedDefinitions
+pub mod PlacedNames

@@ -1,13 +1,14 @@
 -- Where the definitions of a module stand, by their names. It serves the code alone.
 use Rattle.std.specs.Prelude.{◌≡◌, ℕ, List, [], ◌∷◌, Option, Some, None, slice_get, if◌then◌else◌}
-use Rattle.std.specs.HashMap.{get}
+use Rattle.std.specs.BTreeMap.{get}
 use Rattle.std.specs.Str.{bytes_eq}
+use Rattle.cc_base.specs.Names.{compare_names}
 use Rattle.cc_module.specs.declared.judgement.CheckedDef.{CheckedDef}
 use Rattle.cc_module.specs.declared.definitions.Places.{Places}
 
 -- the place of the name, if it has one
 abbrev pub place_in : Places → List ℕ → Option ℕ
-place_in places name = get bytes_eq places.places name
+place_in places name = get compare_names places.places name
 
 -- the first definition of the name, if there is one
 abbrev pub first_named : List ℕ → List CheckedDef → Option CheckedDef

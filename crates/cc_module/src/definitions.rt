@@ -7,12 +7,12 @@ ghost use Rattle.cc_module.specs.DefinitionPlaces.{place_in, first_named, defini
 use crate::judgement::CheckedDef;
 use cc_base::name::Name;
 use std::alloc::{AllocError, Global};
-use std::collections::HashMap;
+use std::collections::BTreeMap;
 
 // The places of definitions, by their names.
 #[derive(Drop)]
 struct Places {
-    places: HashMap<Name, usize>,
+    places: BTreeMap<Name, usize>,
 }
 
 impl Places {
@@ -21,7 +21,7 @@ impl Places {
         ensures { (name : List ℕ) → place_in result name ≡ None }
     {
         Places {
-            places: HashMap::new(alloc),
+            places: BTreeMap::new(alloc),
         }
     }
 
@@ -29,10 +29,9 @@ impl Places {
     fn put(&mut self, name: &Name, place: usize) -> Result<(), AllocError>
         ensures { OnOk result ((other : List ℕ) → place_in self.new other ≡ (if bytes_eq name.now other then Some place else place_in self.old other)) }
     {
-        match self.places.insert(name.clone()?, place) {
-            Ok(_) => Ok(()),
-            Err(_) => Err(AllocError),
-        }
+        let copy = name.clone()?;
+        self.places.insert(copy, place)?;
+        Ok(())
     }
 
     // The place of the name, if it has one.
