@@ -4,13 +4,13 @@ ghost use Rattle.std.specs.Str.{bytes_eq};
 ghost use Rattle.cc_link.specs.Tables.{definition_position, module_position};
 
 use cc_base::name::Name;
-use indexmap::IndexMap;
 use std::alloc::{AllocError, Global};
+use std::collections::BTreeMap;
 
 /// Where the definitions of one module stand.
 #[derive(Drop)]
 pub struct DefinitionTable {
-    positions: IndexMap<Name, u32>,
+    positions: BTreeMap<Name, u32>,
 }
 
 impl DefinitionTable {
@@ -19,7 +19,7 @@ impl DefinitionTable {
         ensures { (name : List ℕ) → definition_position result name ≡ None }
     {
         DefinitionTable {
-            positions: IndexMap::new(alloc),
+            positions: BTreeMap::new(alloc),
         }
     }
 
@@ -27,10 +27,9 @@ impl DefinitionTable {
     pub fn add(&mut self, name: &Name, position: u32) -> Result<(), AllocError>
         ensures { OnOk result ((other : List ℕ) → definition_position self.new other ≡ (if bytes_eq name.now other then Some position else definition_position self.old other)) }
     {
-        match self.positions.insert(name.clone()?, position) {
-            Ok(_) => Ok(()),
-            Err(_) => Err(AllocError),
-        }
+        let copy = name.clone()?;
+        self.positions.insert(copy, position)?;
+        Ok(())
     }
 
     /// The position of the name, if it has one. It takes no memory.
@@ -44,7 +43,7 @@ impl DefinitionTable {
 /// Where the definitions of modules stand.
 #[derive(Drop)]
 pub struct ModuleTable {
-    modules: IndexMap<Name, DefinitionTable>,
+    modules: BTreeMap<Name, DefinitionTable>,
 }
 
 impl ModuleTable {
@@ -53,7 +52,7 @@ impl ModuleTable {
         ensures { (module_name name : List ℕ) → module_position result module_name name ≡ None }
     {
         ModuleTable {
-            modules: IndexMap::new(alloc),
+            modules: BTreeMap::new(alloc),
         }
     }
 
@@ -61,10 +60,9 @@ impl ModuleTable {
     pub fn add(&mut self, name: &Name, definitions: DefinitionTable) -> Result<(), AllocError>
         ensures { OnOk result ((module_name other : List ℕ) → module_position self.new module_name other ≡ (if bytes_eq name.now module_name then definition_position definitions other else module_position self.old module_name other)) }
     {
-        match self.modules.insert(name.clone()?, definitions) {
-            Ok(_) => Ok(()),
-            Err(_) => Err(AllocError),
-        }
+        let copy = name.clone()?;
+        self.modules.insert(copy, definitions)?;
+        Ok(())
     }
 
     /// The position of the definition of the module, if there is one. It takes no memory.
