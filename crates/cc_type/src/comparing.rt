@@ -1,9 +1,9 @@
 //! The steps of inference that ask something.
 
-ghost use Rattle.std.specs.Prelude.{◌≡◌, ◌-◌, true, IfOk};
+ghost use Rattle.std.specs.Prelude.{◌≡◌, ◌-◌, true, [], IfOk, IsTrue};
 ghost use Rattle.cc_core.specs.TermViews.{shape_of, type_of, context_of};
 ghost use Rattle.cc_core.specs.WellFormed.{IsWellFormedContext, IsWellFormedShape, IsWellFormedType};
-ghost use Rattle.cc_checking.specs.Comparison.{comparison};
+ghost use Rattle.cc_checking.specs.Comparison.{Matches, comparison};
 ghost use Rattle.cc_checking.specs.Inference as plain;
 ghost use Rattle.cc_subty.specs.Demands.{asked_of};
 ghost use Rattle.cc_known.specs.ComparedPairs.{is_compared_as, IsKept};
@@ -24,6 +24,7 @@ use cc_core::{Ctx, Shape, Ty};
 use cc_known::bases::{named_by, oldest};
 use cc_known::known::Known;
 use cc_known::stop::{Stop, refused};
+use cc_subty::exposing::bound_of;
 use std::alloc::{AllocError, Global};
 
 // Of smaller shapes it is not remembered that they were compared.
@@ -93,8 +94,28 @@ fn gone_over(
     Ok(true)
 }
 
+// Whether the two shapes are one, or the left one is a type variable whose bounds lead to the right one, in so many
+// levels at most.
+fn leads_to(ctx: &Ctx, left: &Shape, right: &Shape, steps: u32) -> bool
+    ensures { IsTrue result → comparison steps (context_of ctx.now) (shape_of left.now) (shape_of right.now) ≡ Matches [] }
+{
+    if steps == 0 {
+        return false;
+    }
+    if same_shape(left, right) {
+        return true;
+    }
+    match left {
+        Shape::TVar(variable) => match bound_of(ctx, *variable) {
+            Some(bound) => leads_to(ctx, bound, right, steps - 1),
+            None => false,
+        },
+        _ => false,
+    }
+}
+
 // Keeps what has to be kept of the comparison of the two shapes, and answers whether they match. Two that are one are
-// not gone over, and neither are two of which nothing has to be kept: behind something lost, where their forms match, or
+// not gone over, nor is a type variable whose bounds lead to the right one, and neither are two of which nothing has to be kept: behind something lost, where their forms match, or
 // since they were compared before.
 fn matching(
     alloc: Global,
@@ -109,7 +130,7 @@ fn matching(
     requires right { IsWellFormedShape (context_of ctx.now) (shape_of right.now) }
     ensures { IfOk result (λ m. IsKept at (comparison most_steps (context_of ctx.now) (shape_of left.now) (shape_of right.now)) m (asked_of log.old.demands) (asked_of log.new.demands)) }
 {
-    if same_shape(left, right) {
+    if leads_to(ctx, left, right, u32::MAX) {
         return Ok(true);
     }
     if match_behind(left, right, log) {

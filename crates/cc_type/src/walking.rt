@@ -436,7 +436,16 @@ fn keep_own(
     }
 }
 
-// Goes over the bound of the variable and the shape, unless it is remembered that they match.
+// Whether the shape is a type variable.
+fn is_name(shape: &Shape) -> bool {
+    match shape {
+        Shape::TVar(_) => true,
+        _ => false,
+    }
+}
+
+// Goes over the bound of the variable and the shape, unless it is remembered that they match. Where the bound is a type
+// variable, the next step remembers it, and this one takes none.
 #[cycle(walk)]
 fn keep_bound(
     alloc: Global,
@@ -455,7 +464,7 @@ fn keep_bound(
     ensures kept { IfOk result (λ m. Keeps (length (context_of log.old.known.base)) false at (comparison steps (context_of ctx.now) (shape_in (context_of ctx.now) (shape_of bound.now)) (shape_in (context_of ctx.now) (shape_of right.now))) m log.old.settled log.new.settled (asked_of log.old.demands) (asked_of log.new.demands)) }
     ensures base { log.new.known.base ≡ log.old.known.base }
 {
-    if steps <= FEWER {
+    if steps <= FEWER || is_name(bound) {
         return keep_shapes(alloc, ctx, bound, right, at, log, steps, false);
     }
     let name = Shape::TVar(variable);
