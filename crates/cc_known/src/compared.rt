@@ -15,13 +15,19 @@ ghost use Rattle.cc_known.specs.ComparedAgain.{seen};
 ghost use Rattle.cc_known.specs.ComparedPairs.{is_compared, is_compared_as, StandsSeen, IsKept};
 
 use crate::pairs::copy;
+use crate::traces::trace_of_shapes;
 use cc_capture::CapSet;
 use cc_core::same::same_shape;
+use cc_core::sizes::shape_size;
 use cc_core::{Bind, Ctx, Shape};
 use std::alloc::{AllocError, Global};
+use std::collections::HashMap;
 
-// So many pairs are remembered at most.
-const MOST: usize = 16;
+// So many pairs are remembered at most,
+const MOST: usize = 1024;
+
+// and fewer where their shapes and the entries of their contexts are more than so many together.
+const ROOM: u64 = 262144;
 
 /// Two shapes of a context, of whose comparison nothing has to be kept.
 #[derive(Drop)]
@@ -117,38 +123,85 @@ fn is_of(pair: &Compared, left: &Shape, right: &Shape) -> bool
     same_shape(&pair.right, right)
 }
 
-// Whether one of the pairs is that of the two shapes, and nothing of their comparison in the context has to be kept.
-fn is_among(pairs: &[Compared], ctx: &Ctx, left: &Shape, right: &Shape) -> bool
+// The place of the last pair before this one with the same trace, if there is one.
+fn earlier(before: &[Option<usize>], place: usize) -> Option<usize> {
+    match before.get(place) {
+        Some(earlier) => *earlier,
+        None => None,
+    }
+}
+
+// Whether one of the pairs, at the place or of those with the same trace before it, is that of the two shapes, and
+// nothing of their comparison in the context has to be kept.
+fn is_among(
+    pairs: &[Compared],
+    before: &[Option<usize>],
+    last: Option<usize>,
+    ctx: &Ctx,
+    left: &Shape,
+    right: &Shape,
+) -> bool
     requires { IsWellFormedContext (context_of ctx.now) }
     ensures { IsTrue result → (steps : ℕ) (log : List Placed) (at : Place) → list_all (is_compared steps log) pairs.now ≡ true → IsKept at (comparison steps (context_of ctx.now) (shape_of left.now) (shape_of right.now)) true log log }
 {
-    for place in 0..pairs.len() {
+    let mut limit = pairs.len();
+    let mut next = last;
+    while let Some(place) = next {
+        if place >= limit {
+            return false;
+        }
         let pair = &pairs[place];
         if is_of(pair, left, right) {
             return stands_in(&pair.context, ctx);
         }
+        limit = place;
+        next = earlier(before, place);
     }
     false
 }
 
-// The place of a pair of the two shapes.
-fn place_of(pairs: &[Compared], left: &Shape, right: &Shape) -> Option<usize>
+// The place of a pair of the two shapes, at the place or of those with the same trace before it.
+fn place_of(
+    pairs: &[Compared],
+    before: &[Option<usize>],
+    last: Option<usize>,
+    left: &Shape,
+    right: &Shape,
+) -> Option<usize>
     ensures { IfSome result (λ place. place < length pairs.now) }
 {
-    for place in 0..pairs.len() {
+    let mut limit = pairs.len();
+    let mut next = last;
+    while let Some(place) = next {
+        if place >= limit {
+            return None;
+        }
         if is_of(&pairs[place], left, right) {
             return Some(place);
         }
+        limit = place;
+        next = earlier(before, place);
     }
     None
+}
+
+// How much room the pair takes: as many parts as its shapes have, and entries as its context.
+fn room_of(pair: &Compared) -> u64 {
+    shape_size(&pair.left)
+        .saturating_add(shape_size(&pair.right))
+        .saturating_add(u64::from(pair.context.len()))
 }
 
 /// Pairs of shapes that were compared, of which nothing has to be kept where they come again.
 #[derive(Drop)]
 pub struct ComparedPairs {
     pub pairs: Vec<Compared>,
-    // Where the next one goes for which there is no room.
-    next: usize,
+    // For each of them, where the last one before it with the same trace stands, if there is one.
+    before: Vec<Option<usize>>,
+    // Where the last pair with a trace stands.
+    last: HashMap<u64, usize>,
+    // How much room they take.
+    room: u64,
 }
 
 impl ComparedPairs {
@@ -158,7 +211,9 @@ impl ComparedPairs {
     {
         ComparedPairs {
             pairs: Vec::new(alloc),
-            next: 0,
+            before: Vec::new(alloc),
+            last: HashMap::new(alloc),
+            room: 0,
         }
     }
 
@@ -167,7 +222,18 @@ impl ComparedPairs {
         requires { IsWellFormedContext (context_of ctx.now) }
         ensures { IsTrue result → (steps : ℕ) (log : List Placed) (at : Place) → list_all (is_compared steps log) self.now.pairs.items ≡ true → IsKept at (comparison steps (context_of ctx.now) (shape_of left.now) (shape_of right.now)) true log log }
     {
-        is_among(self.pairs.as_slice(), ctx, left, right)
+        if self.pairs.is_empty() {
+            return false;
+        }
+        let last = self.last.get(&trace_of_shapes(left, right)).copied();
+        is_among(
+            self.pairs.as_slice(),
+            self.before.as_slice(),
+            last,
+            ctx,
+            left,
+            right,
+        )
     }
 
     // Puts the pair in the place of another one.
@@ -178,30 +244,66 @@ impl ComparedPairs {
         self.pairs[place] = pair;
     }
 
-    // Puts the pair where there is room, or else in the place of another one.
-    fn add(&mut self, pair: Compared) -> Result<(), AllocError>
+    // Puts the pair behind the others, with the last one before it with the same trace.
+    fn push(
+        &mut self,
+        trace: u64,
+        before: Option<usize>,
+        room: u64,
+        pair: Compared,
+    ) -> Result<(), AllocError>
         ensures { (steps : ℕ) (log : List Placed) → list_all (is_compared steps log) self.old.pairs.items ≡ true → is_compared steps log pair ≡ true → list_all (is_compared steps log) self.new.pairs.items ≡ true }
     {
-        if self.pairs.len() < MOST {
-            self.pairs.push(pair)?;
-            return Ok(());
+        let place = self.pairs.len();
+        self.before.push(before)?;
+        self.pairs.push(pair)?;
+        self.room = self.room.saturating_add(room);
+        match self.last.insert(trace, place) {
+            Ok(_) => Ok(()),
+            Err(_) => Err(AllocError),
         }
-        let place = self.next % MOST;
-        self.next = place + 1;
-        self.put(place, pair);
-        Ok(())
+    }
+
+    // Forgets all pairs.
+    fn clear(&mut self)
+        ensures { self.new.pairs.items ≡ [] }
+    {
+        self.pairs.clear();
+        self.before.clear();
+        self.last.clear();
+        self.room = 0;
+    }
+
+    // Puts the pair behind the others, or in the place of all of them where there is no room.
+    fn add(&mut self, trace: u64, before: Option<usize>, pair: Compared) -> Result<(), AllocError>
+        ensures { (steps : ℕ) (log : List Placed) → list_all (is_compared steps log) self.old.pairs.items ≡ true → is_compared steps log pair ≡ true → list_all (is_compared steps log) self.new.pairs.items ≡ true }
+    {
+        let room = room_of(&pair);
+        if self.pairs.len() < MOST && self.room.saturating_add(room) <= ROOM {
+            return self.push(trace, before, room, pair);
+        }
+        self.clear();
+        self.push(trace, None, room, pair)
     }
 
     /// Remembers the pair, in the place of one with the same shapes.
     pub fn remember(&mut self, pair: Compared) -> Result<(), AllocError>
         ensures { (steps : ℕ) (log : List Placed) → list_all (is_compared steps log) self.old.pairs.items ≡ true → is_compared steps log pair ≡ true → list_all (is_compared steps log) self.new.pairs.items ≡ true }
     {
-        match place_of(self.pairs.as_slice(), &pair.left, &pair.right) {
+        let trace = trace_of_shapes(&pair.left, &pair.right);
+        let last = self.last.get(&trace).copied();
+        match place_of(
+            self.pairs.as_slice(),
+            self.before.as_slice(),
+            last,
+            &pair.left,
+            &pair.right,
+        ) {
             Some(place) => {
                 self.put(place, pair);
                 Ok(())
             }
-            None => self.add(pair),
+            None => self.add(trace, last, pair),
         }
     }
 }

@@ -75,3 +75,74 @@ pub(crate) fn with_shape(shape: &Shape, before: u64) -> u64 {
 pub(crate) fn trace_of(variable: Var, right: &Shape) -> u64 {
     of_shape(right, u64::from(number_of(Elem::Var(variable))))
 }
+
+// So many parts of a shape are looked at for a number of two shapes. More would take as long as to compare them.
+const PARTS: u32 = 512;
+
+// A number made of the first parts of shapes, and how many more are looked at.
+#[derive(Clone, Copy)]
+struct Front {
+    trace: u64,
+    parts: u32,
+}
+
+// With one part more.
+fn with_part(front: Front, number: u32) -> Front {
+    Front {
+        trace: mixed(front.trace, number),
+        parts: front.parts.saturating_sub(1),
+    }
+}
+
+#[cycle(fronts)]
+fn front_of_type(ty: &Ty, before: Front) -> Front {
+    if before.parts == 0 {
+        return before;
+    }
+    let front = Front {
+        trace: of_set(&ty.set, before.trace),
+        parts: before.parts,
+    };
+    front_of_shape(&ty.shape, front)
+}
+
+#[cycle(fronts)]
+fn front_of_shape(shape: &Shape, before: Front) -> Front {
+    if before.parts == 0 {
+        return before;
+    }
+    match shape {
+        Shape::Base(base) => with_part(before, number_of_base(*base)),
+        Shape::Any => with_part(before, 1),
+        Shape::TVar(variable) => with_part(before, number_of(Elem::Var(*variable))),
+        Shape::Fun(takes, gives) => {
+            let front = front_of_type(takes, with_part(before, 2));
+            front_of_type(gives, front)
+        }
+        Shape::TFun(bound, gives) => {
+            let front = front_of_shape(bound, with_part(before, 3));
+            front_of_type(gives, front)
+        }
+        Shape::Boxed(content) => front_of_type(content, with_part(before, 4)),
+        Shape::Exit(gives) => front_of_shape(gives, with_part(before, 5)),
+    }
+}
+
+/// The number of the first parts of two shapes.
+pub(crate) fn trace_of_shapes(left: &Shape, right: &Shape) -> u64 {
+    let front = front_of_shape(
+        left,
+        Front {
+            trace: 0,
+            parts: PARTS,
+        },
+    );
+    let front = front_of_shape(
+        right,
+        Front {
+            trace: front.trace,
+            parts: PARTS,
+        },
+    );
+    front.trace
+}

@@ -13,5 +13,5 @@ returns-then-is_of c = λ holds steps log at all.
     compared_keeps steps log at (context_of pair.context) (context_of c.args.ctx.now) left right c.requires
     (c.stands_in.ensures holds)
     (alike_compared steps log pair left right (c.is_of.ensures.left c.if-is_of.true) (c.is_of.ensures.right c.if-is_of.true)
-    (passes-at (is_compared steps log) c.args.pairs.now c.loop-place.place pair (omega (arith, c.loop-place-test.true))
-    c.index-pairs-place.is all))
+    (passes-at (is_compared steps log) c.args.pairs.now c.in-Some.place pair
+    (omega (arith, c.if-place-limit.false, c.loop-next.invariant)) c.index-pairs-place.is all))
