@@ -115,8 +115,8 @@ fn leads_to(ctx: &Ctx, left: &Shape, right: &Shape, steps: u32) -> bool
 }
 
 // Keeps what has to be kept of the comparison of the two shapes, and answers whether they match. Two that are one are
-// not gone over, nor is a type variable whose bounds lead to the right one, and neither are two of which nothing has to be kept: behind something lost, where their forms match, or
-// since they were compared before.
+// not gone over, nor is a type variable whose bounds lead to the right one, and neither are two of which nothing has to
+// be kept: behind something lost, where their forms match, or since they were compared before.
 fn matching(
     alloc: Global,
     ctx: &Ctx,
