@@ -95,3 +95,35 @@ parts_of_shapes_have_kinds = record {
   shape_of_a_type = refl;
   set_of_a_type = refl;
 }
+
+pub indices_have_binders : example.IndicesHaveBinders
+unfolding same_set contains image flat_image from_list union retain remove insert placed element_order same_element same_variable empty
+indices_have_binders = record {
+  variable = refl;
+  parameter = refl;
+  set_of_a_parameter = refl;
+  bound = refl;
+  box = refl;
+  called = refl;
+  argument = refl;
+  applied_to_a_type = refl;
+  type_argument = refl;
+  set_of_an_unboxing = refl;
+  opened = refl;
+  type_of_a_let = refl;
+  set_of_a_let = refl;
+  shape_of_a_let = refl;
+  left_operand = refl;
+  right_operand = refl;
+  type_of_a_choice = refl;
+  condition = refl;
+  count = refl;
+  repeated = refl;
+  receiver = refl;
+  operand = refl;
+  shape_of_a_boundary = refl;
+  type_of_an_exit = refl;
+  set_of_an_exit = refl;
+  left = refl;
+  left_with = refl;
+}

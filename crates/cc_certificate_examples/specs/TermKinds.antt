@@ -102,6 +102,43 @@ pub record PartsHaveKinds : Type 0 where
   pub left : Fits (Leave right right_set type_name term_name) false
   pub left_with : Fits (Leave right right_set term_name type_name) false
 
+-- a shape and a set of indices of no binder
+abbrev pub nowhere : Shape
+nowhere = TypeVariable (Bound 0)
+
+abbrev pub nowhere_set : Set
+nowhere_set = single (Variable (Bound 1))
+
+-- An index counts a binder that was passed, and no entry, in each part of each form.
+pub record IndicesHaveBinders : Type 0 where
+  pub variable : Fits (VariableTerm (Bound 1)) false
+  pub parameter : Fits (FunctionTerm nowhere right_set one) false
+  pub set_of_a_parameter : Fits (FunctionTerm right nowhere_set one) false
+  pub bound : Fits (TypeFunctionTerm nowhere one) false
+  pub box : Fits (BoxTerm (Bound 1)) false
+  pub called : Fits (Application (Bound 1) term_name) false
+  pub argument : Fits (Application term_name (Bound 1)) false
+  pub applied_to_a_type : Fits (TypeApplication (Bound 1) right) false
+  pub type_argument : Fits (TypeApplication term_name nowhere) false
+  pub set_of_an_unboxing : Fits (Unboxing (Some nowhere_set) term_name) false
+  pub opened : Fits (Unboxing (Some right_set) (Bound 1)) false
+  pub type_of_a_let : Fits (Let (Written nowhere right_set) one one) false
+  pub set_of_a_let : Fits (Let (Written right nowhere_set) one one) false
+  pub shape_of_a_let : Fits (Let (Own nowhere) one one) false
+  pub left_operand : Fits (Primitive operators.Add (Bound 1) term_name) false
+  pub right_operand : Fits (Primitive operators.Add term_name (Bound 1)) false
+  pub type_of_a_choice : Fits (Conditional (Own nowhere) term_name one one) false
+  pub condition : Fits (Conditional (Own right) (Bound 1) one one) false
+  pub count : Fits (Repetition (Bound 1) term_name) false
+  pub repeated : Fits (Repetition term_name (Bound 1)) false
+  pub receiver : Fits (Operation operations.Print (Bound 1) (Some term_name)) false
+  pub operand : Fits (Operation operations.Print term_name (Some (Bound 1))) false
+  pub shape_of_a_boundary : Fits (Boundary nowhere one) false
+  pub type_of_an_exit : Fits (Leave nowhere right_set term_name term_name) false
+  pub set_of_an_exit : Fits (Leave right nowhere_set term_name term_name) false
+  pub left : Fits (Leave right right_set (Bound 1) term_name) false
+  pub left_with : Fits (Leave right right_set term_name (Bound 1)) false
+
 -- whether each part of the shape is of the kind that its place wants
 abbrev pub ShapeFits : Shape → Bool → Type 0
 ShapeFits shape fits = is_well_formed_shape kinds [] shape ≡ fits
