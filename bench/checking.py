@@ -326,6 +326,61 @@ def chains_of_own_parameters(count):
     return 'def f=fun(x:%s(u:Unit)->X%d)=>val r:%s(u:Unit)->(z:Y%d)->Int=x;unit\n' % (text, count, text, count)
 
 
+def summed(parts):
+    """The sum of the expressions, in a tree that is not high."""
+    while len(parts) > 1:
+        parts = ['(%s)' % '+'.join(parts[at:at + 2]) if at + 1 < len(parts) else parts[at] for at in range(0, len(parts), 2)]
+    return parts[0]
+
+
+def bounds_by_turns(count):
+    """A chain of 68 type parameters below a large bound, of which the last eighteen are compared with it by turns, so many
+    times."""
+    bound = functions(functions('Unit', 14, 'Unit'), 64, 'Unit')
+    chain = ''.join('fun[X%d<:X%d]=>' % (at, at - 1) for at in range(1, 68))
+    turns = summed(['(val a=t[X%d];1)' % (67 - at % 18) for at in range(count)])
+    return 'def t=fun[Z<:%s]=>1\ndef f=fun[X0<:%s]=>%sfun(u:Unit)=>%s\n' % (bound, bound, chain, turns)
+
+
+def wanted_and_given():
+    """A function that wants twelve functions, which each take fourteen parameters of a shape, and one that gives such."""
+    wants = functions(functions('X', 14, 'Unit'), 12, 'Unit')
+    gives = 'fun(g:%s)=>' % functions('X', 14, 'Unit') * 12
+    return 'def w=fun[X<:Any]=>%sunit\ndef f=fun[X<:Any]=>fun(k:%s)=>1\n' % (gives, wants)
+
+
+def pairs_by_turns(count):
+    """Eighteen pairs of such types by turns, so many comparisons in all, whose sets lead through thirty closures."""
+    text = wanted_and_given() + 'def m=fun(c:Unit^{cap})=>val a0=fun(x:Int)=>val y=c;x;'
+    text += ''.join('val a%d=fun(x:Int)=>a%d(x);' % (at, at - 1) for at in range(1, 30))
+    box = 'Box[((x:Int)->Int)^{a%d,a%d}]'
+    shape = lambda at: '(z:(q:%s)->(r:%s)->Unit)->Unit' % (box % (29 - at % 27, 28 - at % 27), box % (28 - at % 27, 27 - at % 27))
+    above = lambda at: shape(at).replace('}]', ',c}]')
+    text += ''.join('val v%d=w[%s];val h%d=f[%s];' % (at, shape(at), at, above(at)) for at in range(18))
+    return text + summed(['h%d(v%d)' % (at % 18, at % 18) for at in range(count)]) + '\n'
+
+
+def a_pair_behind_definitions(count):
+    """One pair of such types behind so many definitions, compared four times as often."""
+    text = ''.join('def %s=1\n' % name for name in names(count + 40)[40:])
+    text += 'def z=fun(x:Int)=>out.print(x)\n' + wanted_and_given() + 'def m=fun(c:Unit^{cap})=>'
+    shape = lambda set: '(z:%s(r:Int)->Unit)->Unit' % ('(q:Box[((x:Int)->Unit)^{%s}])->' % set * 2)
+    text += 'val v=w[%s];val h=f[%s];' % (shape('z'), shape('z,c'))
+    return text + summed(['h(v)'] * (3 * count)) + '\n'
+
+
+def results_by_parameter(count):
+    """So many definitions of 95 calls each of a function whose large result names its parameter."""
+    text = 'def t=fun[X<:Any]=>fun(y:%s)=>1\n' % functions(functions('X', 19, 'Unit'), 25, 'Unit')
+    text += 'def f=fun(z:Unit^{cap})=>t[Box[Unit^{z}]]\n'
+    return text + ''.join('def d%d=fun(u:Unit^{cap})=>%s1\n' % (at, 'val a=f(u);' * 95) for at in range(count))
+
+
+def results_by_own_values(count):
+    """So many definitions that each give a large result of a call which names a value of its own."""
+    return results_by_parameter(0) + ''.join('def d%d=fun(u:Unit^{cap})=>val v=u;f(v)\n' % at for at in range(count))
+
+
 # Bars: so many milliseconds and so many megabytes.
 CHAIN, COMPARED, KEPT, LARGE, DEAR = (50, 50), (300, 50), (400, 50), (600, 50), (1000, 200)
 
@@ -368,6 +423,11 @@ TEXTS = [
     ('96 functions of large types', functions_of_large_types, 60, 60, DEAR),
     ('calls of large types', calls_of_large_types, 5200, 3, DEAR),
     ('large types of many positions', many_positions, 450, 499, DEAR),
+    ('68 bounds of one large type by turns', bounds_by_turns, 2200, 2, (150, 50)),
+    ('eighteen pairs of large types by turns', pairs_by_turns, 5800, 3, DEAR),
+    ('a pair of large types behind definitions', a_pair_behind_definitions, 2050, 2054, DEAR),
+    ('large results that name a parameter', results_by_parameter, 56, 58, DEAR),
+    ('large results that name own values', results_by_own_values, 1480, 1482, DEAR),
 ]
 
 

@@ -41,6 +41,11 @@ impl CapSet {
         }
     }
 
+    /// The allocator that the set takes its memory from.
+    pub fn allocator(&self) -> Global {
+        *self.words.allocator()
+    }
+
     /// The set of the elements of a slice, in whatever order and however often they stand there.
     pub fn from_elems(alloc: Global, elems: &[Elem]) -> Result<CapSet, AllocError>
         ensures { IfOk result (λ s. s ≡ set.from_list elems.now) }

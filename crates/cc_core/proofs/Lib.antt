@@ -9,6 +9,7 @@ pub mod Conditions
 pub mod ContextEntries
 pub mod DerivationComparisons
 pub mod DerivationTypings
+pub mod DroppedParts
 pub mod FreeActions
 pub mod FreshOpenings
 pub mod IndexedLookups

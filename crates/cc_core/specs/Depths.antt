@@ -1,9 +1,6 @@
--- How deep a walk is.
-use Rattle.std.specs.Prelude.{ℕ, zero, suc}
-use Rattle.cc_core.specs.declared.sizes.Depth.{Depth}
-use Rattle.cc_core.specs.declared.sizes.Depth.TheVariants.{Top, Under'}
+-- How deep a walk is, as it is counted: one more than the greatest index is the most.
+use Rattle.std.specs.Prelude.{ℕ, min}
 
--- the number of binders above
-abbrev pub depth_of : Depth → ℕ
-depth_of Top = zero
-depth_of (Under' pointer outer) = suc (depth_of outer)
+-- the number of binders above, or the most
+abbrev pub counted_depth : ℕ → ℕ
+counted_depth binders = min binders 4294967296

@@ -12,6 +12,7 @@ pub mod Derivations
 pub mod Entries
 pub mod Equality
 pub mod Holes
+pub mod Leaves
 pub mod Occurrences
 pub mod Places
 pub mod Programs

@@ -1,8 +1,8 @@
 //! Sizes of types. They take no memory, and stop at the greatest number.
 
-ghost use Rattle.std.specs.Prelude.{◌≡◌, ◌+◌, ◌-◌, ◌^◌, min, nat_eq};
+ghost use Rattle.std.specs.Prelude.{◌≡◌, ℕ, suc, ◌+◌, ◌-◌, ◌^◌, ◌≤◌, min};
 ghost use Rattle.cc_core.specs.Sizes as plain;
-ghost use Rattle.cc_core.specs.Depths.{depth_of};
+ghost use Rattle.cc_core.specs.Depths.{counted_depth};
 ghost use Rattle.cc_core.specs.TermViews.{shape_of, type_of};
 
 use crate::types::{Shape, Ty};
@@ -45,38 +45,39 @@ pub fn size(ty: &Ty) -> u64
 pub fn subst_size(ty: &Ty, by: &Shape) -> u64
     ensures { result ≡ min (plain.size_with (shape_of by.now) (type_of ty.now)) (2 ^ 64 - 1) }
 {
-    type_size_with(shape_size(by), &Depth::Top, ty)
+    type_size_with(shape_size(by), 0, ty)
 }
 
-// How many binders are above, as a list of them, so that a walk of any depth takes no memory but its stack.
-#[derive(Drop)]
-enum Depth<'a> {
-    Top,
-    Under(&'a Depth<'a>),
-}
+// One more than the greatest index: no index counts as many binders.
+const GREATEST_DEPTH: u64 = 4294967296;
 
-// Whether the index counts the binders above.
-fn is_outermost(index: u32, depth: &Depth) -> bool
-    ensures { result ≡ nat_eq index (depth_of depth.now) }
+// The depth under one binder more.
+fn deeper(depth: u64) -> u64
+    requires { depth ≤ 4294967296 }
+    ensures within { result ≤ 4294967296 }
+    ensures deeper { (binders : ℕ) → depth ≡ counted_depth binders → result ≡ counted_depth (suc binders) }
 {
-    match depth {
-        Depth::Top => index == 0,
-        Depth::Under(outer) => index != 0 && is_outermost(index - 1, outer),
+    if depth < GREATEST_DEPTH {
+        depth + 1
+    } else {
+        depth
     }
 }
 
-fn variable_size_with(size: u64, depth: &Depth, variable: Var) -> u64
-    ensures { result ≡ plain.counted_variable size (depth_of depth.now) variable }
+fn variable_size_with(size: u64, depth: u64, variable: Var) -> u64
+    ensures { (binders : ℕ) → depth ≡ counted_depth binders → result ≡ plain.counted_variable size binders variable }
 {
     match variable {
-        Var::Bound(index) => { if is_outermost(index, depth) { size } else { 1 } }
+        Var::Bound(index) => { if u64::from(index) == depth { size } else { 1 } }
         Var::Free(_) => 1,
     }
 }
 
 #[cycle(sizes_with)]
-fn shape_size_with(size: u64, depth: &Depth, shape: &Shape) -> u64
-    ensures { result ≡ min (plain.counted_shape size (depth_of depth.now) (shape_of shape.now)) (2 ^ 64 - 1) }
+fn shape_size_with(size: u64, depth: u64, shape: &Shape) -> u64
+    requires { depth ≤ 4294967296 }
+    ensures { (binders : ℕ) → depth ≡ counted_depth binders
+        → result ≡ min (plain.counted_shape size binders (shape_of shape.now)) (2 ^ 64 - 1) }
 {
     match shape {
         Shape::Base(_) => 1,
@@ -84,12 +85,12 @@ fn shape_size_with(size: u64, depth: &Depth, shape: &Shape) -> u64
         Shape::TVar(variable) => variable_size_with(size, depth, *variable),
         Shape::Fun(takes, gives) => {
             let takes = type_size_with(size, depth, takes);
-            let gives = type_size_with(size, &Depth::Under(&*depth), gives);
+            let gives = type_size_with(size, deeper(depth), gives);
             1u64.saturating_add(takes).saturating_add(gives)
         }
         Shape::TFun(bound, gives) => {
             let bound = shape_size_with(size, depth, bound);
-            let gives = type_size_with(size, &Depth::Under(&*depth), gives);
+            let gives = type_size_with(size, deeper(depth), gives);
             1u64.saturating_add(bound).saturating_add(gives)
         }
         Shape::Boxed(content) => 1u64.saturating_add(type_size_with(size, depth, content)),
@@ -98,8 +99,10 @@ fn shape_size_with(size: u64, depth: &Depth, shape: &Shape) -> u64
 }
 
 #[cycle(sizes_with)]
-fn type_size_with(size: u64, depth: &Depth, ty: &Ty) -> u64
-    ensures { result ≡ min (plain.counted_shape size (depth_of depth.now) (shape_of ty.now.shape.value) + plain.set_size ty.now.set) (2 ^ 64 - 1) }
+fn type_size_with(size: u64, depth: u64, ty: &Ty) -> u64
+    requires { depth ≤ 4294967296 }
+    ensures { (binders : ℕ) → depth ≡ counted_depth binders
+        → result ≡ min (plain.counted_shape size binders (shape_of ty.now.shape.value) + plain.set_size ty.now.set) (2 ^ 64 - 1) }
 {
     shape_size_with(size, depth, &ty.shape).saturating_add(set_size(&ty.set))
 }

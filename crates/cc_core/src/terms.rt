@@ -62,7 +62,7 @@ pub struct Node {
     pub second: Place,
 }
 
-// A long chain of bodies is dropped by a loop.
+// A long chain of bodies, and of the second of two terms, is dropped by a loop.
 impl Drop for Node {
     fn drop(mut self) {
         loop {
@@ -73,9 +73,38 @@ impl Drop for Node {
                 second: _,
             } = self;
             match form {
+                Form::Fun(ty, body) => {
+                    drop(ty);
+                    match Rc::into_inner(body) {
+                        Some(inner) => self = inner,
+                        None => return,
+                    }
+                }
+                Form::TFun(bound, body) => {
+                    drop(bound);
+                    match Rc::into_inner(body) {
+                        Some(inner) => self = inner,
+                        None => return,
+                    }
+                }
                 Form::Let(note, right, body) => {
                     drop(note);
                     drop(right);
+                    match Rc::into_inner(body) {
+                        Some(inner) => self = inner,
+                        None => return,
+                    }
+                }
+                Form::If(note, _, first, second) => {
+                    drop(note);
+                    drop(first);
+                    match Rc::into_inner(second) {
+                        Some(inner) => self = inner,
+                        None => return,
+                    }
+                }
+                Form::Boundary(shape, body) => {
+                    drop(shape);
                     match Rc::into_inner(body) {
                         Some(inner) => self = inner,
                         None => return,

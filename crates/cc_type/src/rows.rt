@@ -22,7 +22,7 @@ use crate::heads::{
     box_part, device_part, exit_part, function_part, measured_type, type_function_part,
     type_of_variable,
 };
-use crate::instances::{Instances, instantiated};
+use crate::instances::{Instances, called, instantiated};
 use crate::log::Log;
 use crate::operands::{base_operand, capless, opening_set, operand, operation_argument};
 use crate::sizes::{changed_leaf, fitting_leaf, leaf, measured_leaf};
@@ -31,7 +31,6 @@ use cc_base::literal::{Base, Lit, Op, Operator};
 use cc_base::place::Place;
 use cc_capture::{CapSet, Var};
 use cc_core::reading::{read_shape, read_type, write_set};
-use cc_core::substitution::subst_var;
 use cc_core::{Ctx, Form, Node, Shape, Ty};
 use cc_known::found::Found;
 use cc_known::measures::{Measures, measure_around};
@@ -193,7 +192,7 @@ pub fn application(
     let (takes, gives) = function_part(alloc, ctx, node.first, function)?;
     let given = type_of_variable(alloc, ctx, argument)?;
     below(alloc, ctx, &given, &takes, node.second, log)?;
-    let ty = subst_var(alloc, &gives, in_context(ctx, argument))?;
+    let ty = called(alloc, &gives, in_context(ctx, argument), &mut log.instances)?;
     let found = leaf(alloc, node, ty)?;
     Ok(found)
 }
