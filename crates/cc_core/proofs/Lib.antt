@@ -9,6 +9,7 @@ pub mod Conditions
 pub mod ContextEntries
 pub mod DerivationComparisons
 pub mod DerivationTypings
+pub mod DroppedNodes
 pub mod DroppedParts
 pub mod FreeActions
 pub mod FreshOpenings

@@ -9,6 +9,7 @@ pub mod Depths
 pub mod DerivationExamples
 pub mod DerivationLaws
 pub mod Derivations
+pub mod DroppedTerms
 pub mod Entries
 pub mod Equality
 pub mod Holes

@@ -1,8 +1,12 @@
+ghost use Rattle.std.specs.Prelude.{◌≡◌, ◌⊎◌, ℕ, ◌+◌, ◌<◌, ◌≤◌, IfSome};
+ghost use Rattle.cc_core.specs.DroppedTerms.{no_parts, turns, turns_waiting, NoneLarger};
+
 use crate::types::{Shape, Ty};
 use cc_base::literal::{Lit, Op, Operator};
 use cc_base::name::Name;
 use cc_base::place::Place;
 use cc_capture::{CapSet, Var};
+use std::mem;
 use std::rc::Rc;
 
 /// The type that is written at a term, if one is.
@@ -62,55 +66,159 @@ pub struct Node {
     pub second: Place,
 }
 
-// A long chain of bodies, and of the second of two terms, is dropped by a loop.
+// A term with no parts, at no place.
+fn no_parts() -> Node
+    ensures { result ≡ no_parts }
+{
+    Node {
+        form: Form::Var(Var::Free(0)),
+        at: Place { line: 0, col: 0 },
+        first: Place { line: 0, col: 0 },
+        second: Place { line: 0, col: 0 },
+    }
+}
+
+// The term, where no one else holds it, and else one with no parts.
+fn owned(term: Rc<Node>) -> Node
+    ensures { (result ≡ term.value) ⊎ (result ≡ no_parts) }
+{
+    match Rc::into_inner(term) {
+        Some(inner) => inner,
+        None => no_parts(),
+    }
+}
+
+impl Node {
+    // Of terms that wait to be dropped, each beside the others, the first and the others, if there is one.
+    fn next(self) -> Option<(Node, Node)>
+        ensures fewer { IfSome result (λ parts. turns parts.0.form + turns_waiting parts.1.form < turns_waiting self.form) }
+        ensures no_larger { IfSome result (λ parts. (size : Node → ℕ) → (limit : ℕ) → size no_parts ≤ limit → NoneLarger size limit self.form → (size parts.0 ≤ limit) × NoneLarger size limit parts.1.form) }
+    {
+        let Node {
+            form,
+            at: _,
+            first: _,
+            second: _,
+        } = self;
+        match form {
+            Form::Fun(ty, body) => {
+                drop(ty);
+                Some((owned(body), no_parts()))
+            }
+            Form::TFun(bound, body) => {
+                drop(bound);
+                Some((owned(body), no_parts()))
+            }
+            Form::Let(note, right, others) => {
+                drop(note);
+                Some((owned(right), owned(others)))
+            }
+            Form::If(note, _, positive, others) => {
+                drop(note);
+                Some((owned(positive), owned(others)))
+            }
+            Form::Boundary(gives, body) => {
+                drop(gives);
+                Some((owned(body), no_parts()))
+            }
+            Form::Var(_) => None,
+            Form::Lit(_) => None,
+            Form::Boxed(_) => None,
+            Form::App(_, _) => None,
+            Form::TApp(_, _) => None,
+            Form::Unbox(_, _) => None,
+            Form::Prim(_, _, _) => None,
+            Form::Repeat(_, _) => None,
+            Form::Operate(_, _, _) => None,
+            Form::Leave(_, _, _) => None,
+        }
+    }
+}
+
+// Terms are dropped by a loop, and take neither stack nor memory for it. What waits is held by the terms that are
+// dropped: where no one else holds the second of two parts, the first waits in front of the others in the place of the
+// second, which is gone over first.
 impl Drop for Node {
     fn drop(mut self) {
+        let mut waiting = no_parts();
         loop {
             let Node {
                 form,
-                at: _,
-                first: _,
-                second: _,
+                at,
+                first,
+                second,
             } = self;
             match form {
                 Form::Fun(ty, body) => {
                     drop(ty);
-                    match Rc::into_inner(body) {
-                        Some(inner) => self = inner,
-                        None => return,
-                    }
+                    self = owned(body);
+                    continue;
                 }
                 Form::TFun(bound, body) => {
                     drop(bound);
-                    match Rc::into_inner(body) {
-                        Some(inner) => self = inner,
-                        None => return,
-                    }
+                    self = owned(body);
+                    continue;
                 }
-                Form::Let(note, right, body) => {
+                Form::Let(note, right, mut body) => {
                     drop(note);
-                    drop(right);
-                    match Rc::into_inner(body) {
-                        Some(inner) => self = inner,
-                        None => return,
+                    match Rc::get_mut(&mut body) {
+                        Some(place) => {
+                            self = mem::replace(place, waiting);
+                            waiting = Node {
+                                form: Form::Let(Note::Absent, right, body),
+                                at,
+                                first,
+                                second,
+                            };
+                        }
+                        None => {
+                            drop(body);
+                            self = owned(right);
+                        }
                     }
+                    continue;
                 }
-                Form::If(note, _, first, second) => {
+                Form::If(note, _test, positive, mut negative) => {
                     drop(note);
-                    drop(first);
-                    match Rc::into_inner(second) {
-                        Some(inner) => self = inner,
-                        None => return,
+                    match Rc::get_mut(&mut negative) {
+                        Some(place) => {
+                            self = mem::replace(place, waiting);
+                            waiting = Node {
+                                form: Form::Let(Note::Absent, positive, negative),
+                                at,
+                                first,
+                                second,
+                            };
+                        }
+                        None => {
+                            drop(negative);
+                            self = owned(positive);
+                        }
                     }
+                    continue;
                 }
-                Form::Boundary(shape, body) => {
-                    drop(shape);
-                    match Rc::into_inner(body) {
-                        Some(inner) => self = inner,
-                        None => return,
-                    }
+                Form::Boundary(gives, body) => {
+                    drop(gives);
+                    self = owned(body);
+                    continue;
                 }
-                _ => return,
+                Form::Var(_variable) => {}
+                Form::Lit(literal) => drop(literal),
+                Form::Boxed(_content) => {}
+                Form::App(_function, _argument) => {}
+                Form::TApp(_function, argument) => drop(argument),
+                Form::Unbox(set, _box) => drop(set),
+                Form::Prim(_operator, _left, _right) => {}
+                Form::Repeat(_count, _function) => {}
+                Form::Operate(_operation, _receiver, _argument) => {}
+                Form::Leave(gives, _exit, _value) => drop(gives),
+            }
+            match waiting.next() {
+                None => return,
+                Some((next, others)) => {
+                    self = next;
+                    waiting = others;
+                }
             }
         }
     }
