@@ -10,6 +10,7 @@ mod PartsTrees
 mod PassSteps
 mod PassesOnce
 mod ReadElements
+mod ReadShapes
 pub mod SameParts
 mod TreePasses
 mod WorkedAnswers

@@ -8,4 +8,5 @@ pub mod JudgingExamples
 pub mod JudgingLaws
 pub mod PassViews
 pub mod Passes
+pub mod ReadingShapes
 pub mod ToldAnswers

@@ -1,13 +1,15 @@
 //! The claims of nodes, read at their places.
 
-ghost use Rattle.std.specs.Prelude.{◌≡◌, ◌-◌, ◌+◌, ◌<◌, length, IfOk, OnOk};
+ghost use Rattle.std.specs.Prelude.{◌≡◌, ◌-◌, ◌+◌, ◌<◌, ◌∷◌, length, IfOk, OnOk};
 ghost use Rattle.cc_capture.specs.Sets.{union};
+ghost use Rattle.cc_core.specs.Shapes.{TypeVariable, capturing};
 ghost use Rattle.cc_core.specs.Traversal.{act, act_set, act_type};
 ghost use Rattle.cc_core.specs.TermViews.{shape_of, type_of, context_of};
 ghost use Rattle.cc_core.specs.WellFormed.{kinds_of};
 ghost use Rattle.cc_derivation.specs.DerivationViews.{claim_of, rule_of};
 ghost use Rattle.cc_certificate_text.specs.Certificates.{rule_kind};
 ghost use Rattle.cc_certificate_judging.specs.Judging as plain;
+ghost use Rattle.cc_certificate_judging.specs.ReadingShapes.{waiting_of, in_turn, Descends, TakesTurn};
 
 use cc_capture::{CapSet, Elem, Var};
 use cc_core::wellformed::{wf, wf_set, wf_shape};
@@ -85,8 +87,41 @@ fn under(depth: u32) -> Result<u32, AllocError>
     depth.checked_add(1).ok_or(AllocError)
 }
 
-// The shape, as it is read.
-#[cycle(read_shapes)]
+// A type of which the shape is read, with its set as it is read.
+fn with_read_set(
+    alloc: Global,
+    names: u32,
+    entries: u32,
+    depth: u32,
+    ty: &Ty,
+    shape: Rc<Shape>,
+) -> Result<Rc<Ty>, AllocError>
+    ensures { IfOk result (λ t. type_of t.value ≡ capturing (shape_of shape.value) (act_set (plain.reading names (entries - names)) depth ty.now.set)) }
+{
+    let set = read_set(alloc, names, entries, depth, &ty.set)?;
+    Ok(Rc::new(alloc, Ty { shape, set })?)
+}
+
+// What waits for a shape inside it to be read. All but exits have how many binders stand above that shape or, where
+// they wait for the first of two, above their own.
+#[derive(Drop)]
+enum Waiting<'a> {
+    // Functions, for the shape of what they take. What they give is still to be read.
+    Takes(u32, &'a Rc<Ty>, &'a Rc<Ty>),
+    // Functions, for the shape of what they give. What they take is read.
+    Gives(u32, &'a Rc<Ty>, Rc<Ty>),
+    // Type functions, for their bound. What they give is still to be read.
+    Bounds(u32, &'a Rc<Ty>),
+    // Type functions, for the shape of what they give. Their bound is read.
+    Results(u32, &'a Rc<Ty>, Rc<Shape>),
+    // Boxes, for the shape of their content.
+    Contents(u32, &'a Rc<Ty>),
+    // Exits, for the shape of their values.
+    Exits,
+}
+
+// The shape, as it is read. What stands round a part waits in a list, so that a deep shape takes no more of the stack
+// than a flat one.
 fn read_shape(
     alloc: Global,
     names: u32,
@@ -96,47 +131,105 @@ fn read_shape(
 ) -> Result<Rc<Shape>, AllocError>
     ensures { IfOk result (λ s. shape_of s.value ≡ act (plain.reading names (entries - names)) depth (shape_of shape.now.value)) }
 {
-    match &**shape {
-        Shape::Base(_) => shape.clone(),
-        Shape::Any => shape.clone(),
-        Shape::TVar(variable) => {
-            let variable = read_variable(names, entries, depth, *variable);
-            Ok(Rc::new(alloc, Shape::TVar(variable))?)
-        }
-        Shape::Fun(takes, gives) => {
-            let takes = read_shared_type(alloc, names, entries, depth, takes)?;
-            let gives = read_shared_type(alloc, names, entries, under(depth)?, gives)?;
-            Ok(Rc::new(alloc, Shape::Fun(takes, gives))?)
-        }
-        Shape::TFun(bound, result) => {
-            let bound = read_shape(alloc, names, entries, depth, bound)?;
-            let result = read_shared_type(alloc, names, entries, under(depth)?, result)?;
-            Ok(Rc::new(alloc, Shape::TFun(bound, result))?)
-        }
-        Shape::Boxed(content) => {
-            let content = read_shared_type(alloc, names, entries, depth, content)?;
-            Ok(Rc::new(alloc, Shape::Boxed(content))?)
-        }
-        Shape::Exit(gives) => {
-            let gives = read_shape(alloc, names, entries, depth, gives)?;
-            Ok(Rc::new(alloc, Shape::Exit(gives))?)
+    let mut waiting = Vec::new(alloc);
+    let mut read = descend(alloc, names, entries, &mut waiting, depth, shape)?;
+    while let Some(next) = waiting.pop() {
+        read = take_turn(alloc, names, entries, &mut waiting, next, read)?;
+    }
+    Ok(read)
+}
+
+// Goes down in the shape to its first part that has none, by what functions take and by the bounds of type functions
+// first. What stands round it waits. Gives that part as it is read.
+fn descend<'a>(
+    alloc: Global,
+    names: u32,
+    entries: u32,
+    waiting: &mut Vec<Waiting<'a>>,
+    depth: u32,
+    shape: &'a Rc<Shape>,
+) -> Result<Rc<Shape>, AllocError>
+    ensures { IfOk result (λ s. Descends (plain.reading names (entries - names)) depth (shape_of shape.now.value) (in_turn waiting.old.items) (in_turn waiting.new.items) (shape_of s.value)) }
+{
+    let mut inner = shape;
+    loop {
+        match &**inner {
+            Shape::Base(_) => return inner.clone(),
+            Shape::Any => return inner.clone(),
+            Shape::TVar(variable) => {
+                return read_type_variable(alloc, names, entries, depth, *variable);
+            }
+            Shape::Fun(takes, gives) => {
+                waiting.push(Waiting::Takes(depth, takes, gives))?;
+                inner = &takes.shape;
+            }
+            Shape::TFun(bound, gives) => {
+                waiting.push(Waiting::Bounds(depth, gives))?;
+                inner = bound;
+            }
+            Shape::Boxed(content) => {
+                waiting.push(Waiting::Contents(depth, content))?;
+                inner = &content.shape;
+            }
+            Shape::Exit(gives) => {
+                waiting.push(Waiting::Exits)?;
+                inner = gives;
+            }
         }
     }
 }
 
-#[cycle(read_shapes)]
-fn read_shared_type(
+// The shape that is a type variable, as it is read.
+fn read_type_variable(
     alloc: Global,
     names: u32,
     entries: u32,
     depth: u32,
-    ty: &Rc<Ty>,
-) -> Result<Rc<Ty>, AllocError>
-    ensures { IfOk result (λ t. type_of t.value ≡ act_type (plain.reading names (entries - names)) depth (type_of ty.now.value)) }
+    variable: Var,
+) -> Result<Rc<Shape>, AllocError>
+    ensures { IfOk result (λ s. shape_of s.value ≡ act (plain.reading names (entries - names)) depth (TypeVariable variable)) }
 {
-    let shape = read_shape(alloc, names, entries, depth, &ty.shape)?;
-    let set = read_set(alloc, names, entries, depth, &ty.set)?;
-    Ok(Rc::new(alloc, Ty { shape, set })?)
+    let read = read_variable(names, entries, depth, variable);
+    Ok(Rc::new(alloc, Shape::TVar(read))?)
+}
+
+// Goes on with what waits last, where the shape that it waits for is read. Gives the next part as it is read.
+fn take_turn<'a>(
+    alloc: Global,
+    names: u32,
+    entries: u32,
+    waiting: &mut Vec<Waiting<'a>>,
+    next: Waiting<'a>,
+    read: Rc<Shape>,
+) -> Result<Rc<Shape>, AllocError>
+    ensures { IfOk result (λ s. TakesTurn (plain.reading names (entries - names)) (waiting_of next.entry ∷ in_turn waiting.old.items) (shape_of read.value) (in_turn waiting.new.items) (shape_of s.value)) }
+{
+    match next {
+        Waiting::Takes(depth, takes, gives) => {
+            let taken = with_read_set(alloc, names, entries, depth, takes, read)?;
+            let below = under(depth)?;
+            waiting.push(Waiting::Gives(below, gives, taken))?;
+            descend(alloc, names, entries, waiting, below, &gives.shape)
+        }
+        Waiting::Gives(depth, gives, taken) => {
+            let given = with_read_set(alloc, names, entries, depth, gives, read)?;
+            Ok(Rc::new(alloc, Shape::Fun(taken, given))?)
+        }
+        Waiting::Bounds(depth, gives) => {
+            let below = under(depth)?;
+            waiting.push(Waiting::Results(below, gives, read))?;
+            descend(alloc, names, entries, waiting, below, &gives.shape)
+        }
+        Waiting::Results(depth, gives, bound) => {
+            let given = with_read_set(alloc, names, entries, depth, gives, read)?;
+            Ok(Rc::new(alloc, Shape::TFun(bound, given))?)
+        }
+        Waiting::Contents(depth, content) => {
+            let inside = with_read_set(alloc, names, entries, depth, content, read)?;
+            Ok(Rc::new(alloc, Shape::Boxed(inside))?)
+        }
+        Waiting::Exits => Ok(Rc::new(alloc, Shape::Exit(read))?),
+    }
 }
 
 // The type, as it is read.

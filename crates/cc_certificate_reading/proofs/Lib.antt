@@ -6,5 +6,8 @@ pub mod Progress
 pub mod TermRooms
 pub mod TextWords
 pub mod TypeRooms
+pub mod Waiting
+pub mod WaitingShapes
+pub mod WaitingTerms
 pub mod WordTurns
 pub mod WorkedCertificates

@@ -1,6 +1,6 @@
 -- What is read in some room, and in none.
 use Rattle.std.proofs.Common.{◌≡◌, ℕ, zero, suc, ◌-◌, ◌<◌, List, refl, arith}
-use Rattle.cc_certificate_text.specs.Reading.{Found, Wrong, Counted, shape_at, term_parts, term_over, term_at}
+use Rattle.cc_certificate_text.specs.Reading.{Wrong, Counted, shape_at, term_parts, term_over, term_at}
 
 pub term_nowhere : (names : List (List ℕ)) (room depth : ℕ) (bytes : List ℕ) → room ≡ 0
     → term_at names room depth bytes ≡ Wrong

@@ -1,7 +1,6 @@
 -- What is read in some room, and in none.
 use Rattle.std.proofs.Common.{◌≡◌, ℕ, zero, suc, ◌-◌, ◌<◌, List, refl, arith}
-use Rattle.cc_core.specs.Shapes.{Shape}
-use Rattle.cc_certificate_text.specs.Reading.{Found, Wrong, Locals, shape_at, shape_over, shape_parts}
+use Rattle.cc_certificate_text.specs.Reading.{Wrong, Locals, shape_at, shape_over, shape_parts}
 
 pub shape_nowhere : (locals : Locals) (names : List (List ℕ)) (room depth : ℕ) (bytes : List ℕ) → room ≡ 0
     → shape_at locals names room depth bytes ≡ Wrong

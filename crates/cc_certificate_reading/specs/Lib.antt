@@ -6,3 +6,6 @@ pub mod Numberings
 pub mod Progress
 pub mod ReadingExamples
 pub mod RuleLists
+pub mod Waiting
+pub mod WaitingShapes
+pub mod WaitingTerms

@@ -8,7 +8,6 @@ ghost use Rattle.cc_certificate_text.specs.LocalNames.{has_binder};
 ghost use Rattle.cc_certificate_text.specs.Certificates.{binder_number};
 ghost use Rattle.cc_certificate_text.specs.Reading.{Printed, number_at, shape_at, type_at};
 ghost use Rattle.cc_certificate_text.specs.LineReading.{
-  first_over,
   first_at,
   value_of,
   either_number,
@@ -57,43 +56,38 @@ fn number_here(bytes: &[u8]) -> Option<u32>
     }
 }
 
-// The number of a binder under no other, in a text that begins with a shape or a type whose parts are no higher.
-#[cycle(firsts)]
-#[tactic(auto, unfolding(cc_certificate_text::specs::LineReading::first_over, cc_certificate_text::specs::Reading::begun))]
-fn first_over(room: u32, bytes: &[u8]) -> Option<u32>
-    ensures { result ≡ value_of (first_over (first_at room) bytes.now) }
-{
-    if let Some(rest) = behind(bytes, "((_") {
-        return number_here(rest);
-    }
-    if let Some(rest) = behind(bytes, "([_T") {
-        return number_here(rest);
-    }
-    if let Some(rest) = behind(bytes, "(_") {
-        return number_here(rest);
-    }
-    if let Some(rest) = behind(bytes, "[_T") {
-        return number_here(rest);
-    }
-    if let Some(rest) = behind(bytes, "Box[") {
-        return first_at(room, rest);
-    }
-    if let Some(rest) = behind(bytes, "Exit[") {
-        return first_at(room, rest);
-    }
-    None
-}
-
 // The number of a binder under no other, in a text that begins with a shape or a type.
-#[cycle(firsts)]
-#[tactic(auto, using(crate::proofs::Firsts::first_above, crate::proofs::Firsts::first_nowhere))]
+#[tactic(auto, using(crate::proofs::Firsts::first_above, crate::proofs::Firsts::first_nowhere), unfolding(cc_certificate_text::specs::LineReading::first_over, cc_certificate_text::specs::Reading::begun))]
 fn first_at(room: u32, bytes: &[u8]) -> Option<u32>
     ensures { result ≡ value_of (first_at room bytes.now) }
 {
-    if room == 0 {
+    let mut room = room;
+    let mut here = bytes;
+    while room > 0 {
+        room -= 1;
+        if let Some(rest) = behind(here, "((_") {
+            return number_here(rest);
+        }
+        if let Some(rest) = behind(here, "([_T") {
+            return number_here(rest);
+        }
+        if let Some(rest) = behind(here, "(_") {
+            return number_here(rest);
+        }
+        if let Some(rest) = behind(here, "[_T") {
+            return number_here(rest);
+        }
+        if let Some(rest) = behind(here, "Box[") {
+            here = rest;
+            continue;
+        }
+        if let Some(rest) = behind(here, "Exit[") {
+            here = rest;
+            continue;
+        }
         return None;
     }
-    first_over(room - 1, bytes)
+    None
 }
 
 // The first number, or that in what is left where there is none.
@@ -121,14 +115,17 @@ fn binder_number(first: Option<u32>) -> u64
 fn has_binder(shape: &Shape) -> bool
     ensures { result ≡ has_binder (shape_of shape.now) }
 {
-    match shape {
-        Shape::Base(_) => false,
-        Shape::Any => false,
-        Shape::TVar(_) => false,
-        Shape::Fun(_, _) => true,
-        Shape::TFun(_, _) => true,
-        Shape::Boxed(content) => has_binder(&content.shape),
-        Shape::Exit(gives) => has_binder(gives),
+    let mut inner = shape;
+    loop {
+        match inner {
+            Shape::Base(_) => return false,
+            Shape::Any => return false,
+            Shape::TVar(_) => return false,
+            Shape::Fun(_, _) => return true,
+            Shape::TFun(_, _) => return true,
+            Shape::Boxed(content) => inner = &content.shape,
+            Shape::Exit(gives) => inner = gives,
+        }
     }
 }
 

@@ -8,6 +8,7 @@ pub mod literals;
 mod names;
 pub mod nodes;
 pub mod numbers;
+mod plain_terms;
 pub mod read;
 pub mod reading_examples;
 pub mod rules;

@@ -1,96 +1,63 @@
 //! Terms.
 
-ghost use Rattle.std.specs.Prelude.{◌≡◌, ◌≤◌, nat_lt, length, IfOk};
-ghost use Rattle.cc_core.specs.Places.{places_around, places_of};
-ghost use Rattle.cc_core.specs.TermViews.{form_of, term_of, note_of};
-ghost use Rattle.cc_certificate_text.specs.Reading.{
-  Counted,
-  where_true,
-  variable_at,
-  note_at,
-  shape_at,
-  term_parts,
-  term_at,
-  term_over,
-  term_rule_at,
-  head_rule_at,
-  headed_at,
-  operated_at,
-  computed_at,
-  text_at,
-  word_term_at,
-  plain_term_at,
-  FunRule,
-  TypeFunRule,
-  LetRule,
-  IfRule,
-  BoundaryRule,
-  BoxingRule,
-  UnboxRule,
-  RepeatRule,
-  LeaveRule,
-  Calls,
-  TypeCalls,
-  Computes,
-  Tells,
-  Asks,
-};
-ghost use Rattle.cc_certificate_reading.specs.FirstPlaces.{first_spots, AreFirst};
+ghost use Rattle.std.specs.Prelude.{◌≡◌, ◌≤◌, length, IfOk, OnOk};
+ghost use Rattle.cc_core.specs.Places.{places_of};
+ghost use Rattle.cc_core.specs.TermViews.{shape_of, type_of, note_of, term_of};
+ghost use Rattle.cc_certificate_text.specs.Reading.{Counted, note_at, shape_at, term_parts, term_at, term_over};
 ghost use Rattle.cc_certificate_reading.specs.Agreement.{Agrees};
+ghost use Rattle.cc_certificate_reading.specs.FirstPlaces.{AreFirst};
+ghost use Rattle.cc_certificate_reading.specs.WaitingTerms.{
+  function_start_at,
+  type_function_start_at,
+  let_start_at,
+  choice_start_at,
+  boundary_start_at,
+  around,
+  in_turn,
+  IsFit,
+  Begins,
+  Resumes,
+};
 
-use crate::literals::{literal_of, text_of};
 use crate::numbers::read_same;
-use crate::sets::{Locals, read_set, variable_of};
+use crate::plain_terms::{node, read_operand, read_plain_term};
+use crate::sets::Locals;
 use crate::stop::{Reading, Stop};
 use crate::types::{read_shape, read_type};
-use crate::words::{read_exact, word_at};
-use cc_base::literal::{Lit, Op, Operator};
-use cc_base::place::Place;
+use crate::words::read_exact;
 use cc_capture::Var;
-use cc_core::{Form, Node, Note};
+use cc_core::{Form, Node, Note, Shape, Ty};
 use cc_names::Names;
-use cc_words::words::{behind, cut_at};
+use cc_words::words::behind;
 use std::alloc::Global;
 use std::rc::Rc;
 
-// The term at the first place of all.
-fn node(form: Form) -> Node
-    ensures form { term_of result ≡ form_of form }
-    ensures placed { AreFirst (places_around first_spots form) → AreFirst (places_of result) }
-{
-    let at = Place { line: 1, col: 1 };
-    Node {
-        form,
-        at,
-        first: at,
-        second: at,
-    }
+// What waits for a term inside it. Where another term is read behind that one, the room for it stands beside, and how many
+// binders stand above what waits.
+#[derive(Drop)]
+enum Waiting {
+    // A function, for its body.
+    Functions(Rc<Ty>),
+    // A type function, for its body.
+    TypeFunctions(Rc<Shape>),
+    // A let, for its right side.
+    Rights(Note, u32, u64),
+    // A let, for its body. Its right side was read.
+    Bodies(Note, Rc<Node>),
+    // A choice, for its first branch.
+    Positives(Rc<Ty>, Var, u32, u64),
+    // A choice, for its second branch. Its first one was read.
+    Negatives(Rc<Ty>, Var, Rc<Node>),
+    // A boundary, for its body.
+    Boundaries(Rc<Shape>),
 }
 
-// A variable of terms.
-#[tactic(auto, unfolding(cc_certificate_text::specs::Reading::variable_at))]
-fn read_variable<'a>(names: &Names, depth: u64, bytes: &'a [u8]) -> Reading<'a, Var>
-    requires names { length names.now ≤ 4294967296 }
-    requires depth { depth ≤ 4294967296 }
-    ensures { Agrees (λ variable. variable) result (variable_at names.now depth bytes.now) }
-{
-    let (word, rest) = word_at(bytes);
-    match variable_of(Locals::Counted, names, depth, word) {
-        Some(variable) => Ok((variable, rest)),
-        None => Err(Stop::Misfit),
-    }
-}
-
-// A variable of terms, where a part of height 1 has room.
-fn read_operand<'a>(names: &Names, room: u32, depth: u64, bytes: &'a [u8]) -> Reading<'a, Var>
-    requires names { length names.now ≤ 4294967296 }
-    requires depth { depth ≤ 4294967296 }
-    ensures { Agrees (λ variable. variable) result (where_true (nat_lt 0 room) (variable_at names.now depth bytes.now)) }
-{
-    if room == 0 {
-        return Err(Stop::Misfit);
-    }
-    read_variable(names, depth, bytes)
+// What begins at the front.
+enum Beginning {
+    // All of a term.
+    Whole(Node),
+    // What waits for the term that comes next, which stands under so many binders.
+    Waits(Waiting, u64),
 }
 
 // The type that is written behind a colon, if one is.
@@ -116,517 +83,250 @@ fn read_note<'a>(
     }
 }
 
-// The parameter's type and the body of a function.
-#[cycle(terms)]
-#[tactic(auto, unfolding(cc_certificate_text::specs::Reading::term_rule_at))]
-fn read_function<'a>(
+// A function up to its body, behind `fun (_`.
+#[tactic(auto, unfolding(crate::specs::WaitingTerms::function_start_at))]
+fn read_function_start<'a>(
     alloc: Global,
     names: &Names,
     room: u32,
     depth: u64,
     bytes: &'a [u8],
-) -> Reading<'a, Node>
+) -> Reading<'a, Ty>
     requires names { length names.now ≤ 4294967296 }
     requires depth { depth ≤ 4294967296 }
-    ensures read { Agrees term_of result (term_rule_at (term_parts names.now room (shape_at Counted names.now room) (term_at names.now room)) FunRule depth bytes.now) }
-    ensures placed { IfOk result (λ read. AreFirst (places_of read.0)) }
+    ensures read { Agrees type_of result (function_start_at names.now room depth bytes.now) }
+    ensures low { OnOk result (depth ≤ 4294967295) }
 {
     let (_, rest) = read_same(depth, bytes)?;
     let (_, rest) = read_exact(": ", rest)?;
     let (takes, rest) = read_type(alloc, Locals::Counted, names, room, depth, rest)?;
-    let (_, rest) = read_exact(") => ", rest)?;
-    let (body, rest) = read_term(alloc, names, room, depth + 1, rest)?;
-    let takes = Rc::new(alloc, takes)?;
-    let body = Rc::new(alloc, body)?;
-    Ok((node(Form::Fun(takes, body)), rest))
+    let (_, start) = read_exact(") => ", rest)?;
+    Ok((takes, start))
 }
 
-// The bound and the body of a type function.
-#[cycle(terms)]
-#[tactic(auto, unfolding(cc_certificate_text::specs::Reading::term_rule_at))]
-fn read_type_function<'a>(
+// A type function up to its body, behind `fun [_T`.
+#[tactic(auto, unfolding(crate::specs::WaitingTerms::type_function_start_at))]
+fn read_type_function_start<'a>(
     alloc: Global,
     names: &Names,
     room: u32,
     depth: u64,
     bytes: &'a [u8],
-) -> Reading<'a, Node>
+) -> Reading<'a, Shape>
     requires names { length names.now ≤ 4294967296 }
     requires depth { depth ≤ 4294967296 }
-    ensures read { Agrees term_of result (term_rule_at (term_parts names.now room (shape_at Counted names.now room) (term_at names.now room)) TypeFunRule depth bytes.now) }
-    ensures placed { IfOk result (λ read. AreFirst (places_of read.0)) }
+    ensures read { Agrees shape_of result (type_function_start_at names.now room depth bytes.now) }
+    ensures low { OnOk result (depth ≤ 4294967295) }
 {
     let (_, rest) = read_same(depth, bytes)?;
     let (_, rest) = read_exact(" <: ", rest)?;
     let (bound, rest) = read_shape(alloc, Locals::Counted, names, room, depth, rest)?;
-    let (_, rest) = read_exact("] => ", rest)?;
-    let (body, rest) = read_term(alloc, names, room, depth + 1, rest)?;
-    let bound = Rc::new(alloc, bound)?;
-    let body = Rc::new(alloc, body)?;
-    Ok((node(Form::TFun(bound, body)), rest))
+    let (_, start) = read_exact("] => ", rest)?;
+    Ok((bound, start))
 }
 
-// A let, behind the low line of its variable.
-#[cycle(terms)]
-#[tactic(auto, unfolding(cc_certificate_text::specs::Reading::term_rule_at))]
-fn read_let<'a>(
+// A let up to its right side, behind `let _`.
+#[tactic(auto, unfolding(crate::specs::WaitingTerms::let_start_at))]
+fn read_let_start<'a>(
     alloc: Global,
     names: &Names,
     room: u32,
     depth: u64,
     bytes: &'a [u8],
-) -> Reading<'a, Node>
+) -> Reading<'a, Note>
     requires names { length names.now ≤ 4294967296 }
     requires depth { depth ≤ 4294967296 }
-    ensures read { Agrees term_of result (term_rule_at (term_parts names.now room (shape_at Counted names.now room) (term_at names.now room)) LetRule depth bytes.now) }
-    ensures placed { IfOk result (λ read. AreFirst (places_of read.0)) }
+    ensures read { Agrees note_of result (let_start_at names.now room depth bytes.now) }
+    ensures low { OnOk result (depth ≤ 4294967295) }
 {
     let (_, rest) = read_same(depth, bytes)?;
     let (note, rest) = read_note(alloc, names, room, depth, rest)?;
-    let (_, rest) = read_exact(" = ", rest)?;
-    let (right, rest) = read_term(alloc, names, room, depth, rest)?;
-    let (_, rest) = read_exact(" in ", rest)?;
-    let (body, rest) = read_term(alloc, names, room, depth + 1, rest)?;
-    let right = Rc::new(alloc, right)?;
-    let body = Rc::new(alloc, body)?;
-    Ok((node(Form::Let(note, right, body)), rest))
+    let (_, start) = read_exact(" = ", rest)?;
+    Ok((note, start))
 }
 
-// A choice, behind its first bracket.
-#[cycle(terms)]
-#[tactic(auto, unfolding(cc_certificate_text::specs::Reading::term_rule_at))]
-fn read_choice<'a>(
+// A choice up to its first branch, behind `if [`.
+#[tactic(auto, unfolding(crate::specs::WaitingTerms::choice_start_at))]
+fn read_choice_start<'a>(
     alloc: Global,
     names: &Names,
     room: u32,
     depth: u64,
     bytes: &'a [u8],
-) -> Reading<'a, Node>
+) -> Reading<'a, (Ty, Var)>
     requires names { length names.now ≤ 4294967296 }
     requires depth { depth ≤ 4294967296 }
-    ensures read { Agrees term_of result (term_rule_at (term_parts names.now room (shape_at Counted names.now room) (term_at names.now room)) IfRule depth bytes.now) }
-    ensures placed { IfOk result (λ read. AreFirst (places_of read.0)) }
+    ensures { Agrees (λ start. (type_of start.0, start.1)) result (choice_start_at names.now room depth bytes.now) }
 {
     let (ty, rest) = read_type(alloc, Locals::Counted, names, room, depth, bytes)?;
     let (_, rest) = read_exact("] ", rest)?;
     let (test, rest) = read_operand(names, room, depth, rest)?;
-    let (_, rest) = read_exact(" then ", rest)?;
-    let (positive, rest) = read_term(alloc, names, room, depth, rest)?;
-    let (_, rest) = read_exact(" else ", rest)?;
-    let (negative, rest) = read_term(alloc, names, room, depth, rest)?;
-    let ty = Rc::new(alloc, ty)?;
-    let positive = Rc::new(alloc, positive)?;
-    let negative = Rc::new(alloc, negative)?;
-    Ok((
-        node(Form::If(Note::Written(ty), test, positive, negative)),
-        rest,
-    ))
+    let (_, start) = read_exact(" then ", rest)?;
+    Ok(((ty, test), start))
 }
 
-// A boundary, behind its first bracket.
-#[cycle(terms)]
-#[tactic(auto, unfolding(cc_certificate_text::specs::Reading::term_rule_at))]
-fn read_boundary<'a>(
+// A boundary up to its body, behind `boundary [`.
+#[tactic(auto, unfolding(crate::specs::WaitingTerms::boundary_start_at))]
+fn read_boundary_start<'a>(
     alloc: Global,
     names: &Names,
     room: u32,
     depth: u64,
     bytes: &'a [u8],
-) -> Reading<'a, Node>
+) -> Reading<'a, Shape>
     requires names { length names.now ≤ 4294967296 }
     requires depth { depth ≤ 4294967296 }
-    ensures read { Agrees term_of result (term_rule_at (term_parts names.now room (shape_at Counted names.now room) (term_at names.now room)) BoundaryRule depth bytes.now) }
-    ensures placed { IfOk result (λ read. AreFirst (places_of read.0)) }
+    ensures read { Agrees shape_of result (boundary_start_at names.now room depth bytes.now) }
+    ensures low { OnOk result (depth ≤ 4294967295) }
 {
     let (gives, rest) = read_shape(alloc, Locals::Counted, names, room, depth, bytes)?;
     let (_, rest) = read_exact("] _", rest)?;
     let (_, rest) = read_same(depth, rest)?;
-    let (_, rest) = read_exact(" => ", rest)?;
-    let (body, rest) = read_term(alloc, names, room, depth + 1, rest)?;
-    let gives = Rc::new(alloc, gives)?;
-    let body = Rc::new(alloc, body)?;
-    Ok((node(Form::Boundary(gives, body)), rest))
+    let (_, start) = read_exact(" => ", rest)?;
+    Ok((gives, start))
 }
 
-// What is boxed.
-#[tactic(auto, unfolding(cc_certificate_text::specs::Reading::term_rule_at))]
-fn read_boxing<'a>(names: &Names, room: u32, depth: u64, bytes: &'a [u8]) -> Reading<'a, Node>
-    requires names { length names.now ≤ 4294967296 }
-    requires depth { depth ≤ 4294967296 }
-    ensures read { Agrees term_of result (term_rule_at (term_parts names.now room (shape_at Counted names.now room) (term_at names.now room)) BoxingRule depth bytes.now) }
-    ensures placed { IfOk result (λ read. AreFirst (places_of read.0)) }
-{
-    let (content, rest) = read_operand(names, room, depth, bytes)?;
-    Ok((node(Form::Boxed(content)), rest))
-}
-
-// The set and the operand of an unboxing, behind the first brace.
-#[tactic(auto, unfolding(cc_certificate_text::specs::Reading::term_rule_at))]
-fn read_unboxing<'a>(
+// A term whose parts are no higher than the room, up to the first term inside it.
+fn begin_term<'a>(
     alloc: Global,
     names: &Names,
     room: u32,
     depth: u64,
     bytes: &'a [u8],
-) -> Reading<'a, Node>
+) -> Reading<'a, Beginning>
     requires names { length names.now ≤ 4294967296 }
     requires depth { depth ≤ 4294967296 }
-    ensures read { Agrees term_of result (term_rule_at (term_parts names.now room (shape_at Counted names.now room) (term_at names.now room)) UnboxRule depth bytes.now) }
-    ensures placed { IfOk result (λ read. AreFirst (places_of read.0)) }
-{
-    let (set, rest) = read_set(alloc, Locals::Counted, names, depth, bytes)?;
-    let (_, rest) = read_exact(" ", rest)?;
-    let (content, rest) = read_operand(names, room, depth, rest)?;
-    Ok((node(Form::Unbox(Some(set), content)), rest))
-}
-
-// A repetition, behind its parenthesis.
-#[tactic(auto, unfolding(cc_certificate_text::specs::Reading::term_rule_at))]
-fn read_repetition<'a>(names: &Names, room: u32, depth: u64, bytes: &'a [u8]) -> Reading<'a, Node>
-    requires names { length names.now ≤ 4294967296 }
-    requires depth { depth ≤ 4294967296 }
-    ensures read { Agrees term_of result (term_rule_at (term_parts names.now room (shape_at Counted names.now room) (term_at names.now room)) RepeatRule depth bytes.now) }
-    ensures placed { IfOk result (λ read. AreFirst (places_of read.0)) }
-{
-    let (count, rest) = read_operand(names, room, depth, bytes)?;
-    let (_, rest) = read_exact(", ", rest)?;
-    let (body, rest) = read_operand(names, room, depth, rest)?;
-    let (_, rest) = read_exact(")", rest)?;
-    Ok((node(Form::Repeat(count, body)), rest))
-}
-
-// An exit, behind its bracket.
-#[tactic(auto, unfolding(cc_certificate_text::specs::Reading::term_rule_at))]
-fn read_leaving<'a>(
-    alloc: Global,
-    names: &Names,
-    room: u32,
-    depth: u64,
-    bytes: &'a [u8],
-) -> Reading<'a, Node>
-    requires names { length names.now ≤ 4294967296 }
-    requires depth { depth ≤ 4294967296 }
-    ensures read { Agrees term_of result (term_rule_at (term_parts names.now room (shape_at Counted names.now room) (term_at names.now room)) LeaveRule depth bytes.now) }
-    ensures placed { IfOk result (λ read. AreFirst (places_of read.0)) }
-{
-    let (ty, rest) = read_type(alloc, Locals::Counted, names, room, depth, bytes)?;
-    let (_, rest) = read_exact("] (", rest)?;
-    let (exit, rest) = read_operand(names, room, depth, rest)?;
-    let (_, rest) = read_exact(", ", rest)?;
-    let (value, rest) = read_operand(names, room, depth, rest)?;
-    let (_, rest) = read_exact(")", rest)?;
-    let ty = Rc::new(alloc, ty)?;
-    Ok((node(Form::Leave(ty, exit, value)), rest))
-}
-
-// A call, behind its parenthesis.
-#[tactic(auto, unfolding(cc_certificate_text::specs::Reading::head_rule_at))]
-fn read_call<'a>(
-    names: &Names,
-    room: u32,
-    depth: u64,
-    head: Var,
-    bytes: &'a [u8],
-) -> Reading<'a, Node>
-    requires names { length names.now ≤ 4294967296 }
-    requires depth { depth ≤ 4294967296 }
-    ensures read { Agrees term_of result (head_rule_at (term_parts names.now room (shape_at Counted names.now room) (term_at names.now room)) room head Calls depth bytes.now) }
-    ensures placed { IfOk result (λ read. AreFirst (places_of read.0)) }
-{
-    if room == 0 {
-        return Err(Stop::Misfit);
-    }
-    let (argument, rest) = read_operand(names, room, depth, bytes)?;
-    let (_, rest) = read_exact(")", rest)?;
-    Ok((node(Form::App(head, argument)), rest))
-}
-
-// A call of a type function, behind its bracket.
-#[tactic(auto, unfolding(cc_certificate_text::specs::Reading::head_rule_at))]
-fn read_type_call<'a>(
-    alloc: Global,
-    names: &Names,
-    room: u32,
-    depth: u64,
-    head: Var,
-    bytes: &'a [u8],
-) -> Reading<'a, Node>
-    requires names { length names.now ≤ 4294967296 }
-    requires depth { depth ≤ 4294967296 }
-    ensures read { Agrees term_of result (head_rule_at (term_parts names.now room (shape_at Counted names.now room) (term_at names.now room)) room head TypeCalls depth bytes.now) }
-    ensures placed { IfOk result (λ read. AreFirst (places_of read.0)) }
-{
-    if room == 0 {
-        return Err(Stop::Misfit);
-    }
-    let (argument, rest) = read_shape(alloc, Locals::Counted, names, room, depth, bytes)?;
-    let (_, rest) = read_exact("]", rest)?;
-    let argument = Rc::new(alloc, argument)?;
-    Ok((node(Form::TApp(head, argument)), rest))
-}
-
-// The second operand of an operator.
-#[tactic(auto, unfolding(cc_certificate_text::specs::Reading::head_rule_at))]
-fn read_right<'a>(
-    names: &Names,
-    room: u32,
-    depth: u64,
-    head: Var,
-    operator: Operator,
-    bytes: &'a [u8],
-) -> Reading<'a, Node>
-    requires names { length names.now ≤ 4294967296 }
-    requires depth { depth ≤ 4294967296 }
-    ensures read { Agrees term_of result (head_rule_at (term_parts names.now room (shape_at Counted names.now room) (term_at names.now room)) room head (Computes operator) depth bytes.now) }
-    ensures placed { IfOk result (λ read. AreFirst (places_of read.0)) }
-{
-    if room == 0 {
-        return Err(Stop::Misfit);
-    }
-    let (right, rest) = read_operand(names, room, depth, bytes)?;
-    Ok((node(Form::Prim(operator, head, right)), rest))
-}
-
-// The argument of an operation, behind the parenthesis.
-#[tactic(auto, unfolding(cc_certificate_text::specs::Reading::head_rule_at))]
-fn read_told<'a>(
-    names: &Names,
-    room: u32,
-    depth: u64,
-    head: Var,
-    operation: Op,
-    bytes: &'a [u8],
-) -> Reading<'a, Node>
-    requires names { length names.now ≤ 4294967296 }
-    requires depth { depth ≤ 4294967296 }
-    ensures read { Agrees term_of result (head_rule_at (term_parts names.now room (shape_at Counted names.now room) (term_at names.now room)) room head (Tells operation) depth bytes.now) }
-    ensures placed { IfOk result (λ read. AreFirst (places_of read.0)) }
-{
-    if room == 0 {
-        return Err(Stop::Misfit);
-    }
-    let (argument, rest) = read_operand(names, room, depth, bytes)?;
-    let (_, rest) = read_exact(")", rest)?;
-    Ok((node(Form::Operate(operation, head, Some(argument))), rest))
-}
-
-// The end of an operation without an argument.
-#[tactic(auto, unfolding(cc_certificate_text::specs::Reading::head_rule_at))]
-fn read_asked<'a>(
-    names: &Names,
-    room: u32,
-    depth: u64,
-    head: Var,
-    operation: Op,
-    bytes: &'a [u8],
-) -> Reading<'a, Node>
-    requires names { length names.now ≤ 4294967296 }
-    requires depth { depth ≤ 4294967296 }
-    ensures read { Agrees term_of result (head_rule_at (term_parts names.now room (shape_at Counted names.now room) (term_at names.now room)) room head (Asks operation) depth bytes.now) }
-    ensures placed { IfOk result (λ read. AreFirst (places_of read.0)) }
-{
-    if room == 0 {
-        return Err(Stop::Misfit);
-    }
-    let (_, rest) = read_exact(")", bytes)?;
-    Ok((node(Form::Operate(operation, head, None)), rest))
-}
-
-// An operator and its second operand, or the variable alone.
-#[tactic(auto, unfolding(cc_certificate_text::specs::Reading::computed_at, cc_certificate_text::specs::Reading::begun))]
-fn read_computed<'a>(
-    names: &Names,
-    room: u32,
-    depth: u64,
-    head: Var,
-    bytes: &'a [u8],
-) -> Reading<'a, Node>
-    requires names { length names.now ≤ 4294967296 }
-    requires depth { depth ≤ 4294967296 }
-    ensures read { Agrees term_of result (computed_at (term_parts names.now room (shape_at Counted names.now room) (term_at names.now room)) room head depth bytes.now) }
-    ensures placed { IfOk result (λ read. AreFirst (places_of read.0)) }
-{
-    if let Some(rest) = behind(bytes, " + ") {
-        return read_right(names, room, depth, head, Operator::Add, rest);
-    }
-    if let Some(rest) = behind(bytes, " - ") {
-        return read_right(names, room, depth, head, Operator::Sub, rest);
-    }
-    if let Some(rest) = behind(bytes, " * ") {
-        return read_right(names, room, depth, head, Operator::Mul, rest);
-    }
-    if let Some(rest) = behind(bytes, " < ") {
-        return read_right(names, room, depth, head, Operator::Less, rest);
-    }
-    if let Some(rest) = behind(bytes, " == ") {
-        return read_right(names, room, depth, head, Operator::Equal, rest);
-    }
-    Ok((node(Form::Var(head)), bytes))
-}
-
-// An operation, or what begins otherwise with the variable.
-#[tactic(auto, unfolding(cc_certificate_text::specs::Reading::operated_at, cc_certificate_text::specs::Reading::begun))]
-fn read_operated<'a>(
-    names: &Names,
-    room: u32,
-    depth: u64,
-    head: Var,
-    bytes: &'a [u8],
-) -> Reading<'a, Node>
-    requires names { length names.now ≤ 4294967296 }
-    requires depth { depth ≤ 4294967296 }
-    ensures read { Agrees term_of result (operated_at (term_parts names.now room (shape_at Counted names.now room) (term_at names.now room)) room head depth bytes.now (computed_at (term_parts names.now room (shape_at Counted names.now room) (term_at names.now room)) room head depth bytes.now)) }
-    ensures placed { IfOk result (λ read. AreFirst (places_of read.0)) }
-{
-    if let Some(rest) = behind(bytes, ".print(") {
-        return read_told(names, room, depth, head, Op::Print, rest);
-    }
-    if let Some(rest) = behind(bytes, ".say(") {
-        return read_told(names, room, depth, head, Op::Say, rest);
-    }
-    if let Some(rest) = behind(bytes, ".read(") {
-        return read_asked(names, room, depth, head, Op::Read, rest);
-    }
-    if let Some(rest) = behind(bytes, ".write(") {
-        return read_told(names, room, depth, head, Op::Write, rest);
-    }
-    if let Some(rest) = behind(bytes, ".tick(") {
-        return read_asked(names, room, depth, head, Op::Tick, rest);
-    }
-    read_computed(names, room, depth, head, bytes)
-}
-
-// A term that begins with a variable, behind it.
-#[tactic(auto, unfolding(cc_certificate_text::specs::Reading::headed_at, cc_certificate_text::specs::Reading::begun))]
-fn read_headed<'a>(
-    alloc: Global,
-    names: &Names,
-    room: u32,
-    depth: u64,
-    head: Var,
-    bytes: &'a [u8],
-) -> Reading<'a, Node>
-    requires names { length names.now ≤ 4294967296 }
-    requires depth { depth ≤ 4294967296 }
-    ensures read { Agrees term_of result (headed_at (term_parts names.now room (shape_at Counted names.now room) (term_at names.now room)) room head depth bytes.now) }
-    ensures placed { IfOk result (λ read. AreFirst (places_of read.0)) }
-{
-    if let Some(rest) = behind(bytes, "(") {
-        return read_call(names, room, depth, head, rest);
-    }
-    if let Some(rest) = behind(bytes, "[") {
-        return read_type_call(alloc, names, room, depth, head, rest);
-    }
-    read_operated(names, room, depth, head, bytes)
-}
-
-// A text, behind its first quote.
-#[tactic(auto, unfolding(cc_certificate_text::specs::Reading::text_at))]
-fn read_text<'a>(alloc: Global, bytes: &'a [u8]) -> Reading<'a, Node>
-    ensures read { Agrees term_of result (text_at bytes.now) }
-    ensures placed { IfOk result (λ read. AreFirst (places_of read.0)) }
-{
-    let Some((word, rest)) = cut_at(bytes, b'"') else {
-        return Err(Stop::Misfit);
-    };
-    match text_of(alloc, word)? {
-        Some(literal) => Ok((node(Form::Lit(literal)), rest)),
-        None => Err(Stop::Misfit),
-    }
-}
-
-// A term that begins with a word which is a variable or a literal.
-#[tactic(auto, unfolding(cc_certificate_text::specs::Reading::word_term_at))]
-fn read_word_term<'a>(
-    alloc: Global,
-    names: &Names,
-    room: u32,
-    depth: u64,
-    bytes: &'a [u8],
-) -> Reading<'a, Node>
-    requires names { length names.now ≤ 4294967296 }
-    requires depth { depth ≤ 4294967296 }
-    ensures read { Agrees term_of result (word_term_at names.now (term_parts names.now room (shape_at Counted names.now room) (term_at names.now room)) room depth bytes.now) }
-    ensures placed { IfOk result (λ read. AreFirst (places_of read.0)) }
-{
-    let (word, rest) = word_at(bytes);
-    match variable_of(Locals::Counted, names, depth, word) {
-        Some(head) => read_headed(alloc, names, room, depth, head, rest),
-        None => match literal_of(word) {
-            Some(literal) => Ok((node(Form::Lit(literal)), rest)),
-            None => Err(Stop::Misfit),
-        },
-    }
-}
-
-// A term without parts that are terms.
-#[tactic(auto, unfolding(cc_certificate_text::specs::Reading::plain_term_at, cc_certificate_text::specs::Reading::begun))]
-fn read_plain_term<'a>(
-    alloc: Global,
-    names: &Names,
-    room: u32,
-    depth: u64,
-    bytes: &'a [u8],
-) -> Reading<'a, Node>
-    requires names { length names.now ≤ 4294967296 }
-    requires depth { depth ≤ 4294967296 }
-    ensures read { Agrees term_of result (plain_term_at names.now (term_parts names.now room (shape_at Counted names.now room) (term_at names.now room)) room depth bytes.now) }
-    ensures placed { IfOk result (λ read. AreFirst (places_of read.0)) }
-{
-    if let Some(rest) = behind(bytes, "box ") {
-        return read_boxing(names, room, depth, rest);
-    }
-    if let Some(rest) = behind(bytes, "unbox {") {
-        return read_unboxing(alloc, names, room, depth, rest);
-    }
-    if let Some(rest) = behind(bytes, "repeat(") {
-        return read_repetition(names, room, depth, rest);
-    }
-    if let Some(rest) = behind(bytes, "exit [") {
-        return read_leaving(alloc, names, room, depth, rest);
-    }
-    if let Some(rest) = behind(bytes, "\"") {
-        return read_text(alloc, rest);
-    }
-    read_word_term(alloc, names, room, depth, bytes)
-}
-
-// A term whose parts are no higher than the room.
-#[cycle(terms)]
-#[tactic(auto, unfolding(cc_certificate_text::specs::Reading::term_over, cc_certificate_text::specs::Reading::begun))]
-fn read_term_over<'a>(
-    alloc: Global,
-    names: &Names,
-    room: u32,
-    depth: u64,
-    bytes: &'a [u8],
-) -> Reading<'a, Node>
-    requires names { length names.now ≤ 4294967296 }
-    requires depth { depth ≤ 4294967296 }
-    ensures read { Agrees term_of result (term_over names.now (term_parts names.now room (shape_at Counted names.now room) (term_at names.now room)) room depth bytes.now) }
-    ensures placed { IfOk result (λ read. AreFirst (places_of read.0)) }
+    ensures { Begins names.now room (term_over names.now (term_parts names.now room (shape_at Counted names.now room) (term_at names.now room)) room depth bytes.now) result }
 {
     if let Some(rest) = behind(bytes, "fun (_") {
-        return read_function(alloc, names, room, depth, rest);
+        let (takes, start) = read_function_start(alloc, names, room, depth, rest)?;
+        let takes = Rc::new(alloc, takes)?;
+        return Ok((
+            Beginning::Waits(Waiting::Functions(takes), depth + 1),
+            start,
+        ));
     }
     if let Some(rest) = behind(bytes, "fun [_T") {
-        return read_type_function(alloc, names, room, depth, rest);
+        let (bound, start) = read_type_function_start(alloc, names, room, depth, rest)?;
+        let bound = Rc::new(alloc, bound)?;
+        return Ok((
+            Beginning::Waits(Waiting::TypeFunctions(bound), depth + 1),
+            start,
+        ));
     }
     if let Some(rest) = behind(bytes, "let _") {
-        return read_let(alloc, names, room, depth, rest);
+        let (note, start) = read_let_start(alloc, names, room, depth, rest)?;
+        return Ok((
+            Beginning::Waits(Waiting::Rights(note, room, depth), depth),
+            start,
+        ));
     }
     if let Some(rest) = behind(bytes, "if [") {
-        return read_choice(alloc, names, room, depth, rest);
+        let ((ty, test), start) = read_choice_start(alloc, names, room, depth, rest)?;
+        let ty = Rc::new(alloc, ty)?;
+        return Ok((
+            Beginning::Waits(Waiting::Positives(ty, test, room, depth), depth),
+            start,
+        ));
     }
     if let Some(rest) = behind(bytes, "boundary [") {
-        return read_boundary(alloc, names, room, depth, rest);
+        let (gives, start) = read_boundary_start(alloc, names, room, depth, rest)?;
+        let gives = Rc::new(alloc, gives)?;
+        return Ok((
+            Beginning::Waits(Waiting::Boundaries(gives), depth + 1),
+            start,
+        ));
     }
-    read_plain_term(alloc, names, room, depth, bytes)
+    let (term, rest) = read_plain_term(alloc, names, room, depth, bytes)?;
+    Ok((Beginning::Whole(term), rest))
 }
 
-/// A term that is no higher than the room, under so many binders. All its places are the first one of a text.
-#[cycle(terms)]
-#[tactic(auto, using(crate::proofs::TermRooms::term_above, crate::proofs::TermRooms::term_nowhere))]
+// Goes down to the first term in this one that has none inside it, and reads that. What stands round it waits.
+fn descend<'a>(
+    alloc: Global,
+    names: &Names,
+    waiting: &mut Vec<Waiting>,
+    room: u32,
+    depth: u64,
+    bytes: &'a [u8],
+) -> Reading<'a, Node>
+    requires names { length names.now ≤ 4294967296 }
+    requires depth { depth ≤ 4294967296 }
+    ensures { Resumes names.now (in_turn waiting.old.items) (term_at names.now room depth bytes.now) (in_turn waiting.new.items) result }
+{
+    let mut room = room;
+    let mut depth = depth;
+    let mut start = bytes;
+    while room > 0 {
+        room -= 1;
+        let (beginning, rest) = begin_term(alloc, names, room, depth, start)?;
+        match beginning {
+            Beginning::Whole(term) => return Ok((term, rest)),
+            Beginning::Waits(next, under) => {
+                waiting.push(next)?;
+                depth = under;
+                start = rest;
+            }
+        }
+    }
+    Err(Stop::Misfit)
+}
+
+// Goes on with what waits last, where the term for which it waits was read. Gives the next term that is read to its end.
+fn take_turn<'a>(
+    alloc: Global,
+    names: &Names,
+    waiting: &mut Vec<Waiting>,
+    next: Waiting,
+    term: Node,
+    bytes: &'a [u8],
+) -> Reading<'a, Node>
+    requires names { length names.now ≤ 4294967296 }
+    requires fit { IsFit next }
+    requires placed { AreFirst (places_of term) }
+    ensures { Resumes names.now (in_turn waiting.old.items) (around names.now next (term_of term) bytes.now) (in_turn waiting.new.items) result }
+{
+    match next {
+        Waiting::Functions(takes) => {
+            let body = Rc::new(alloc, term)?;
+            Ok((node(Form::Fun(takes, body)), bytes))
+        }
+        Waiting::TypeFunctions(bound) => {
+            let body = Rc::new(alloc, term)?;
+            Ok((node(Form::TFun(bound, body)), bytes))
+        }
+        Waiting::Rights(note, room, depth) => {
+            let (_, start) = read_exact(" in ", bytes)?;
+            let right = Rc::new(alloc, term)?;
+            waiting.push(Waiting::Bodies(note, right))?;
+            descend(alloc, names, waiting, room, depth + 1, start)
+        }
+        Waiting::Bodies(note, right) => {
+            let body = Rc::new(alloc, term)?;
+            Ok((node(Form::Let(note, right, body)), bytes))
+        }
+        Waiting::Positives(ty, test, room, depth) => {
+            let (_, start) = read_exact(" else ", bytes)?;
+            let positive = Rc::new(alloc, term)?;
+            waiting.push(Waiting::Negatives(ty, test, positive))?;
+            descend(alloc, names, waiting, room, depth, start)
+        }
+        Waiting::Negatives(ty, test, positive) => {
+            let negative = Rc::new(alloc, term)?;
+            Ok((
+                node(Form::If(Note::Written(ty), test, positive, negative)),
+                bytes,
+            ))
+        }
+        Waiting::Boundaries(gives) => {
+            let body = Rc::new(alloc, term)?;
+            Ok((node(Form::Boundary(gives, body)), bytes))
+        }
+    }
+}
+
+/// A term that is no higher than the room, under so many binders. All its places are the first one of a text. What stands
+/// round a part waits in a list, so that a high term takes no more of the stack than a flat one.
 pub fn read_term<'a>(
     alloc: Global,
     names: &Names,
@@ -639,8 +339,15 @@ pub fn read_term<'a>(
     ensures read { Agrees term_of result (term_at names.now room depth bytes.now) }
     ensures placed { IfOk result (λ read. AreFirst (places_of read.0)) }
 {
-    if room == 0 {
-        return Err(Stop::Misfit);
+    let mut waiting = Vec::new(alloc);
+    let (mut term, mut rest) = descend(alloc, names, &mut waiting, room, depth, bytes)?;
+    for _ in 0..u64::MAX {
+        let Some(next) = waiting.pop() else {
+            return Ok((term, rest));
+        };
+        let (read, behind) = take_turn(alloc, names, &mut waiting, next, term, rest)?;
+        term = read;
+        rest = behind;
     }
-    read_term_over(alloc, names, room - 1, depth, bytes)
+    Err(Stop::NoMemory)
 }

@@ -1,5 +1,9 @@
+ghost use Rattle.std.specs.Prelude.{◌≡◌, ◌⊎◌};
+ghost use Rattle.cc_derivation.specs.declared.derivation.Premises.TheVariants.{End};
+
 use cc_capture::CapSet;
 use cc_core::{Shape, Ty};
+use std::mem;
 use std::rc::Rc;
 
 /// The rules by which a set, a shape and a type is below another, and those by which a term has a type.
@@ -92,48 +96,67 @@ pub struct Der {
     pub premises: Premises,
 }
 
-// A long chain of nodes is dropped by a loop: along what a subsumption widens, and else along the second premise where
-// there is one.
+impl Der {
+    // The premises. The rest is dropped.
+    fn into_premises(self) -> Premises
+        ensures { result ≡ self.premises }
+    {
+        let Der {
+            rule: _,
+            claim,
+            premises,
+        } = self;
+        drop(claim);
+        premises
+    }
+}
+
+// The premises of a derivation that no one else holds; else none.
+fn owned_premises(der: Rc<Der>) -> Premises
+    ensures { (result ≡ der.value.premises) ⊎ (result ≡ End) }
+{
+    match Rc::into_inner(der) {
+        Some(der) => der.into_premises(),
+        None => Premises::End,
+    }
+}
+
+// The list, where no one else holds it; else none.
+fn owned_list(list: Rc<Premises>) -> Premises
+    ensures { (result ≡ list.value) ⊎ (result ≡ End) }
+{
+    match Rc::into_inner(list) {
+        Some(list) => list,
+        None => Premises::End,
+    }
+}
+
+// Derivations are dropped by a loop, and take neither stack nor memory for it. What waits is held by the lists that are
+// dropped: where no one else holds the rest of a list, its first derivation waits in front of the others in the place of
+// that rest, and the rest is gone over first.
 impl Drop for Der {
     #[cycle(drops)]
-    fn drop(mut self) {
+    fn drop(self) {
+        let mut left = self.into_premises();
+        let mut waiting = Premises::End;
         loop {
-            let Der {
-                rule,
-                claim,
-                premises,
-            } = self;
-            drop(claim);
-            match premises {
-                Premises::End => return,
-                Premises::More(first, rest) => match rule {
-                    Rule::Subsumption => {
-                        drop(rest);
-                        match Rc::into_inner(first) {
-                            Some(inner) => self = inner,
-                            None => return,
-                        }
+            match left {
+                Premises::End => match waiting {
+                    Premises::End => return,
+                    Premises::More(first, others) => {
+                        left = owned_premises(first);
+                        waiting = owned_list(others);
                     }
-                    _ => match Rc::into_inner(rest) {
-                        Some(others) => match others {
-                            Premises::More(second, more) => {
-                                drop(first);
-                                drop(more);
-                                match Rc::into_inner(second) {
-                                    Some(inner) => self = inner,
-                                    None => return,
-                                }
-                            }
-                            Premises::End => match Rc::into_inner(first) {
-                                Some(inner) => self = inner,
-                                None => return,
-                            },
-                        },
-                        None => match Rc::into_inner(first) {
-                            Some(inner) => self = inner,
-                            None => return,
-                        },
-                    },
+                },
+                Premises::More(first, mut rest) => match Rc::get_mut(&mut rest) {
+                    Some(place) => {
+                        left = mem::replace(place, waiting);
+                        waiting = Premises::More(first, rest);
+                    }
+                    None => {
+                        drop(rest);
+                        left = owned_premises(first);
+                    }
                 },
             }
         }

@@ -1,5 +1,6 @@
 pub mod AlikePlaces
 pub mod CountedNodes
+mod GatheredTerms
 pub mod IndexedElements
 pub mod JudgedRoots
 pub mod PassedNodes

@@ -2,6 +2,8 @@ pub mod Captures
 pub mod ClaimLists
 pub mod ClaimedPremises
 pub mod Counting
+pub mod DroppedCaptures
+pub mod Gathering
 pub mod Judged
 pub mod Spots
 pub mod Waiting

@@ -1,22 +1,26 @@
 //! What the functions in a term capture, found once for all of them. Each call fails only for want of memory.
 
-ghost use Rattle.std.specs.Prelude.{◌≡◌, Some, IfOk, IfSome, if◌then◌else◌};
+ghost use Rattle.std.specs.Prelude.{◌≡◌, ℕ, ◌+◌, ◌<◌, ◌≤◌, ◌∷◌, Some, IfOk, IfSome, MatchOption, if◌then◌else◌, ◌⊎◌};
 ghost use Rattle.cc_capture.specs.Sets.{union};
 ghost use Rattle.cc_core.specs.Captured as plain;
 ghost use Rattle.cc_core.specs.Captured.{captured_variables};
-ghost use Rattle.cc_core.specs.Terms.{Term};
+ghost use Rattle.cc_core.specs.Terms.{Term, Note, Let, Conditional};
 ghost use Rattle.cc_core.specs.TermViews.{term_of};
 ghost use Rattle.cc_validity.specs.Captures.{body_in, parts_in, Tells, Tells-prop};
+ghost use Rattle.cc_validity.specs.declared.captures.Captures.{Captures};
+ghost use Rattle.cc_validity.specs.declared.captures.Captures.TheVariants.{Unknown};
+ghost use Rattle.cc_validity.specs.DroppedCaptures.{turns, turns_waiting, NoneLarger};
+ghost use Rattle.cc_validity.specs.Gathering.{IsFound, in_turn, Descends, TakesTurn};
 
 use cc_capture::{CapSet, Elem, Var};
 use cc_captured::captured::{cv, is_value, without_binder};
 use cc_core::{Form, Node};
 use std::alloc::{AllocError, Global};
+use std::mem;
 use std::rc::Rc;
 
 /// What is known of what the functions in a term capture.
 #[cycle(captures)]
-#[derive(Drop)]
 pub enum Captures {
     /// Nothing.
     Unknown,
@@ -24,6 +28,68 @@ pub enum Captures {
     Body(CapSet, Rc<Captures>),
     /// What is known of the right side and the body of a let, or of the branches of a choice.
     Parts(Rc<Captures>, Rc<Captures>),
+}
+
+// What no one else holds; else nothing.
+fn owned(captures: Rc<Captures>) -> Captures
+    ensures { (result ≡ captures.value) ⊎ (result ≡ Unknown) }
+{
+    match Rc::into_inner(captures) {
+        Some(inner) => inner,
+        None => Captures::Unknown,
+    }
+}
+
+impl Captures {
+    // Of what waits to be dropped, each beside the others, the first and the others, if there is something.
+    fn next(self) -> Option<(Captures, Captures)>
+        ensures fewer { MatchOption result (self ≡ Unknown) (λ parts. turns parts.0 + turns_waiting parts.1 < turns_waiting self) }
+        ensures no_larger { IfSome result (λ parts. (size : Captures → ℕ) → (limit : ℕ) → size Unknown ≤ limit → NoneLarger size limit self → (size parts.0 ≤ limit) × NoneLarger size limit parts.1) }
+    {
+        match self {
+            Captures::Unknown => None,
+            Captures::Body(set, body) => {
+                drop(set);
+                Some((owned(body), Captures::Unknown))
+            }
+            Captures::Parts(first, others) => Some((owned(first), owned(others))),
+        }
+    }
+}
+
+// What is known is dropped by a loop, and takes neither stack nor memory for it. What waits is held by what is dropped:
+// where no one else holds a second part, the first one waits in front of the others in the place of that part, which is
+// gone over first.
+impl Drop for Captures {
+    #[cycle(drops)]
+    fn drop(mut self) {
+        let mut waiting = Captures::Unknown;
+        loop {
+            match self {
+                Captures::Unknown => match waiting.next() {
+                    None => return,
+                    Some((first, others)) => {
+                        self = first;
+                        waiting = others;
+                    }
+                },
+                Captures::Body(set, body) => {
+                    drop(set);
+                    self = owned(body);
+                }
+                Captures::Parts(first, mut second) => match Rc::get_mut(&mut second) {
+                    Some(place) => {
+                        self = mem::replace(place, waiting);
+                        waiting = Captures::Parts(first, second);
+                    }
+                    None => {
+                        drop(second);
+                        self = owned(first);
+                    }
+                },
+            }
+        }
+    }
 }
 
 /// A term, with what is known of what the functions in it capture.
@@ -80,14 +146,13 @@ pub fn same_term(term: &KnownTerm) -> Result<KnownTerm, AllocError>
     told(&term.node, &term.captures)
 }
 
-// What is known of a term with a body, where it captures the set and this is known of the body.
-#[inline(never)]
-fn around(alloc: Global, set: CapSet, body: Captures) -> Result<Found, AllocError>
-    ensures set { IfOk result (λ f. f.set ≡ set) }
-    ensures told { IfOk result (λ f. (term : Term) → set ≡ captured_variables term → IfSome (body_in term) (Tells body) → Tells f.captures term) }
+// What is found for a term with the body, of what is found for the body.
+fn found_around(alloc: Global, body: Found) -> Result<Found, AllocError>
+    ensures { IfOk result (λ f. (term : Term) → (inner : Term) → body_in term ≡ Some inner → IsFound body inner → IsFound f term) }
 {
+    let set = without_binder(alloc, &body.set)?;
     let own = set.clone()?;
-    let captures = Captures::Body(own, Rc::new(alloc, body)?);
+    let captures = Captures::Body(own, Rc::new(alloc, body.captures)?);
     Ok(Found { set, captures })
 }
 
@@ -100,7 +165,6 @@ fn is_unknown(captures: &Captures) -> bool {
 }
 
 // What is known of a term with two parts, of which this is known.
-#[inline(never)]
 fn beside(alloc: Global, first: Captures, second: Captures) -> Result<Captures, AllocError>
     ensures { IfOk result (λ c. (term : Term) → IfSome (parts_in term) (λ parts. Tells first parts.0 × Tells second parts.1) → Tells c term) }
 {
@@ -111,7 +175,6 @@ fn beside(alloc: Global, first: Captures, second: Captures) -> Result<Captures, 
 }
 
 // What a let captures, by what its right side and its body do.
-#[inline(never)]
 fn let_set(
     alloc: Global,
     right: &Node,
@@ -128,7 +191,6 @@ fn let_set(
 }
 
 // What a choice captures, by what its branches do.
-#[inline(never)]
 fn choice_set(
     alloc: Global,
     test: Var,
@@ -142,22 +204,27 @@ fn choice_set(
     Ok(set)
 }
 
-// What is found for a term with the body.
-#[cycle(gathering)]
-fn gathered_around(alloc: Global, body: &Node) -> Result<Found, AllocError>
-    ensures set { IfOk result (λ f. f.set ≡ plain.without_binder (captured_variables (term_of body.now))) }
-    ensures told { IfOk result (λ f. (term : Term) → captured_variables term ≡ plain.without_binder (captured_variables (term_of body.now)) → body_in term ≡ Some (term_of body.now) → Tells f.captures term) }
+// What is found for a let, of what is found for its parts.
+fn found_let(alloc: Global, right: &Node, first: Found, second: Found) -> Result<Found, AllocError>
+    ensures { IfOk result (λ f. (note : Note) → (body : Term) → IsFound first (term_of right.now) → IsFound second body → IsFound f (Let note (term_of right.now) body)) }
 {
-    let inner = gathered(alloc, body)?;
-    let set = without_binder(alloc, &inner.set)?;
-    around(alloc, set, inner.captures)
+    let set = let_set(alloc, right, &first.set, &second.set)?;
+    let captures = beside(alloc, first.captures, second.captures)?;
+    Ok(Found { set, captures })
+}
+
+// What is found for a choice, of what is found for its branches.
+fn found_choice(alloc: Global, test: Var, first: Found, second: Found) -> Result<Found, AllocError>
+    ensures { IfOk result (λ f. (note : Note) → (positive : Term) → (negative : Term) → IsFound first positive → IsFound second negative → IsFound f (Conditional note test positive negative)) }
+{
+    let set = choice_set(alloc, test, &first.set, &second.set)?;
+    let captures = beside(alloc, first.captures, second.captures)?;
+    Ok(Found { set, captures })
 }
 
 // What is found for a term whose functions are not looked for.
-#[inline(never)]
-fn gathered_alone(alloc: Global, node: &Node) -> Result<Found, AllocError>
-    ensures set { IfOk result (λ f. f.set ≡ captured_variables (term_of node.now)) }
-    ensures told { IfOk result (λ f. Tells f.captures (term_of node.now)) }
+fn found_alone(alloc: Global, node: &Node) -> Result<Found, AllocError>
+    ensures { IfOk result (λ f. IsFound f (term_of node.now)) }
 {
     let set = cv(alloc, node)?;
     Ok(Found {
@@ -166,58 +233,99 @@ fn gathered_alone(alloc: Global, node: &Node) -> Result<Found, AllocError>
     })
 }
 
-// What is found for a let.
-#[inline(never)]
-#[cycle(gathering)]
-fn gathered_let(alloc: Global, node: &Node) -> Result<Found, AllocError>
-    ensures set { IfOk result (λ f. f.set ≡ captured_variables (term_of node.now)) }
-    ensures told { IfOk result (λ f. Tells f.captures (term_of node.now)) }
+// What is found for a let or a choice, of what is found for its two parts.
+fn found_of_parts(
+    alloc: Global,
+    node: &Node,
+    first: Found,
+    second: Found,
+) -> Result<Found, AllocError>
+    ensures { IfOk result (λ f. (one : Term) → (other : Term) → parts_in (term_of node.now) ≡ Some (one, other) → IsFound first one → IsFound second other → IsFound f (term_of node.now)) }
 {
     match &node.form {
-        Form::Let(_, right, body) => {
-            let first = gathered(alloc, right)?;
-            let second = gathered(alloc, body)?;
-            let set = let_set(alloc, right, &first.set, &second.set)?;
-            let captures = beside(alloc, first.captures, second.captures)?;
-            Ok(Found { set, captures })
-        }
-        _ => gathered_alone(alloc, node),
+        Form::Let(_, right, _) => found_let(alloc, right, first, second),
+        Form::If(_, test, _, _) => found_choice(alloc, *test, first, second),
+        _ => found_alone(alloc, node),
     }
 }
 
-// What is found for a choice.
-#[inline(never)]
-#[cycle(gathering)]
-fn gathered_choice(alloc: Global, node: &Node) -> Result<Found, AllocError>
-    ensures set { IfOk result (λ f. f.set ≡ captured_variables (term_of node.now)) }
-    ensures told { IfOk result (λ f. Tells f.captures (term_of node.now)) }
-{
-    match &node.form {
-        Form::If(_, test, positive, negative) => {
-            let first = gathered(alloc, positive)?;
-            let second = gathered(alloc, negative)?;
-            let set = choice_set(alloc, *test, &first.set, &second.set)?;
-            let captures = beside(alloc, first.captures, second.captures)?;
-            Ok(Found { set, captures })
-        }
-        _ => gathered_alone(alloc, node),
-    }
+// A term that waits for what is found for a part of it.
+#[derive(Drop)]
+enum Waiting<'a> {
+    // A function, a type function or a boundary, for its body.
+    Body(&'a Node),
+    // A let or a choice, for its first part. The second is still to be gone over.
+    First(&'a Node, &'a Rc<Node>),
+    // A let or a choice, for its second part. This was found for the first.
+    Second(&'a Node, Found),
 }
 
-// What is found for a term. The set of each part is found once. Calls nest as deep as the term is high, so that each form
-// has a function of its own, with what it needs on the stack.
-#[cycle(gathering)]
+// What is found for a term. The set of each part is found once. What stands round a part waits in a list, so that a high
+// term takes no more of the stack than a low one.
 fn gathered(alloc: Global, node: &Node) -> Result<Found, AllocError>
-    ensures set { IfOk result (λ f. f.set ≡ captured_variables (term_of node.now)) }
-    ensures told { IfOk result (λ f. Tells f.captures (term_of node.now)) }
+    ensures { IfOk result (λ f. IsFound f (term_of node.now)) }
 {
-    match &node.form {
-        Form::Fun(_, body) => gathered_around(alloc, body),
-        Form::TFun(_, body) => gathered_around(alloc, body),
-        Form::Boundary(_, body) => gathered_around(alloc, body),
-        Form::Let(_, _, _) => gathered_let(alloc, node),
-        Form::If(_, _, _, _) => gathered_choice(alloc, node),
-        _ => gathered_alone(alloc, node),
+    let mut waiting = Vec::new(alloc);
+    let mut found = descend(alloc, &mut waiting, node)?;
+    while let Some(next) = waiting.pop() {
+        found = take_turn(alloc, &mut waiting, next, found)?;
+    }
+    Ok(found)
+}
+
+// Goes down in the term to its first part whose own parts are not looked for. What stands round that waits. Gives what is
+// found for it.
+fn descend<'a>(
+    alloc: Global,
+    waiting: &mut Vec<Waiting<'a>>,
+    node: &'a Node,
+) -> Result<Found, AllocError>
+    ensures { IfOk result (λ f. Descends (term_of node.now) (in_turn waiting.old.items) (in_turn waiting.new.items) f) }
+{
+    let mut inner = node;
+    loop {
+        match &inner.form {
+            Form::Fun(_, body) => {
+                waiting.push(Waiting::Body(inner))?;
+                inner = body;
+            }
+            Form::TFun(_, body) => {
+                waiting.push(Waiting::Body(inner))?;
+                inner = body;
+            }
+            Form::Boundary(_, body) => {
+                waiting.push(Waiting::Body(inner))?;
+                inner = body;
+            }
+            Form::Let(_, right, body) => {
+                waiting.push(Waiting::First(inner, body))?;
+                inner = right;
+            }
+            Form::If(_, _, positive, negative) => {
+                waiting.push(Waiting::First(inner, negative))?;
+                inner = positive;
+            }
+            _ => return found_alone(alloc, inner),
+        }
+    }
+}
+
+// Goes on with what waits last, where this was found for the part that it waits for. Gives what is found for the next one.
+fn take_turn<'a>(
+    alloc: Global,
+    waiting: &mut Vec<Waiting<'a>>,
+    next: Waiting<'a>,
+    found: Found,
+) -> Result<Found, AllocError>
+    ensures { IfOk result (λ f. TakesTurn (next.entry ∷ in_turn waiting.old.items) found (in_turn waiting.new.items) f) }
+{
+    match next {
+        Waiting::Body(_) => found_around(alloc, found),
+        Waiting::First(node, second) => {
+            waiting.push(Waiting::Second(node, found))?;
+            descend(alloc, waiting, second)
+        }
+        Waiting::Second(node, first) => found_of_parts(alloc, node, first, found),
     }
 }
 
@@ -280,6 +388,9 @@ pub fn captured_by(alloc: Global, term: &KnownTerm) -> Result<CapSet, AllocError
 {
     match &*term.captures {
         Captures::Body(set, _) => set.clone(),
-        _ => cv(alloc, &term.node),
+        _ => {
+            let whole = gathered(alloc, &term.node)?;
+            Ok(whole.set)
+        }
     }
 }
