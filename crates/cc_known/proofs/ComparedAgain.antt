@@ -85,15 +85,15 @@ told-and_then test (Matches ds) Unfinished = refl
 told-and_then test (Matches ds) Mismatch = refl
 told-and_then test (Matches ds) (Matches es) = ap Some (all_both test ds es)
 
-told_unless : (test : Demand → Bool) (s : Bool) (a b c : Comparison) → told test b ≡ told test c
-    → told test (cond s a b) ≡ told test (cond s a c)
-told_unless test true a b c e = refl
-told_unless test false a b c e = e
+told_unless : (other test : Demand → Bool) (s : Bool) (a b c : Comparison) → told other a ≡ told test a
+    → told other b ≡ told test c → told other (cond s a b) ≡ told test (cond s a c)
+told_unless other test true a b c f e = f
+told_unless other test false a b c f e = e
 
-told_where : (test : Demand → Bool) (s : Bool) (a b c : Comparison) → told test b ≡ told test c
-    → told test (cond s b a) ≡ told test (cond s c a)
-told_where test true a b c e = e
-told_where test false a b c e = refl
+told_where : (other test : Demand → Bool) (s : Bool) (a b c : Comparison) → told other a ≡ told test a
+    → told other b ≡ told test c → told other (cond s b a) ≡ told test (cond s c a)
+told_where other test true a b c f e = e
+told_where other test false a b c f e = f
 
 pub lookup-past : {A : Type 0} (xs : List A) (p : ℕ) → length xs ≤ p → lookup xs p ≡ None
 lookup-past [] p h = refl
@@ -437,35 +437,35 @@ module _ (small real : Context) (to back : ℕ → ℕ) (moves : Moves small rea
       ∙ ap (opened_type (to n)) (acted-level TypeSort (renaming to) (IsFree-renaming to) 1 0 t)
       ∙ sym (free-putting (renaming to) (IsFree-renaming to) (Free n) (Free (to n)) (Sends-renaming to n) TypeSort 0 t)
 
-  -- A test that says the same of what comes again.
-  module _ (test : Demand → Bool) (alike : (more : Context) (l r : Set) → test (demanded (again more) (renamed_set to l) (renamed_set to r)) ≡ test (demanded (more ++ small) l r)) where
+  -- A test that says of what comes again what another says of it at first.
+  module _ (other test : Demand → Bool) (alike : (more : Context) (l r : Set) → other (demanded (again more) (renamed_set to l) (renamed_set to r)) ≡ test (demanded (more ++ small) l r)) where
     abbrev TellsAgain : Comparing → Type 0
     TellsAgain compare =
         (more : Context) (l r : Shape)
-        → told test (compare (again more) (renamed to l) (renamed to r)) ≡ told test (compare (more ++ small) l r)
+        → told other (compare (again more) (renamed to l) (renamed to r)) ≡ told test (compare (more ++ small) l r)
 
     types_again : (compare : Comparing) → TellsAgain compare → (more : Context) (t u : CapturingType)
-        → told test (types_compared compare (again more) (renamed_type to t) (renamed_type to u))
+        → told other (types_compared compare (again more) (renamed_type to t) (renamed_type to u))
         ≡ told test (types_compared compare (more ++ small) t u)
     types_again compare h more t u =
-        told-and_then test (Matches (demanded (again more) (renamed_set to t.set) (renamed_set to u.set) ∷ []))
+        told-and_then other (Matches (demanded (again more) (renamed_set to t.set) (renamed_set to u.set) ∷ []))
         (compare (again more) (renamed to t.shape) (renamed to u.shape))
         ∙ (λ i. both_told (Some (alike more t.set u.set i && true)) (h more t.shape u.shape i))
         ∙ sym (told-and_then test (Matches (demanded (more ++ small) t.set u.set ∷ [])) (compare (more ++ small) t.shape u.shape))
 
     bodies_again : (compare : Comparing) → TellsAgain compare → (more : Context) (b : Bind) (t u : CapturingType)
-        → told test (types_compared compare (renamed_entry to b ∷ again more) (opened_type (length (again more)) (act_type (renaming to) 1 t))
+        → told other (types_compared compare (renamed_entry to b ∷ again more) (opened_type (length (again more)) (act_type (renaming to) 1 t))
         (opened_type (length (again more)) (act_type (renaming to) 1 u)))
         ≡ told test (types_compared compare (b ∷ more ++ small) (opened_type (length (more ++ small)) t) (opened_type (length (more ++ small)) u))
     bodies_again compare h more b t u =
-        (λ i. told test (types_compared compare (again (b ∷ more)) (opened-again more t i) (opened-again more u i)))
+        (λ i. told other (types_compared compare (again (b ∷ more)) (opened-again more t i) (opened-again more u i)))
         ∙ types_again compare h (b ∷ more) (opened_type (length (more ++ small)) t) (opened_type (length (more ++ small)) u)
 
     function_again : (compare : Comparing) → TellsAgain compare → (more : Context) (t u : CapturingType) (r : Shape)
-        → told test (function_compared compare (again more) (renamed_type to t) (act_type (renaming to) 1 u) (renamed to r))
+        → told other (function_compared compare (again more) (renamed_type to t) (act_type (renaming to) 1 u) (renamed to r))
         ≡ told test (function_compared compare (more ++ small) t u r)
     function_again compare h more t u (FunctionShape t' c' u' d') =
-        told-and_then test (types_compared compare (again more) (renamed_type to (capturing t' c')) (renamed_type to t)) _
+        told-and_then other (types_compared compare (again more) (renamed_type to (capturing t' c')) (renamed_type to t)) _
         ∙ (λ i. both_told (types_again compare h more (capturing t' c') t i) (bodies_again compare h more (TermEntry t' c') u (capturing u' d') i))
         ∙ sym (told-and_then test (types_compared compare (more ++ small) (capturing t' c') t) _)
     function_again compare h more t u (BaseShape b) = refl
@@ -476,12 +476,12 @@ module _ (small real : Context) (to back : ℕ → ℕ) (moves : Moves small rea
     function_again compare h more t u (ExitShape g) = refl
 
     type_function_again : (compare : Comparing) → TellsAgain compare → (more : Context) (b : Shape) (u : CapturingType) (r : Shape)
-        → told test (type_function_compared compare (again more) (renamed to b) (act_type (renaming to) 1 u) (renamed to r))
+        → told other (type_function_compared compare (again more) (renamed to b) (act_type (renaming to) 1 u) (renamed to r))
         ≡ told test (type_function_compared compare (more ++ small) b u r)
     type_function_again compare h more b u (TypeFunctionShape b' u' d') =
-        ap (λ s. told test (cond s (types_compared compare (TypeEntry (renamed to b) ∷ again more) (opened_type (length (again more)) (act_type (renaming to) 1 u))
+        ap (λ s. told other (cond s (types_compared compare (TypeEntry (renamed to b) ∷ again more) (opened_type (length (again more)) (act_type (renaming to) 1 u))
         (opened_type (length (again more)) (act_type (renaming to) 1 (capturing u' d')))) Mismatch)) (same_shape-renamed b b')
-        ∙ told_where test (same_shape b b') Mismatch _ _ (bodies_again compare h more (TypeEntry b) u (capturing u' d'))
+        ∙ told_where other test (same_shape b b') Mismatch _ _ refl (bodies_again compare h more (TypeEntry b) u (capturing u' d'))
     type_function_again compare h more b u (BaseShape o) = refl
     type_function_again compare h more b u AnyShape = refl
     type_function_again compare h more b u (TypeVariable v) = refl
@@ -490,7 +490,7 @@ module _ (small real : Context) (to back : ℕ → ℕ) (moves : Moves small rea
     type_function_again compare h more b u (ExitShape g) = refl
 
     box_again : (compare : Comparing) → TellsAgain compare → (more : Context) (t : CapturingType) (r : Shape)
-        → told test (box_compared compare (again more) (renamed_type to t) (renamed to r))
+        → told other (box_compared compare (again more) (renamed_type to t) (renamed to r))
         ≡ told test (box_compared compare (more ++ small) t r)
     box_again compare h more t (BoxShape s c) = types_again compare h more t (capturing s c)
     box_again compare h more t (BaseShape o) = refl
@@ -501,13 +501,13 @@ module _ (small real : Context) (to back : ℕ → ℕ) (moves : Moves small rea
     box_again compare h more t (ExitShape g) = refl
 
     bound_compared-again : (compare : Comparing) → TellsAgain compare → (more : Context) (v : Var) (r : Shape)
-        → told test (bound_compared compare (again more) (bound_of (again more) (renamed_variable to v)) (renamed to r))
+        → told other (bound_compared compare (again more) (bound_of (again more) (renamed_variable to v)) (renamed to r))
         ≡ told test (bound_compared compare (more ++ small) (bound_of (more ++ small) v) r)
     bound_compared-again compare h more v r =
-        ap (λ o. told test (bound_compared compare (again more) o (renamed to r))) (bound-again more v)
+        ap (λ o. told other (bound_compared compare (again more) o (renamed to r))) (bound-again more v)
         ∙ followed (bound_of (more ++ small) v)
       where
-        followed : (o : Option Shape) → told test (bound_compared compare (again more) (option_map (renamed to) o) (renamed to r))
+        followed : (o : Option Shape) → told other (bound_compared compare (again more) (option_map (renamed to) o) (renamed to r))
             ≡ told test (bound_compared compare (more ++ small) o r)
         followed (Some s) = h more s r
         followed None = refl
@@ -526,9 +526,9 @@ module _ (small real : Context) (to back : ℕ → ℕ) (moves : Moves small rea
     unfolding comparison
     comparison_again zero more l r = refl
     comparison_again (suc steps) more l r =
-        (λ i. told test (cond (same_shape-renamed l r i) (Matches []) (cond (is_any-renamed r i) (Matches [])
+        (λ i. told other (cond (same_shape-renamed l r i) (Matches []) (cond (is_any-renamed r i) (Matches [])
         (by_form (comparison steps) (again more) (renamed to l) (renamed to r)))))
-        ∙ told_unless test (same_shape l r) (Matches []) _ _ (told_unless test (is_any r) (Matches []) _ _
+        ∙ told_unless other test (same_shape l r) (Matches []) _ _ refl (told_unless other test (is_any r) (Matches []) _ _ refl
         (form_again (comparison steps) (comparison_again steps) more l r))
 
 -- a test that is the same for all that comes again with the oldest entries where they are, wherever the others stand
@@ -697,13 +697,27 @@ module _ (small real : Context) (to : ℕ → ℕ) (formed : IsKindedContext sma
   still_out oldest within stays p h =
       onward_first (length small) (length real) to embeds.apart inside p (omega (arith, h, within)) ∙ stays p h
 
+  -- by a test that says of what comes again what another says of it at first
+  pub told_by : (other test : Demand → Bool)
+      → ((far back : ℕ → ℕ) (moves : Moves small real far back) → ((p : ℕ) → p < length small → far p ≡ to p)
+      → (more : Context) (l r : Set) → other (demanded (again small real far back moves more) (renamed_set far l) (renamed_set far r)) ≡ test (demanded (more ++ small) l r))
+      → (steps : ℕ) (l r : Shape)
+      → MeetsIn ShapeSort (positions_below (length small)) 0 l → MeetsIn ShapeSort (positions_below (length small)) 0 r
+      → told other (comparison steps real (renamed to l) (renamed to r)) ≡ told test (comparison steps small l r)
+  told_by other test alike steps l r left right =
+      let first = onward_first (length small) (length real) to embeds.apart inside in
+      let agree : (s : Shape) → MeetsIn ShapeSort (positions_below (length small)) 0 s → renamed to s ≡ renamed out s =
+      λ s h. sym (renamings_agree ShapeSort (length small) to out first s h) in
+      (λ i. told other (comparison steps real (agree l left i) (agree r right i)))
+      ∙ comparison_again small real out into moves_out other test (alike out into moves_out first) steps [] l r
+
   pub told_embedded : (oldest : ℕ) → oldest ≤ length small → ((p : ℕ) → p < oldest → to p ≡ p)
       → (test : Demand → Bool) → TestsAgain oldest test → (steps : ℕ) (l r : Shape)
       → IsKinded (kinds_of small) [] l → IsKinded (kinds_of small) [] r
       → told test (comparison steps real (renamed to l) (renamed to r)) ≡ told test (comparison steps small l r)
   told_embedded oldest within stays test alike steps l r left right =
       (λ i. told test (comparison steps real (sym (renamed_out ShapeSort l left) i) (sym (renamed_out ShapeSort r right) i)))
-      ∙ comparison_again small real out into moves_out test
+      ∙ comparison_again small real out into moves_out test test
       (alike small real out into moves_out within (still_out oldest within stays)) steps [] l r
 
   -- demands of sets
@@ -721,8 +735,8 @@ module _ (small real : Context) (to : ℕ → ℕ) (formed : IsKindedContext sma
       ≡ told test (bound_compared (comparison steps) small (bound_of small v) r)
   told_bound_embedded oldest within stays test alike steps v r named right =
       (λ i. told test (bound_compared (comparison steps) real (bound_of real (variable_out (sym (renamed_out ShapeSort (TypeVariable v) named)) i)) (sym (renamed_out ShapeSort r right) i)))
-      ∙ bound_compared-again small real out into moves_out test tests (comparison steps)
-      (comparison_again small real out into moves_out test tests steps) [] v r
+      ∙ bound_compared-again small real out into moves_out test test tests (comparison steps)
+      (comparison_again small real out into moves_out test test tests steps) [] v r
     where
       tests : (more : Context) (left other : Set)
           → test (demanded (again small real out into moves_out more) (renamed_set out left) (renamed_set out other))

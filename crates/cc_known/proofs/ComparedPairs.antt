@@ -1,31 +1,24 @@
--- What is remembered of two shapes holds wherever the entries stand among which they were compared.
-use Rattle.std.proofs.Common.{◌≡◌, ℕ, Bool, true, false, ◌&&◌, map, List, [], ◌∷◌, ◌++◌, length, Some}
-use Rattle.std.proofs.Common.{refl, sym, ap, ◌∙◌, subst, arith}
+-- What is remembered of two shapes: what was gone through with nothing to be kept where it comes again.
+use Rattle.std.proofs.Common.{◌≡◌, ℕ, Bool, true, false, ◌&&◌, map, List, [], ◌∷◌, ◌++◌, length}
+use Rattle.std.proofs.Common.{refl, sym, ap, ◌∙◌, subst}
 use Rattle.std.specs.List.{list_all}
-use Rattle.std.specs.Option.{option_map}
 use Rattle.std.proofs.lemmas.Bool.{and_from, and_parts}
 use Rattle.cc_base.specs.declared.place.Place.{Place}
 use Rattle.cc_core.specs.Contexts.{Context}
 use Rattle.cc_core.specs.Shapes.{Shape}
-use Rattle.cc_core.specs.Substitution.{renamed}
 use Rattle.cc_core.specs.TermViews.{shape_of, context_of}
 use Rattle.cc_core.specs.WellFormed.{kinds_of, is_well_formed_context, is_well_formed_shape}
 use Rattle.cc_core.specs.WellFormed.{IsWellFormedContext, IsWellFormedShape}
-use Rattle.cc_core.proofs.KindFacts.{IsKinded-from}
-use Rattle.cc_core.proofs.Lookups.{lookup-within}
-use Rattle.cc_core.proofs.Sorts.{ShapeSort}
-use Rattle.cc_core.proofs.SubcapturingContexts.{IsKindedContext-from}
-use Rattle.cc_core.proofs.WellFormedness.{well_formed-positions_below}
 use Rattle.cc_checking.specs.Comparison.{Demand, Comparison, Unfinished, Mismatch, Matches, comparison}
 use Rattle.cc_checking.specs.Inference.{demand_at}
 use Rattle.cc_checking.specs.Outcomes.{Placed}
-use Rattle.cc_known.specs.ComparedAgain.{told, renamed_entry, seen, Embeds}
-use Rattle.cc_known.specs.ComparedPairs.{keeps_nothing, is_compared_as, is_compared, StandsSeen, IsKept}
+use Rattle.cc_known.specs.ComparedAgain.{told}
+use Rattle.cc_known.specs.ComparedPairs.{keeps_nothing, is_compared_as, is_compared, IsKept}
 use Rattle.cc_known.specs.EndsAgain.{comes_again}
 use Rattle.cc_known.specs.Keeping.{keeping}
 use Rattle.cc_known.specs.KeptWalks.{Keeps, StandsOn, is_told}
-use Rattle.cc_known.specs.declared.compared.Compared.{Compared}
-use Rattle.cc_known.proofs.ComparedAgain.{older_members, renamed_same, still_entry, told_embedded, told_again}
+use Rattle.cc_known.specs.declared.marked.Compared.{Compared}
+use Rattle.cc_known.proofs.ComparedAgain.{told_again}
 use Rattle.cc_known.proofs.EndsAgain.{comes_again_tests, comes_needless}
 use Rattle.cc_known.proofs.NeedlessLater.{all_put}
 use Rattle.cc_known.proofs.RememberedPairs.{untrue, older_formed}
@@ -38,7 +31,7 @@ none_kept oldest at log (d ∷ ds) h =
     let both = and_parts (comes_again oldest log d) (list_all (comes_again oldest log) ds) h in
     ap (λ x. keeping x (map (demand_at at) ds)) (comes_needless oldest log at d both.0) ∙ none_kept oldest at log ds both.1
 
-kept_nothing : (oldest : ℕ) (at : Place) (log : List Placed) (c : Comparison) → keeps_nothing oldest log c ≡ true
+pub kept_nothing : (oldest : ℕ) (at : Place) (log : List Placed) (c : Comparison) → keeps_nothing oldest log c ≡ true
     → IsKept at c true log log
 kept_nothing oldest at log Unfinished h = untrue h
 kept_nothing oldest at log Mismatch h = sym h
@@ -50,42 +43,6 @@ pub forgotten : (oldest : ℕ) (at : Place) (c : Comparison) (matched was is : B
 forgotten oldest at Unfinished matched was is before after k = absurd k
 forgotten oldest at Mismatch matched was is before after k = k
 forgotten oldest at (Matches ds) matched was is before after k = (k.0, k.1, λ e. absurd (untrue e))
-
--- a context stands where all that is seen of it does
-embeds_seen : (small g : Context) → IsWellFormedContext small → StandsSeen small g → Embeds small g (λ p. p)
-embeds_seen small g formed stands = record {
-  apart = λ p q h h' e. e;
-  entries = λ p h.
-      let there = lookup-within small p h in
-      stands p h ∙ ap (option_map seen) there.1
-      ∙ ap Some (sym (still_entry small (λ q. q) (λ q l. refl) (IsKindedContext-from small formed) p there.0 there.1))
-      ∙ ap (option_map (λ b. renamed_entry (λ q. q) (seen b))) (sym there.1);
-}
-
-told_seen : (log : List Placed) (small g : Context) (l r : Shape) (steps : ℕ) → IsWellFormedContext small → IsWellFormedContext g
-    → StandsSeen small g → IsWellFormedShape small l → IsWellFormedShape small r
-    → told (comes_again (length small) log) (comparison steps g l r) ≡ told (comes_again (length small) log) (comparison steps small l r)
-told_seen log small g l r steps formed larger stands left right =
-    let still : (s : Shape) → IsWellFormedShape small s → renamed (λ p. p) s ≡ s =
-    λ s h. renamed_same ShapeSort (length small) (λ p. p) (λ p l. refl) s (well_formed-positions_below ShapeSort small s h) in
-    (λ i. told (comes_again (length small) log) (comparison steps g (sym (still l left) i) (sym (still r right) i)))
-    ∙ told_embedded small g (λ p. p) (IsKindedContext-from small formed)
-    (λ p h. older_members g (IsKindedContext-from g larger) p) (embeds_seen small g formed stands)
-    (length small) (omega arith) (λ p l. refl) (comes_again (length small) log) (comes_again_tests (length small) log) steps l r
-    (IsKinded-from (kinds_of small) [] l left) (IsKinded-from (kinds_of small) [] r right)
-
--- what is remembered need not be gone through
-pub compared_keeps : (steps : ℕ) (log : List Placed) (at : Place) (small g : Context) (l r : Shape) → IsWellFormedContext g
-    → StandsSeen small g → is_compared_as steps log small l r ≡ true → IsKept at (comparison steps g l r) true log log
-unfolding is_compared_as
-compared_keeps steps log at small g l r larger stands h =
-    let shapes = is_well_formed_shape (kinds_of small) [] l && is_well_formed_shape (kinds_of small) [] r in
-    let rest = shapes && keeps_nothing (length small) log (comparison steps small l r) in
-    let first = and_parts (is_well_formed_context small) rest h in
-    let second = and_parts shapes (keeps_nothing (length small) log (comparison steps small l r)) first.1 in
-    let names = and_parts (is_well_formed_shape (kinds_of small) [] l) (is_well_formed_shape (kinds_of small) [] r) second.0 in
-    kept_nothing (length small) at log (comparison steps g l r)
-    (ap is_told (told_seen log small g l r steps first.0 larger stands names.0 names.1) ∙ second.1)
 
 -- what was gone through with nothing to be kept where it comes again is remembered
 all_told : (oldest : ℕ) (at : Place) (c : Comparison) (was is : Bool) (before after : List Placed) → is ≡ true
@@ -137,10 +94,3 @@ compared_later steps log p (x ∷ pairs) h =
 pub none_compared : (steps : ℕ) (log : List Placed) (pairs : List Compared) → pairs ≡ []
     → list_all (is_compared steps log) pairs ≡ true
 none_compared steps log pairs e = ap (list_all (is_compared steps log)) e
-
--- a pair that is that of two shapes
-pub alike_compared : (steps : ℕ) (log : List Placed) (pair : Compared) (l r : Shape) → shape_of pair.left ≡ l
-    → shape_of pair.right ≡ r → is_compared steps log pair ≡ true
-    → is_compared_as steps log (context_of pair.context) l r ≡ true
-alike_compared steps log pair l r a b h =
-    subst (λ x. x ≡ true) (λ i. is_compared_as steps log (context_of pair.context) (a i) (b i)) h

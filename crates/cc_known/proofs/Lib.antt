@@ -16,6 +16,7 @@ pub mod KeptWalks
 pub mod KeyedPairs
 pub mod KnownSets
 pub mod LostDemands
+pub mod MarkedPairs
 pub mod MeasuredShapes
 pub mod NeedlessLater
 pub mod OldestEntries

@@ -1,17 +1,16 @@
 -- What is remembered of two shapes that were compared. This serves proofs alone.
-use Rattle.std.specs.Prelude.{◌≡◌, ℕ, ◌<◌, Bool, false, ◌&&◌, List, [], length}
-use Rattle.std.specs.Option.{option_map}
+use Rattle.std.specs.Prelude.{ℕ, Bool, false, ◌&&◌, List, [], length}
 use Rattle.cc_base.specs.declared.place.Place.{Place}
-use Rattle.cc_core.specs.Contexts.{Context, lookup}
+use Rattle.cc_core.specs.Contexts.{Context}
 use Rattle.cc_core.specs.Shapes.{Shape}
 use Rattle.cc_core.specs.TermViews.{shape_of, context_of}
 use Rattle.cc_core.specs.WellFormed.{kinds_of, is_well_formed_context, is_well_formed_shape}
 use Rattle.cc_checking.specs.Comparison.{Comparison, comparison}
 use Rattle.cc_checking.specs.Outcomes.{Placed}
-use Rattle.cc_known.specs.ComparedAgain.{seen, told}
+use Rattle.cc_known.specs.ComparedAgain.{told}
 use Rattle.cc_known.specs.EndsAgain.{comes_again}
 use Rattle.cc_known.specs.KeptWalks.{Keeps, is_told}
-use Rattle.cc_known.specs.declared.compared.Compared.{Compared}
+use Rattle.cc_known.specs.declared.marked.Compared.{Compared}
 
 -- Whether a comparison matches, with demands of which none is kept behind the log wherever they come again with the
 -- oldest variables where they are.
@@ -28,11 +27,6 @@ is_compared_as steps log context left right =
 -- the same of a pair as it is stored
 abbrev pub is_compared : ℕ → List Placed → Compared → Bool
 is_compared steps log pair = is_compared_as steps log (context_of pair.context) (shape_of pair.left) (shape_of pair.right)
-
--- What a comparison sees of the entries of a context stands in another one, each at its position.
-abbrev pub StandsSeen : Context → Context → Type 0
-StandsSeen small context =
-    (p : ℕ) → p < length small → option_map seen (lookup context p) ≡ option_map seen (lookup small p)
 
 -- What is kept of a comparison that ends, by whether the two match. Nothing is said of what comes again.
 abbrev pub IsKept : Place → Comparison → Bool → List Placed → List Placed → Type 0

@@ -8,6 +8,7 @@ pub mod Keeping
 pub mod KeptWalks
 pub mod KeepingLaws
 pub mod Logs
+pub mod MarkedEntries
 pub mod MeasuredOnce
 pub mod Measures
 pub mod Parts

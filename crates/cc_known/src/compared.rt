@@ -3,23 +3,20 @@
 
 ghost use Rattle.std.specs.Prelude.{ℕ, List, ◌≡◌, ◌<◌, true, length, [], IsTrue, IfOk, IfSome};
 ghost use Rattle.std.specs.List.{list_all};
-ghost use Rattle.std.specs.Option.{option_map};
 ghost use Rattle.cc_base.specs.declared.place.Place.{Place};
-ghost use Rattle.cc_core.specs.Contexts.{TermEntry, TypeEntry, lookup};
-ghost use Rattle.cc_core.specs.Shapes.{AnyShape};
-ghost use Rattle.cc_core.specs.TermViews.{shape_of, bind_of, context_of};
+ghost use Rattle.cc_core.specs.TermViews.{shape_of, context_of};
 ghost use Rattle.cc_core.specs.WellFormed.{IsWellFormedContext};
 ghost use Rattle.cc_checking.specs.Comparison.{comparison};
 ghost use Rattle.cc_checking.specs.Outcomes.{Placed};
-ghost use Rattle.cc_known.specs.ComparedAgain.{seen};
-ghost use Rattle.cc_known.specs.ComparedPairs.{is_compared, is_compared_as, StandsSeen, IsKept};
+ghost use Rattle.cc_known.specs.ComparedPairs.{is_compared, is_compared_as, IsKept};
 
+use crate::marked::{Compared, compared_by, is_closed_alike, stands_in};
+use crate::names::marks_of;
 use crate::pairs::copy;
 use crate::traces::trace_of_shapes;
-use cc_capture::CapSet;
 use cc_core::same::same_shape;
 use cc_core::sizes::shape_size;
-use cc_core::{Bind, Ctx, Shape};
+use cc_core::{Ctx, Shape};
 use std::alloc::{AllocError, Global};
 use std::collections::HashMap;
 
@@ -29,87 +26,37 @@ const MOST: usize = 1024;
 // and fewer where their shapes and the entries of their contexts are more than so many together.
 const ROOM: u64 = 262144;
 
-/// Two shapes of a context, of whose comparison nothing has to be kept.
-#[derive(Drop)]
-pub struct Compared {
-    pub context: Ctx,
-    pub left: Shape,
-    pub right: Shape,
-}
+// So many pairs with the same trace are looked at.
+const LAST: u32 = 64;
 
 /// The pair of two shapes of the context. Their parts are shared.
-pub fn compared_in(ctx: &Ctx, left: &Shape, right: &Shape) -> Result<Compared, AllocError>
+pub fn compared_in(
+    alloc: Global,
+    ctx: &Ctx,
+    left: &Shape,
+    right: &Shape,
+) -> Result<Compared, AllocError>
     ensures { IfOk result (λ pair. (steps : ℕ) (log : List Placed) → is_compared steps log pair ≡ is_compared_as steps log (context_of ctx.now) (shape_of left.now) (shape_of right.now)) }
 {
     let context = ctx.clone()?;
     let left = copy(left)?;
     let right = copy(right)?;
-    Ok(Compared {
-        context,
-        left,
-        right,
-    })
+    let marks = marks_of(alloc, &context, &left, &right)?;
+    Ok(compared_by(context, left, right, marks))
 }
 
-// Whether the other entry has this declared set.
-fn declares(set: &CapSet, other: &Bind) -> bool
-    ensures { IsTrue result → seen (bind_of other.now) ≡ TermEntry AnyShape set.now }
+// Whether nothing has to be kept of the pair where it comes again in the context.
+fn stands(pair: &Compared, ctx: &Ctx) -> bool
+    requires { IsWellFormedContext (context_of ctx.now) }
+    ensures { IsTrue result → (steps : ℕ) (log : List Placed) (at : Place) → is_compared steps log pair.now ≡ true → IsKept at (comparison steps (context_of ctx.now) (shape_of pair.now.left) (shape_of pair.now.right)) true log log }
 {
-    match other {
-        Bind::Var(ty) => ty.set == *set,
-        Bind::TVar(_) => false,
-        Bind::Unread { set: declared, .. } => *declared == *set,
+    if !pair.marked {
+        return false;
     }
-}
-
-// Whether the other entry has this bound.
-fn has_bound(bound: &Shape, other: &Bind) -> bool
-    ensures { IsTrue result → seen (bind_of other.now) ≡ TypeEntry (shape_of bound.now) }
-{
-    match other {
-        Bind::Var(_) => false,
-        Bind::TVar(declared) => same_shape(declared, bound),
-        Bind::Unread { .. } => false,
+    if !is_closed_alike(&pair.context, ctx) {
+        return false;
     }
-}
-
-// Whether a comparison sees the same of both entries.
-fn is_seen_alike(bind: &Bind, other: &Bind) -> bool
-    ensures { IsTrue result → seen (bind_of other.now) ≡ seen (bind_of bind.now) }
-{
-    match bind {
-        Bind::Var(ty) => declares(&ty.set, other),
-        Bind::TVar(bound) => has_bound(bound, other),
-        Bind::Unread { set, .. } => declares(set, other),
-    }
-}
-
-// Whether it sees the same of both contexts at the position.
-fn stands_at(small: &Ctx, ctx: &Ctx, position: u32) -> bool
-    ensures { IsTrue result → option_map seen (lookup (context_of ctx.now) position) ≡ option_map seen (lookup (context_of small.now) position) }
-{
-    match small.get(position) {
-        Some(bind) => match ctx.get(position) {
-            Some(other) => is_seen_alike(bind, other),
-            None => false,
-        },
-        None => false,
-    }
-}
-
-// Whether it sees the entries of the one context in the other, where they are. The newest are looked at first: two
-// contexts of one text mostly have the oldest entries in common.
-fn stands_in(small: &Ctx, ctx: &Ctx) -> bool
-    ensures { IsTrue result → StandsSeen (context_of small.now) (context_of ctx.now) }
-{
-    let mut rest = small.len();
-    while rest > 0 {
-        rest -= 1;
-        if !stands_at(small, ctx, rest) {
-            return false;
-        }
-    }
-    true
+    stands_in(pair.marks.as_slice(), &pair.context, ctx)
 }
 
 // Whether the pair is that of the two shapes.
@@ -131,8 +78,8 @@ fn earlier(before: &[Option<usize>], place: usize) -> Option<usize> {
     }
 }
 
-// Whether one of the pairs, at the place or of those with the same trace before it, is that of the two shapes, and
-// nothing of their comparison in the context has to be kept.
+// Whether one of the pairs, at the place or of the last ones with the same trace before it, is that of the two shapes,
+// and nothing of their comparison in the context has to be kept.
 fn is_among(
     pairs: &[Compared],
     before: &[Option<usize>],
@@ -144,23 +91,24 @@ fn is_among(
     requires { IsWellFormedContext (context_of ctx.now) }
     ensures { IsTrue result → (steps : ℕ) (log : List Placed) (at : Place) → list_all (is_compared steps log) pairs.now ≡ true → IsKept at (comparison steps (context_of ctx.now) (shape_of left.now) (shape_of right.now)) true log log }
 {
-    let mut limit = pairs.len();
     let mut next = last;
-    while let Some(place) = next {
-        if place >= limit {
+    for _pair in 0..LAST {
+        let Some(place) = next else {
+            return false;
+        };
+        if place >= pairs.len() {
             return false;
         }
         let pair = &pairs[place];
         if is_of(pair, left, right) {
-            return stands_in(&pair.context, ctx);
+            return stands(pair, ctx);
         }
-        limit = place;
         next = earlier(before, place);
     }
     false
 }
 
-// The place of a pair of the two shapes, at the place or of those with the same trace before it.
+// The place of a pair of the two shapes, at the place or of the last ones with the same trace before it.
 fn place_of(
     pairs: &[Compared],
     before: &[Option<usize>],
@@ -170,16 +118,17 @@ fn place_of(
 ) -> Option<usize>
     ensures { IfSome result (λ place. place < length pairs.now) }
 {
-    let mut limit = pairs.len();
     let mut next = last;
-    while let Some(place) = next {
-        if place >= limit {
+    for _pair in 0..LAST {
+        let Some(place) = next else {
+            return None;
+        };
+        if place >= pairs.len() {
             return None;
         }
         if is_of(&pairs[place], left, right) {
             return Some(place);
         }
-        limit = place;
         next = earlier(before, place);
     }
     None

@@ -10,6 +10,7 @@ pub mod fillable;
 pub mod found;
 pub mod keys;
 pub mod known;
+pub mod marked;
 pub mod measures;
 pub mod names;
 pub mod needless;

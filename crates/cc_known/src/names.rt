@@ -91,6 +91,27 @@ fn is_marked(marks: &[bool], index: usize) -> bool {
     }
 }
 
+// No mark at any of so many places.
+fn no_marks(alloc: Global, count: u32) -> Result<Vec<bool>, AllocError> {
+    let mut marks = Vec::new(alloc);
+    for _index in 0..count {
+        marks.push(false)?;
+    }
+    Ok(marks)
+}
+
+// Marks the entries beyond the base by which those with marks are declared.
+fn mark_declared(base: u32, ctx: &Ctx, count: u32, marks: &mut Vec<bool>) {
+    for index in 0..count {
+        let older = count.saturating_sub(index).saturating_sub(1);
+        if is_marked(marks.as_slice(), older as usize) {
+            if let Some(bind) = ctx.get(base.saturating_add(older)) {
+                mark_entry(bind, base, marks);
+            }
+        }
+    }
+}
+
 // Marks the entries beyond the base that the variable and the shape name, and those by which they are declared.
 fn marked(
     alloc: Global,
@@ -100,20 +121,25 @@ fn marked(
     shape: &Shape,
 ) -> Result<Vec<bool>, AllocError> {
     let count = ctx.len().saturating_sub(base);
-    let mut marks = Vec::new(alloc);
-    for _index in 0..count {
-        marks.push(false)?;
-    }
+    let mut marks = no_marks(alloc, count)?;
     mark_variable(variable, base, &mut marks);
     mark_shape(shape, base, &mut marks);
-    for index in 0..count {
-        let older = count.saturating_sub(index).saturating_sub(1);
-        if is_marked(marks.as_slice(), older as usize) {
-            if let Some(bind) = ctx.get(base.saturating_add(older)) {
-                mark_entry(bind, base, &mut marks);
-            }
-        }
-    }
+    mark_declared(base, ctx, count, &mut marks);
+    Ok(marks)
+}
+
+/// Marks at the positions of the entries that the two shapes of the context name, and of those by which they are
+/// declared.
+pub(crate) fn marks_of(
+    alloc: Global,
+    ctx: &Ctx,
+    left: &Shape,
+    right: &Shape,
+) -> Result<Vec<bool>, AllocError> {
+    let mut marks = no_marks(alloc, ctx.len())?;
+    mark_shape(left, 0, &mut marks);
+    mark_shape(right, 0, &mut marks);
+    mark_declared(0, ctx, ctx.len(), &mut marks);
     Ok(marks)
 }
 

@@ -76,10 +76,11 @@ pub(crate) fn trace_of(variable: Var, right: &Shape) -> u64 {
     of_shape(right, u64::from(number_of(Elem::Var(variable))))
 }
 
-// So many parts of a shape are looked at for a number of two shapes. More would take as long as to compare them.
-const PARTS: u32 = 512;
+// So many of the first parts of a shape are looked at for a number of two shapes, and so many of the last ones. More
+// would take as long as to compare them.
+const PARTS: u32 = 256;
 
-// A number made of the first parts of shapes, and how many more are looked at.
+// A number made of parts of shapes, and how many more are looked at.
 #[derive(Clone, Copy)]
 struct Front {
     trace: u64,
@@ -128,21 +129,61 @@ fn front_of_shape(shape: &Shape, before: Front) -> Front {
     }
 }
 
-/// The number of the first parts of two shapes.
-pub(crate) fn trace_of_shapes(left: &Shape, right: &Shape) -> u64 {
+#[cycle(backs)]
+fn back_of_type(ty: &Ty, before: Front) -> Front {
+    if before.parts == 0 {
+        return before;
+    }
+    let front = back_of_shape(&ty.shape, before);
+    Front {
+        trace: of_set(&ty.set, front.trace),
+        parts: front.parts,
+    }
+}
+
+// The last parts come first.
+#[cycle(backs)]
+fn back_of_shape(shape: &Shape, before: Front) -> Front {
+    if before.parts == 0 {
+        return before;
+    }
+    match shape {
+        Shape::Base(base) => with_part(before, number_of_base(*base)),
+        Shape::Any => with_part(before, 1),
+        Shape::TVar(variable) => with_part(before, number_of(Elem::Var(*variable))),
+        Shape::Fun(takes, gives) => {
+            let front = back_of_type(gives, before);
+            back_of_type(takes, with_part(front, 2))
+        }
+        Shape::TFun(bound, gives) => {
+            let front = back_of_type(gives, before);
+            back_of_shape(bound, with_part(front, 3))
+        }
+        Shape::Boxed(content) => with_part(back_of_type(content, before), 4),
+        Shape::Exit(gives) => with_part(back_of_shape(gives, before), 5),
+    }
+}
+
+// The number with the first and the last parts of a shape.
+fn with_ends(shape: &Shape, before: u64) -> u64 {
     let front = front_of_shape(
-        left,
+        shape,
         Front {
-            trace: 0,
+            trace: before,
             parts: PARTS,
         },
     );
-    let front = front_of_shape(
-        right,
+    let back = back_of_shape(
+        shape,
         Front {
             trace: front.trace,
             parts: PARTS,
         },
     );
-    front.trace
+    back.trace
+}
+
+/// The number of the first and the last parts of two shapes.
+pub(crate) fn trace_of_shapes(left: &Shape, right: &Shape) -> u64 {
+    with_ends(right, with_ends(left, 0))
 }

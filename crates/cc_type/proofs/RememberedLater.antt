@@ -26,7 +26,7 @@ use Rattle.cc_checking.specs.Outcomes.{IsBelow, Placed}
 use Rattle.cc_base.specs.declared.place.Place.{Place}
 use Rattle.cc_capture.proofs.Equality.{same_set-decides}
 use Rattle.cc_known.specs.ComparedPairs.{is_compared}
-use Rattle.cc_known.specs.declared.compared.Compared.{Compared}
+use Rattle.cc_known.specs.declared.marked.Compared.{Compared}
 use Rattle.cc_known.specs.declared.ended.EndedDemand.{EndedDemand}
 use Rattle.cc_known.specs.EndedDemands.{HasEnds, AreThose}
 use Rattle.cc_known.specs.EndsAgain.{stays_fillable, comes_again}

@@ -30,37 +30,49 @@ use std::alloc::{AllocError, Global};
 // Of smaller shapes it is not remembered that they were compared.
 const SMALL: u64 = 64;
 
-// Whether going over a shape of this size again takes more than to see that so many entries are the same.
-fn is_worth(size: u64, entries: u32) -> bool {
-    size >= SMALL && size >= u64::from(entries / 2)
+// One more than the greatest position that two shapes name, where the right one is of this size and that is not small.
+fn named_in(size: u64, left: &Shape, right: &Shape) -> u32 {
+    if size < SMALL {
+        return 0;
+    }
+    named_by(left, right)
 }
 
-// The context in which the comparison of the two shapes begins: with no newer entries than it goes by, where it is worth
-// while to remember it.
-fn base_of(alloc: Global, ctx: &Ctx, left: &Shape, right: &Shape) -> Result<Ctx, AllocError>
+// Whether it is worth while to remember the comparison of a shape of this size, where so many entries stand in the front
+// of the context that it goes by: to see that they are the same takes less than to go over it, and to copy that front no
+// more than all that was gone over since one was copied.
+fn is_worth(size: u64, entries: u32, passed: u64) -> bool {
+    size >= SMALL && size >= u64::from(entries / 64) && passed >= u64::from(entries / 2)
+}
+
+// How many parts were gone over, which begins anew where a front is copied.
+fn counted(passed: u64, copied: bool) -> u64 {
+    if copied { 0 } else { passed }
+}
+
+// The context in which a comparison begins: with no newer entries than it goes by, where it is remembered.
+fn base_of(alloc: Global, ctx: &Ctx, named: u32, remembered: bool) -> Result<Ctx, AllocError>
     ensures { IfOk result (λ base. StandsOn (context_of base) (context_of ctx.now)) }
 {
-    let size = shape_size(right);
-    if size < SMALL {
-        return ctx.clone();
-    }
-    let named = named_by(left, right);
-    if is_worth(size, named) {
+    if remembered {
         return oldest(alloc, ctx, named);
     }
     ctx.clone()
 }
 
 // Remembers that nothing has to be kept of the two shapes when they come again, where they are shapes of the base.
-fn remember(base: &Ctx, left: &Shape, right: &Shape, log: &mut Log) -> Result<(), AllocError>
+fn remember(
+    alloc: Global,
+    base: &Ctx,
+    left: &Shape,
+    right: &Shape,
+    log: &mut Log,
+) -> Result<(), AllocError>
     requires { IsWellFormedShape (context_of base.now) (shape_of left.now) → IsWellFormedShape (context_of base.now) (shape_of right.now) → is_compared_as most_steps (asked_of log.old.demands) (context_of base.now) (shape_of left.now) (shape_of right.now) ≡ true }
     ensures { log.new.demands ≡ log.old.demands }
 {
-    if !is_worth(shape_size(right), base.len()) {
-        return Ok(());
-    }
     if wf_shape(base, left) && wf_shape(base, right) {
-        return log.remember_compared(base, left, right);
+        return log.remember_compared(alloc, base, left, right);
     }
     Ok(())
 }
@@ -79,8 +91,13 @@ fn gone_over(
     requires right { IsWellFormedShape (context_of ctx.now) (shape_of right.now) }
     ensures { IfOk result (λ m. IsKept at (comparison most_steps (context_of ctx.now) (shape_of left.now) (shape_of right.now)) m (asked_of log.old.demands) (asked_of log.new.demands)) }
 {
-    let base = base_of(alloc, ctx, left, right)?;
+    let size = shape_size(right);
+    let named = named_in(size, left, right);
+    let passed = log.passed.saturating_add(size);
+    let remembered = is_worth(size, named, passed);
+    let base = base_of(alloc, ctx, named, remembered)?;
     log.known = Known::new(alloc, base.clone()?);
+    log.passed = counted(passed, remembered);
     log.settled = true;
     let matched = keep_shapes(alloc, ctx, left, right, at, log, u32::MAX, false)?;
     if !matched {
@@ -90,7 +107,10 @@ fn gone_over(
     if !all {
         return Ok(true);
     }
-    remember(&base, left, right, log)?;
+    if !remembered {
+        return Ok(true);
+    }
+    remember(alloc, &base, left, right, log)?;
     Ok(true)
 }
 

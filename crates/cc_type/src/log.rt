@@ -64,6 +64,8 @@ pub struct Log {
     pub(crate) instances: Instances,
     // Shapes that were compared.
     compared: ComparedPairs,
+    // How many parts of shapes were gone over since a front of a context was last copied to remember two of them.
+    pub(crate) passed: u64,
     ghost clear: { IsClear marks },
     ghost told: { lost ≡ has_lost (asked_of demands) },
     ghost noted: { AreThose ended.keys (asked_of demands) },
@@ -98,6 +100,7 @@ impl Log {
             settled: false,
             instances: Instances::new(alloc),
             compared: ComparedPairs::new(alloc),
+            passed: 0,
         }
     }
 
@@ -126,6 +129,7 @@ impl Log {
     // Remembers that.
     pub(crate) fn remember_compared(
         &mut self,
+        alloc: Global,
         ctx: &Ctx,
         left: &Shape,
         right: &Shape,
@@ -133,7 +137,7 @@ impl Log {
         requires { is_compared_as most_steps (asked_of self.old.demands) (context_of ctx.now) (shape_of left.now) (shape_of right.now) ≡ true }
         ensures { self.new.demands ≡ self.old.demands }
     {
-        let pair = compared_in(ctx, left, right)?;
+        let pair = compared_in(alloc, ctx, left, right)?;
         self.compared.remember(pair)
     }
 

@@ -68,6 +68,20 @@ returns-then-not-all c =
     (subst (λ m. Keeps (length base) false c.args.at (comparison most_steps g (shape_in g left) (shape_in g right)) m true now.settled log more)
     c.if-not-matched.false c.in_ok-matched.ensures.kept))
 
+pub returns-then-not-remembered : goal.returns-then-not-remembered
+returns-then-not-remembered c =
+    let g = context_of c.args.ctx.now in
+    let base = context_of c.new.result.base in
+    let left = shape_of c.args.left.now in
+    let right = shape_of c.args.right.now in
+    let now = c.keep_shapes.new.log in
+    let log = asked_of c.args.log.now.demands in
+    let more = asked_of now.demands in
+    forgotten (length base) c.args.at (comparison most_steps g left right) true true now.settled log more
+    (shapes_root (length base) false c.args.at most_steps g left right true true now.settled log more c.requires.left c.requires.right
+    (subst (λ m. Keeps (length base) false c.args.at (comparison most_steps g (shape_in g left) (shape_in g right)) m true now.settled log more)
+    c.if-not-matched.false c.in_ok-matched.ensures.kept))
+
 pub returns : goal.returns
 returns c =
     let g = context_of c.args.ctx.now in

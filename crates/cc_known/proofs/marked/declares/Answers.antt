@@ -4,7 +4,7 @@ use Rattle.cc_core.specs.Contexts.{TermEntry}
 use Rattle.cc_core.specs.Shapes.{AnyShape}
 use Rattle.cc_core.specs.TermViews.{bind_of}
 use Rattle.cc_known.specs.ComparedAgain.{seen}
-use Rattle.cc_known.proofs.compared.declares.Goals as goal
+use Rattle.cc_known.proofs.marked.declares.Goals as goal
 
 pub returns-in-Var : goal.returns-in-Var
 returns-in-Var c = λ holds.

@@ -4,7 +4,7 @@ use Rattle.cc_core.specs.Equality.{same_shape}
 use Rattle.cc_core.specs.TermViews.{shape_of, bind_of}
 use Rattle.cc_core.proofs.Comparisons.{same_shape-decides}
 use Rattle.cc_known.specs.ComparedAgain.{seen}
-use Rattle.cc_known.proofs.compared.has_bound.Goals as goal
+use Rattle.cc_known.proofs.marked.has_bound.Goals as goal
 
 pub returns-in-TVar : goal.returns-in-TVar
 returns-in-TVar c = λ holds.
