@@ -36,7 +36,7 @@ use Rattle.cc_session.specs.LinkedModules.{AreLinked}
 use Rattle.cc_answers.proofs.CarriedChains.{first_carried}
 use Rattle.cc_answers.proofs.DefinitionNumbers.{named_at, named_is_placed}
 use Rattle.cc_answers.proofs.LinkedDefinitions.{linked, number, Known, placed, known, numbered_so, closed, carried}
-use Rattle.cc_answers.specs.Explaining.{definition_names, variable_element, element_target, FindsChain, FindsAll, ExplainsLinked, TellsExplanations}
+use Rattle.cc_answers.specs.Explaining.{definition_names, variable_element, element_target, FindsChain, FindsAll, FindsLinked, TellsExplanations}
 
 -- TARGETS WITH NUMBERS ARE TOLD APART
 numbered_true : (a b : NumberedTarget) → numbered_targets.same_target a b ≡ true → a ≡ b
@@ -196,14 +196,15 @@ module _ (devices : List DeviceDecl) (texts : Texts) (verdicts : List ℕ → Mo
         behind : (other : Elem) → Contains elements other → Contains (e ∷ elements) other
         behind other (k, below, same) = (suc k, omega arith, same)
 
--- what is written tells the explanations
+-- what is written of the chains that are found tells the explanations
 pub explanations_told : (devices : List DeviceDecl) (texts : Texts) → NamesOfDevicesDiffer devices → ArePresent texts
     → (module_name name : List ℕ) (modules : List CheckedModule) → AreLinked devices texts module_name modules
-    → (set : Set) (names : List (List ℕ)) (text : List ℕ) → ExplainsLinked (length devices) modules names module_name name set.list text
+    → (set : Set) (names : List (List ℕ)) (found : List FoundChain) → FindsLinked (length devices) modules module_name name set.list found
     → (verdicts : List ℕ → ModuleVerdict) → AreVerdicts devices texts verdicts
     → (it : Standing) → standing_in texts verdicts module_name name ≡ Ok it → set ≡ it.definition.accepted.signature.set
-    → TellsExplanations devices texts verdicts names module_name name set.list text
-explanations_told devices texts differ sorted module_name name modules (graph_names, order, these) set names text (place, found, at, finds, written) verdicts are it stands set_is =
+    → TellsExplanations devices texts verdicts names module_name name set.list
+    (reply_text names (Explained module_name name (map (explanation_named (definition_names modules)) found)))
+explanations_told devices texts differ sorted module_name name modules (graph_names, order, these) set names found (place, at, finds) verdicts are it stands set_is =
     let begun = starting devices texts verdicts differ sorted are module_name name it stands in
     let ms = linked devices texts verdicts differ sorted are module_name begun graph_names order in
     let same : modules ≡ ms = these verdicts are in
@@ -213,5 +214,5 @@ explanations_told devices texts differ sorted module_name name modules (graph_na
       explained devices texts verdicts differ sorted are module_name name it stands graph_names order place
           (subst (λ m. slice_get (definition_names m) place ≡ Some (module_name, name)) same at) set.list members found
           (subst (λ m. FindsAll (links_in (length devices) m) place set.list found) same finds),
-      written ∙ ap (λ m. reply_text names (Explained module_name name (map (explanation_named (definition_names m)) found))) same,
+      ap (λ m. reply_text names (Explained module_name name (map (explanation_named (definition_names m)) found))) same,
     )

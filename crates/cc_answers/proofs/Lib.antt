@@ -4,6 +4,8 @@ mod CommandFacts
 pub mod Answering
 mod RunFacts
 mod KeptFacts
+mod StayingTexts
+mod MadeFacts
 mod CarriedChains
 mod DefinitionNumbers
 mod RecursiveTypes

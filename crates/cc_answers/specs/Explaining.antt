@@ -17,7 +17,6 @@ use Rattle.cc_verdicts.specs.ModuleVerdicts.{ModuleVerdict}
 use Rattle.cc_verdicts.specs.PresentTexts.{Texts, AreVerdicts}
 use Rattle.cc_link.specs.ModuleLinks.{links_in}
 use Rattle.cc_replies.specs.ExplainReplies.{AreExplained}
-use Rattle.cc_replies.specs.Explanations.{explanation_named}
 use Rattle.cc_replies.specs.ReplyTexts.{Explanation, Explained, reply_text}
 use Rattle.cc_replies.specs.declared.chains.FoundChain.{FoundChain}
 
@@ -59,13 +58,11 @@ FindsAll links from (element ∷ elements) found =
     (one : Option FoundChain) × (later : List FoundChain) × FindsChain links from element one
     × FindsAll links from elements later × (found ≡ option_to_list one ++ later)
 
--- The text is that of the chains that are found to elements from the definition, where modules are linked so.
-abbrev pub ExplainsLinked : ℕ → List CheckedModule → List (List ℕ) → List ℕ → List ℕ → List Elem → List ℕ → Type 0
-ExplainsLinked devices modules names module_name name elements text =
-    (place : ℕ) × (found : List FoundChain) × (slice_get (definition_names modules) place ≡ Some (module_name, name))
+-- the chains that are found to elements from the definition, where modules are linked so
+abbrev pub FindsLinked : ℕ → List CheckedModule → List ℕ → List ℕ → List Elem → List FoundChain → Type 0
+FindsLinked devices modules module_name name elements found =
+    (place : ℕ) × (slice_get (definition_names modules) place ≡ Some (module_name, name))
     × FindsAll (links_in devices modules) place elements found
-    × (text ≡ reply_text names
-    (Explained module_name name (map (explanation_named (definition_names modules)) found)))
 
 -- The text is that of the explanations of elements of a definition.
 abbrev pub TellsExplanations : List DeviceDecl → Texts → (List ℕ → ModuleVerdict) → List (List ℕ) → List ℕ → List ℕ

@@ -9,10 +9,10 @@ ghost use Rattle.cc_mnf.specs.ElaboratedModules.{device_names};
 ghost use Rattle.cc_replies.specs.Replies.{rules_after};
 ghost use Rattle.cc_replies.specs.Requests.{JobState, PutText, DropModule, SetPolicy, VerifyText, Ask, holding, holding_under, no_module};
 ghost use Rattle.cc_answers.specs.Carried.{IsReplied, Changes, Judges, AreAnswered};
-ghost use Rattle.cc_answers.specs.KeptEntries.{IsKeptFor};
+ghost use Rattle.cc_answers.specs.KeptEntries.{IsKeptFor, StayWhereRefused};
 ghost use Rattle.cc_answers.specs.Requests.{request_of, requests_of, question_in};
 
-use crate::kept::Kept;
+use crate::kept::{Kept, give_up_where_changed};
 use crate::questions::answer_checked;
 use crate::replies::write_reply;
 use cc_base::code::Code;
@@ -47,6 +47,7 @@ fn put_copy<K: Sink>(
     ensures replied { IsReplied session.old.devices (holding session.old.present) (PutText name.now text.items)
         (K.written sink.old) (K.written sink.new) result }
     ensures changes { Changes session.old session.new (PutText name.now text.items) result }
+    ensures stay { StayWhereRefused result session.old.present session.new.present }
     ensures last { session.new.last ≡ session.old.last }
     ensures cause { WriteAllCause (K.faults sink.old) (K.faults sink.new) result }
 {
@@ -70,6 +71,7 @@ fn put_module<K: Sink>(
     ensures replied { IsReplied session.old.devices (holding session.old.present) (PutText name.now text.now)
         (K.written sink.old) (K.written sink.new) result }
     ensures changes { Changes session.old session.new (PutText name.now text.now) result }
+    ensures stay { StayWhereRefused result session.old.present session.new.present }
     ensures last { session.new.last ≡ session.old.last }
     ensures cause { WriteAllCause (K.faults sink.old) (K.faults sink.new) result }
 {
@@ -93,6 +95,7 @@ fn drop_module<K: Sink>(
     ensures replied { IsReplied session.old.devices (holding session.old.present) (DropModule name.now)
         (K.written sink.old) (K.written sink.new) result }
     ensures changes { Changes session.old session.new (DropModule name.now) result }
+    ensures stay { StayWhereRefused result session.old.present session.new.present }
     ensures last { session.new.last ≡ session.old.last }
     ensures cause { WriteAllCause (K.faults sink.old) (K.faults sink.new) result }
 {
@@ -181,12 +184,14 @@ fn answer<K: Sink, L: Ledger>(
 {
     match command {
         Command::Put(name, text) => {
-            *kept = Kept::nothing();
-            put_module(alloc, session, name, text, sink)
+            let written = put_module(alloc, session, name, text, sink);
+            give_up_where_changed(alloc, kept, &written);
+            written
         }
         Command::Drop(name) => {
-            *kept = Kept::nothing();
-            drop_module(alloc, session, name, sink)
+            let written = drop_module(alloc, session, name, sink);
+            give_up_where_changed(alloc, kept, &written);
+            written
         }
         Command::Policy(next) => tell_policy(alloc, next, sink),
         Command::Verify(text) => tell_certificate(alloc, text, sink),
@@ -241,7 +246,7 @@ fn answer_all<'a, K: Sink, L: Ledger>(
     ensures cause { WriteAllCause (K.faults sink.old) (K.faults sink.new) result }
 {
     let mut policy = first;
-    let mut kept = Kept::nothing();
+    let mut kept = Kept::nothing(alloc);
     let mut refused = false;
     for command in commands {
         let later = answer(

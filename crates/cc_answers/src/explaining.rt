@@ -1,10 +1,10 @@
 //! Explaining the signatures of definitions.
 
-ghost use Rattle.std.specs.Prelude.{◌≡◌, ◌++◌, ◌-◌, ◌^◌, ◌<◌, ◌&&◌, ℕ, List, map, length, Ok, IsTrue, IfOk, OnOk};
+ghost use Rattle.std.specs.Prelude.{◌≡◌, ◌++◌, ◌-◌, ◌^◌, ◌<◌, ◌&&◌, ℕ, false, List, map, length, Ok, IsTrue, IfOk, OnOk};
 ghost use Rattle.std.specs.Option.{option_to_list};
 ghost use Rattle.std.specs.Str.{bytes_eq};
 ghost use Rattle.cc_capture.specs.Sets.{Set};
-ghost use Rattle.cc_io.specs.Wholes.{WriteAllCause};
+ghost use Rattle.cc_io.specs.Wholes.{WritesWhole, WriteAllCause};
 ghost use Rattle.cc_mnf.specs.ElaboratedModules.{device_names};
 ghost use Rattle.cc_policy.specs.declared.policy.Rule.{Rule};
 ghost use Rattle.cc_session.specs.Modules.{module_of};
@@ -17,8 +17,11 @@ ghost use Rattle.cc_replies.specs.Requests.{ExplainDefinition, Ask, holding_unde
 ghost use Rattle.cc_replies.specs.ReplyTexts.{Explained as TellsExplained, reply_text};
 ghost use Rattle.cc_answers.specs.Carried.{IsReplied};
 ghost use Rattle.cc_answers.specs.Explaining as plain;
-ghost use Rattle.cc_answers.specs.Explaining.{StandsAt, FindsChain, FindsAll, ExplainsLinked};
+ghost use Rattle.cc_answers.specs.Explaining.{StandsAt, FindsChain, FindsAll, FindsLinked};
+ghost use Rattle.cc_answers.specs.KeptEntries.{IsKeptFor};
 
+use crate::explanation::Explained;
+use crate::kept::{Kept, explained_for};
 use crate::replies::told;
 use cc_base::name::Name;
 use cc_capture::{CapSet, Elem, Var};
@@ -153,8 +156,8 @@ fn find_chains(
     Ok(all)
 }
 
-// A number of 32 bits. A greater one counts as want of memory.
-fn narrow(number: usize) -> Result<u32, AllocError>
+/// A number of 32 bits. A greater one counts as want of memory.
+pub fn narrow(number: usize) -> Result<u32, AllocError>
     ensures { IfOk result (λ narrow. narrow ≡ number) }
 {
     match u32::try_from(number) {
@@ -163,18 +166,19 @@ fn narrow(number: usize) -> Result<u32, AllocError>
     }
 }
 
-// The names of the definitions of modules that are linked for the definition beside so many devices, and the chains to the
-// elements of the set.
-fn explain_linked<'a>(
+/// The chains to the elements of the set from the definition, for which these modules are linked beside so many devices, in
+/// order.
+///
+/// Fails only for want of memory, as which 2^32 - 1 definitions or more count.
+pub fn chains_of(
     alloc: Global,
     devices: u32,
-    modules: &'a [EntryModule],
+    modules: &[EntryModule],
     module: &Name,
     def: &Name,
     set: &CapSet,
-) -> Result<(Vec<DefinitionName<'a>>, Vec<FoundChain>), AllocError>
-    ensures { IfOk result (λ it. (names : List (List ℕ)) → ExplainsLinked devices (map module_of modules.now) names «module».now def.now set.now.list
-        (reply_text names (TellsExplained «module».now def.now (map (explanation_named (map names_of it.0.items)) it.1.items)))) }
+) -> Result<Vec<FoundChain>, AllocError>
+    ensures { IfOk result (λ found. FindsLinked devices (map module_of modules.now) «module».now def.now set.now.list found.items) }
 {
     let links = links_of(alloc, devices, modules)?;
     let definitions = definition_names(alloc, modules)?;
@@ -186,18 +190,53 @@ fn explain_linked<'a>(
     if place >= links.count() {
         return Err(AllocError);
     }
-    let found = find_chains(alloc, &links, from, set)?;
-    Ok((definitions, found))
+    find_chains(alloc, &links, from, set)
+}
+
+// Writes the reply to a command that explains the definition, of which this is the explanation. The answer tells that this
+// is no refusal.
+fn tell_explained<K: Sink>(
+    alloc: Global,
+    names: &Names,
+    module: &Name,
+    def: &Name,
+    it: &Explained,
+    sink: &mut K,
+) -> Result<bool, WriteAll>
+    requires { K.faults sink.old < 2 ^ 64 - 1 }
+    ensures written { WritesWhole (K.written sink.old) (K.written sink.new) result
+        (reply_text names.now.names.items (TellsExplained «module».now def.now
+        (map (explanation_named (plain.definition_names (map module_of it.now.modules.items))) it.now.found.items))) }
+    ensures refused { IfOk result (λ refused. refused ≡ false) }
+    ensures cause { WriteAllCause (K.faults sink.old) (K.faults sink.new) result }
+{
+    match definition_names(alloc, it.modules.as_slice()) {
+        Ok(definitions) => told(
+            write_explanation(
+                alloc,
+                sink,
+                module,
+                def,
+                names,
+                &definitions,
+                it.found.as_slice(),
+            ),
+            false,
+        ),
+        Err(AllocError) => Err(WriteAll::NoMemory),
+    }
 }
 
 /// Writes the reply to a command that explains the definition of an accepted module, which has this outermost set in its
-/// signature: why each element is in it. The answer tells that this is no refusal.
+/// signature: why each element is in it. An explanation that is kept serves where it is that of the definition and the set.
+/// The answer tells that this is no refusal.
 ///
 /// 2^32 - 1 definitions or more count as want of memory, for which nothing is written.
 pub fn tell_explanation<K: Sink>(
     alloc: Global,
     names: &Names,
     session: &Session,
+    kept: &mut Kept,
     module: &Name,
     def: &Name,
     set: &CapSet,
@@ -207,27 +246,18 @@ pub fn tell_explanation<K: Sink>(
     requires checked { IsTrue session.now.checked }
     requires differ { NamesOfDevicesDiffer session.now.devices }
     requires present { ArePresent session.now.present }
+    requires kept { IsKeptFor session.now.devices session.now.present kept.old }
     requires names { names.now.names.items ≡ device_names session.now.devices }
     ensures replied { (rules : List Rule) (verdicts : List ℕ → ModuleVerdict) → AreVerdicts session.now.devices session.now.present verdicts
         → (it : Standing) → standing_in session.now.present verdicts «module».now def.now ≡ Ok it
         → set.now ≡ it.definition.accepted.signature.set
         → IsReplied session.now.devices (holding_under rules session.now.present) (Ask (ExplainDefinition «module».now def.now))
         (K.written sink.old) (K.written sink.new) result }
+    ensures kept { IsKeptFor session.now.devices session.now.present kept.new }
     ensures cause { WriteAllCause (K.faults sink.old) (K.faults sink.new) result }
 {
-    let modules = match session.linked(module) {
-        Ok(modules) => modules,
-        Err(AllocError) => return Err(WriteAll::NoMemory),
-    };
-    let devices = match narrow(session.devices().len()) {
-        Ok(devices) => devices,
-        Err(AllocError) => return Err(WriteAll::NoMemory),
-    };
-    match explain_linked(alloc, devices, &modules, module, def, set) {
-        Ok((definitions, found)) => told(
-            write_explanation(alloc, sink, module, def, names, &definitions, &found),
-            false,
-        ),
+    match explained_for(alloc, session, kept, module, def, set) {
+        Ok(it) => tell_explained(alloc, names, module, def, &it, sink),
         Err(AllocError) => Err(WriteAll::NoMemory),
     }
 }

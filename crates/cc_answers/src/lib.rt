@@ -3,8 +3,10 @@
 
 pub mod commands;
 mod explaining;
+mod explanation;
 mod kept;
 mod linked;
+mod made;
 mod questions;
 mod replies;
 mod running;

@@ -288,6 +288,7 @@ fn show_explanation<K: Sink>(
     alloc: Global,
     names: &Names,
     session: &Session,
+    kept: &mut Kept,
     module: &Name,
     def: &Name,
     sink: &mut K,
@@ -296,9 +297,11 @@ fn show_explanation<K: Sink>(
     requires checked { IsTrue session.now.checked }
     requires differ { NamesOfDevicesDiffer session.now.devices }
     requires present { ArePresent session.now.present }
+    requires kept { IsKeptFor session.now.devices session.now.present kept.old }
     requires names { (names.now.names.items ≡ device_names session.now.devices) × (names.now.locals ≡ 0) }
     ensures replied { (rules : List Rule) → IsReplied session.now.devices (holding_under rules session.now.present) (Ask (ExplainDefinition «module».now def.now))
         (K.written sink.old) (K.written sink.new) result }
+    ensures kept { IsKeptFor session.now.devices session.now.present kept.new }
     ensures cause { WriteAllCause (K.faults sink.old) (K.faults sink.new) result }
 {
     match session.standing(module, def) {
@@ -306,6 +309,7 @@ fn show_explanation<K: Sink>(
             alloc,
             names,
             session,
+            kept,
             module,
             def,
             &it.def.checked.sig.set,
@@ -406,7 +410,7 @@ pub fn answer_checked<K: Sink>(
             show_audit(alloc, names, session, kept, policy, module, def, sink)
         }
         Command::Explain(module, def) => {
-            show_explanation(alloc, names, session, module, def, sink)
+            show_explanation(alloc, names, session, kept, module, def, sink)
         }
         Command::Replay(module, def, fuel, text) => {
             show_replay(alloc, names, session, kept, module, def, *fuel, text, sink)
