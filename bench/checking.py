@@ -427,7 +427,7 @@ TEXTS = [
     ('eighteen pairs of large types by turns', pairs_by_turns, 5800, 3, DEAR),
     ('a pair of large types behind definitions', a_pair_behind_definitions, 2050, 2054, DEAR),
     ('large results that name a parameter', results_by_parameter, 56, 58, DEAR),
-    ('large results that name own values', results_by_own_values, 1480, 1482, DEAR),
+    ('large results that name own values', results_by_own_values, 1480, 1482, (1000, 300)),
 ]
 
 

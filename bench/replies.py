@@ -197,13 +197,14 @@ shown('linking 256 modules of 200 definitions',
 shown('2,000 audits beside 256 modules of 200 definitions',
       measured(wide(256) + 'audit m255.main\n' * 1000, 'audit m255.main'),
       measured(wide(256) + 'audit m255.main\n' * 2000, 'audit m255.main'), 200, (base[1], base[1]))
+base = measured(wide(96), ' ok')[0]
 for words, asked, last in [
-        ('runs', 'run m255.main 10\n', 'after 10 steps'),
-        ('runs, each behind a refused drop,', 'drop n\nrun m255.main 10\n', 'after 10 steps'),
-        ('runs of two definitions by turns', 'run m255.twin 10\nrun m255.main 10\n', 'after 10 steps'),
-        ('explanations', 'explain m255.main\n', 'explain m255.main')]:
-    shown('2,000 %s beside them' % words, measured(wide(256) + asked * 1000, last), measured(wide(256) + asked * 2000, last),
-          200, (base[1], base[1]))
+        ('runs', 'run m95.main 10\n', 'after 10 steps'),
+        ('runs, each behind a refused drop,', 'drop n\nrun m95.main 10\n', 'after 10 steps'),
+        ('runs of two definitions by turns', 'run m95.twin 10\nrun m95.main 10\n', 'after 10 steps'),
+        ('explanations', 'explain m95.main\n', 'explain m95.main')]:
+    shown('2,000 %s beside 96 modules' % words, measured(wide(96) + asked * 1000, last),
+          measured(wide(96) + asked * 2000, last), 200, (base, base))
 held('a million steps that say 200 letters', *saying('x' * 200))
 held('a million steps that say 800 bytes', *saying('\U0001F600' * 200))
 held('33,200 events of a device with a long name', *long_device(0))

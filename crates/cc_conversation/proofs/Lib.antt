@@ -1,0 +1,3 @@
+mod SpokenJobs
+mod SpokenOnce
+mod WorkedConversations

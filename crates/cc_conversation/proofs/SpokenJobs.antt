@@ -1,0 +1,94 @@
+-- The lines of a job are answered by its replies.
+use Rattle.std.proofs.Common.{◌≡◌, ◌≤◌, ◌<◌, ℕ, suc, Bool, true, false, List, [], ◌∷◌, ◌++◌, length, map, refl, sym, ap, subst, ◌∙◌, arith, append_assoc, append-nil, length-append}
+use Rattle.std.specs.Prelude.{◌||◌}
+use Rattle.std.specs.List.{AllByRecursion, IsDistinct, flat_map}
+use Rattle.std.specs.Str.{bytes_eq}
+use Rattle.cc_base.specs.declared.device.DeviceDecl.{DeviceDecl}
+use Rattle.cc_job.specs.declared.job.Command.{Command}
+use Rattle.cc_job.specs.Jobs.{Declares, Commands, AreItems}
+use Rattle.cc_words.specs.Lines.{Line}
+use Rattle.cc_mnf.specs.ElaboratedModules.{device_names}
+use Rattle.cc_answers.specs.Requests.{request_of}
+use Rattle.cc_replies.specs.Outputs.{IsOutput}
+use Rattle.cc_replies.specs.ReplyTexts.{Reply, reply_text, is_refusal}
+use Rattle.cc_replies.specs.Requests.{JobState, no_module}
+use Rattle.cc_conversation.specs.Conversations.{Moment, Says, IsSpoken, Rests, spoken_reply, behind}
+use Rattle.cc_conversation.specs.Conversations.Says.{rests, goes_on}
+use Rattle.cc_conversation.specs.Conversations.IsSpoken.{opened}
+use Rattle.cc_conversation.specs.ConversationLaws.{JobsAreSpoken}
+
+abbrev names_of : List DeviceDecl → List (List ℕ)
+names_of devices = map (λ it. it.name) devices
+
+-- replies with this text answer the lines, each with an empty line behind it, where the devices are these at last
+abbrev AnswersLines : ℕ → Moment → List DeviceDecl → List Line → List ℕ → Bool → Type 0
+AnswersLines total moment devices lines text refused =
+    (replies : List Reply) × (text ≡ flat_map (reply_text (device_names devices)) replies)
+    × Says total moment lines (flat_map (spoken_reply devices) replies) refused Rests
+
+-- commands are answered in turn, behind the devices
+commands_said : (total : ℕ) (devices : List DeviceDecl) (begun : Bool) (state : JobState) (commands : List Command)
+    (lines : List Line) (text : List ℕ) (refused : Bool) → AreItems lines (map Commands commands)
+    → IsOutput devices state (map request_of commands) text refused
+    → AnswersLines total (record { devices = devices; begun = begun; state = state }) devices lines text refused
+commands_said total devices begun state [] lines text refused items output =
+    ([], output.0, subst (λ r. Says total (record { devices = devices; begun = begun; state = state }) lines [] r Rests) (sym output.1) (rests items))
+commands_said total devices begun state (first ∷ others) lines text refused items output =
+    let now : Moment = record { devices = devices; begun = begun; state = state } in
+    let (reply, rest, later, replies, more, is, refuses) = output in
+    let (told, joined, said) = commands_said total devices true (behind now (Commands first)).state others items.0 rest later items.3 more in
+    let all : Says total now lines (spoken_reply devices reply ++ flat_map (spoken_reply devices) told) (is_refusal reply || later) Rests =
+    goes_on (Commands first) items.0 (spoken_reply devices reply) (flat_map (spoken_reply devices) told) (is_refusal reply) later
+    items.1 items.2 (reply, replies, refl, refl) said in (
+      reply ∷ told,
+      is ∙ ap (λ it. reply_text (device_names devices) reply ++ it) joined,
+      subst (λ r. Says total now lines (spoken_reply devices reply ++ flat_map (spoken_reply devices) told) r Rests) (sym refuses) all,
+    )
+
+all_front : {K : Type 0} (holds : K → Type 0) (front rest : List K) → AllByRecursion holds (front ++ rest) → AllByRecursion holds front
+all_front holds [] rest all = tt
+all_front holds (first ∷ front) rest all = (all.0, all_front holds front rest all.1)
+
+distinct_front : (front rest : List (List ℕ)) → IsDistinct bytes_eq (front ++ rest) → IsDistinct bytes_eq front
+unfolding IsDistinct
+distinct_front [] rest apart = tt
+distinct_front (first ∷ front) rest apart =
+    (all_front (λ it. bytes_eq first it ≡ false) front rest apart.0, distinct_front front rest apart.1)
+
+names_append : (front rest : List DeviceDecl) → names_of (front ++ rest) ≡ names_of front ++ names_of rest
+names_append [] rest = refl
+names_append (first ∷ front) rest = ap (λ it. first.name ∷ it) (names_append front rest)
+
+-- devices are declared in turn, and then the commands are answered
+devices_said : (total : ℕ) (before later : List DeviceDecl) (commands : List Command) (lines : List Line) (text : List ℕ)
+    (refused : Bool) → length (before ++ later) ≤ 16 → IsDistinct bytes_eq (names_of (before ++ later))
+    → AreItems lines (map Declares later ++ map Commands commands)
+    → IsOutput (before ++ later) no_module (map request_of commands) text refused
+    → AnswersLines total (record { devices = before; begun = false; state = no_module }) (before ++ later) lines text refused
+devices_said total before [] commands lines text refused few apart items output =
+    subst (λ it. AnswersLines total (record { devices = before; begun = false; state = no_module }) it lines text refused) (sym (append-nil before))
+    (commands_said total before false no_module commands lines text refused items
+    (subst (λ it. IsOutput it no_module (map request_of commands) text refused) (append-nil before) output))
+devices_said total before (device ∷ later) commands lines text refused few apart items output =
+    let now : Moment = record { devices = before; begun = false; state = no_module } in
+    let joined : (before ++ device ∷ []) ++ later ≡ before ++ device ∷ later = append_assoc before (device ∷ []) later in
+    let one : length before < 16 = omega (arith, few, length-append before (device ∷ later)) in
+    let own : IsDistinct bytes_eq (names_of (before ++ device ∷ [])) =
+    distinct_front (names_of (before ++ device ∷ [])) (names_of later)
+    (subst (λ it. IsDistinct bytes_eq it) (names_append (before ++ device ∷ []) later)
+    (subst (λ it. IsDistinct bytes_eq (names_of it)) (sym joined) apart)) in
+    let (told, is, said) = devices_said total (before ++ device ∷ []) later commands items.0 text refused
+    (subst (λ it. length it ≤ 16) (sym joined) few)
+    (subst (λ it. IsDistinct bytes_eq (names_of it)) (sym joined) apart) items.3
+    (subst (λ it. IsOutput it no_module (map request_of commands) text refused) (sym joined) output) in
+    subst (λ it. AnswersLines total now it lines text refused) joined (
+      told,
+      is,
+      goes_on (Declares device) items.0 [] (flat_map (spoken_reply ((before ++ device ∷ []) ++ later)) told) false refused
+          (items.1, record { early = refl; few = one; names = own }) items.2 (refl, refl) said,
+    )
+
+pub jobs_are_spoken : JobsAreSpoken
+jobs_are_spoken bytes job is text refused output =
+    let (told, joined, said) = devices_said (suc (length is.behind)) [] job.devices job.commands is.behind text refused is.few is.names is.items output in
+    (told, joined, subst (λ lines. IsSpoken lines (flat_map (spoken_reply job.devices) told) refused Rests) (sym is.begins) (opened said))

@@ -1,0 +1,176 @@
+-- What is said has one answer.
+use Rattle.std.proofs.Common.{◌≡◌, ◌⊎◌, ◌+◌, ℕ, Bool, List, [], ◌∷◌, ◌++◌, length, inl, inr, refl, sym, ap, subst, ◌∙◌, arith, append_assoc, append-nil}
+use Rattle.std.specs.Prelude.{◌||◌}
+use Rattle.cc_job.specs.Jobs.{Item, Declares, Commands, IsItem, item_lines}
+use Rattle.cc_job.proofs.ItemLists.{one_item}
+use Rattle.cc_words.specs.Lines.{Line}
+use Rattle.cc_answers.specs.Requests.{request_of}
+use Rattle.cc_replies.proofs.PresentAfter.{texts_stay_present}
+use Rattle.cc_replies.proofs.ReplyLaws.{replies_are_unique}
+use Rattle.cc_replies.specs.ReplyTexts.{is_refusal}
+use Rattle.cc_verdicts.specs.PresentTexts.{ArePresent}
+use Rattle.cc_answers.proofs.Answering.{none_present}
+use Rattle.cc_conversation.specs.ConversationLaws.{LinesHaveOneAnswer}
+use Rattle.cc_conversation.specs.Conversations.{spoken_reply, Moment, MaySay, GoesOn, IsOpen, Answers, Standing, EndedAt, Says, behind}
+use Rattle.cc_conversation.specs.Conversations.IsSpoken.{nothing, stranger, opened as opened_by}
+use Rattle.cc_conversation.specs.Conversations.Says.{rests, begins, ends, goes_on}
+
+-- an item that may be said is one
+is_item : (moment : Moment) (item : Item) → MaySay moment item → IsItem item
+is_item moment (Declares device) may = may.0
+is_item moment (Commands command) may = may
+
+no_more : (others : List Line) (next : Line) (missing : List Line) → others ++ next ∷ missing ≡ [] → ⊥
+no_more [] next missing e = cc
+no_more (first ∷ others) next missing e = cc
+
+-- where an item is whole, none is lacks with its lines or more
+whole_or_open : (moment : Moment) (item : Item) (others lines : List Line) → MaySay moment item → lines ≡ item_lines item ++ others
+    → IsOpen moment lines → ⊥
+whole_or_open moment item others lines may is lacks =
+    let found = one_item lacks.0 item [] (others ++ lacks.1 ∷ lacks.2) (is_item moment lacks.0 lacks.3) (is_item moment item may)
+    (append-nil (item_lines lacks.0) ∙ lacks.4 ∙ ap (λ it. it ++ lacks.1 ∷ lacks.2) is
+    ∙ append_assoc (item_lines item) others (lacks.1 ∷ lacks.2)) in
+    no_more others lacks.1 lacks.2 (sym found.1)
+
+-- Of two splits of one list, the front of one is that of the other with its next element and more, or they are one.
+pub data Splits (front other : List Line) (next beside : Line) (rest behind : List Line) : Type 0 where
+  same : front ≡ other → next ≡ beside → rest ≡ behind → Splits front other next beside rest behind
+  shorter : (more : List Line) → other ≡ front ++ next ∷ more → Splits front other next beside rest behind
+  longer : (more : List Line) → front ≡ other ++ beside ∷ more → Splits front other next beside rest behind
+
+head_tail : {x y : Line} {xs ys : List Line} → x ∷ xs ≡ y ∷ ys → (x ≡ y) × (xs ≡ ys)
+head_tail {x} {y} {xs} {ys} e = (cc, cc)
+
+splits : (front other : List Line) (next beside : Line) (rest behind : List Line)
+    → front ++ next ∷ rest ≡ other ++ beside ∷ behind → Splits front other next beside rest behind
+splits [] [] next beside rest behind e = same refl (head_tail e).0 (head_tail e).1
+splits [] (first ∷ other) next beside rest behind e =
+    shorter other (ap (λ it. it ∷ other) (sym (head_tail e).0))
+splits (first ∷ front) [] next beside rest behind e =
+    longer front (ap (λ it. it ∷ front) (head_tail e).0)
+splits (first ∷ front) (second ∷ other) next beside rest behind e =
+    elim (splits front other next beside rest behind (head_tail e).1) [
+      | same f n r ↦ same (λ i. (head_tail e).0 i ∷ f i) n r
+      | shorter more is ↦ shorter more (λ i. sym (head_tail e).0 i ∷ is i)
+      | longer more is ↦ longer more (λ i. (head_tail e).0 i ∷ is i)
+    ]
+
+-- where more lines begin an item, fewer do
+goes_on_front : (moment : Moment) (front rest : List Line) → GoesOn moment (front ++ rest) → GoesOn moment front
+goes_on_front moment front rest goes =
+    (goes.0, rest ++ goes.1, goes.2, goes.3 ∙ append_assoc front rest goes.1)
+
+open_goes_on : (moment : Moment) (lines : List Line) → IsOpen moment lines → GoesOn moment lines
+open_goes_on moment lines lacks = (lacks.0, lacks.1 ∷ lacks.2, lacks.3, lacks.4)
+
+no_item_empty : (item : Item) (more : List Line) → item_lines item ++ more ≡ [] → ⊥
+no_item_empty item more e = cc
+
+-- a front with its next line goes on where more of it is open
+opened : (moment : Moment) (whole front : List Line) (bad : Line) (more : List Line) → whole ≡ front ++ bad ∷ more
+    → (whole ≡ []) ⊎ IsOpen moment whole → (GoesOn moment (front ++ bad ∷ []) → ⊥) → ⊥
+opened moment whole front bad more is (inl empty) none = no_more front bad more (sym is ∙ empty)
+opened moment whole front bad more is (inr lacks) none =
+    none (goes_on_front moment (front ++ bad ∷ []) more
+    (subst (λ it. GoesOn moment it) (is ∙ sym (append_assoc front (bad ∷ []) more)) (open_goes_on moment whole lacks)))
+
+-- A list in front of others ends behind the element of a split of both, or before it.
+ends_where : (lines others front : List Line) (bad : Line) (rest : List Line) → lines ++ others ≡ front ++ bad ∷ rest
+    → ((more : List Line) × (lines ≡ front ++ bad ∷ more)) ⊎ ((more : List Line) × (front ≡ lines ++ more))
+ends_where [] others front bad rest e = inr (front, refl)
+ends_where (first ∷ lines) others [] bad rest e = inl (lines, ap (λ it. it ∷ lines) (head_tail e).0)
+ends_where (first ∷ lines) others (second ∷ front) bad rest e =
+    elim (ends_where lines others front bad rest (head_tail e).1) [
+      | inl within ↦ inl (within.0, λ i. (head_tail e).0 i ∷ within.1 i)
+      | inr beyond ↦ inr (beyond.0, λ i. sym (head_tail e).0 i ∷ beyond.1 i)
+    ]
+
+-- no item is whole where a line with which none goes on stands
+ends_apart : (moment : Moment) (item : Item) (others front : List Line) (bad : Line) (rest : List Line) → MaySay moment item
+    → item_lines item ++ others ≡ front ++ bad ∷ rest → (front ≡ []) ⊎ IsOpen moment front
+    → (GoesOn moment (front ++ bad ∷ []) → ⊥) → ⊥
+ends_apart moment item others front bad rest may is before none =
+    elim (ends_where (item_lines item) others front bad rest is) [
+      | inl within ↦ none (item, within.0, may, within.1 ∙ sym (append_assoc front (bad ∷ []) within.0))
+      | inr beyond ↦ elim before [
+        | inl empty ↦ no_item_empty item beyond.0 (sym beyond.1 ∙ empty)
+        | inr lacks ↦ whole_or_open moment item beyond.0 front may beyond.1 lacks
+      ]
+    ]
+
+-- two lines with which no item goes on are one
+ends_once : (moment : Moment) (total : ℕ) (front other : List Line) (bad beside : Line) (rest others : List Line)
+    (place second : ℕ) → front ++ bad ∷ rest ≡ other ++ beside ∷ others
+    → (front ≡ []) ⊎ IsOpen moment front → (other ≡ []) ⊎ IsOpen moment other
+    → (GoesOn moment (front ++ bad ∷ []) → ⊥) → (GoesOn moment (other ++ beside ∷ []) → ⊥)
+    → place + length rest ≡ total → second + length others ≡ total → place ≡ second
+ends_once moment total front other bad beside rest others place second is before behind none lacks at by =
+    elim (splits front other bad beside rest others is) [
+      | same f n r ↦ omega (arith, at, by, ap (λ (it : List Line). length it) r)
+      | shorter more e ↦ elim (opened moment other front bad more e behind none) [ ]
+      | longer more e ↦ elim (opened moment front other beside more e before lacks) [ ]
+    ]
+
+-- One answer for each item that may be said, at each moment that is kept.
+abbrev AnswersOnce : (Moment → Type 0) → Type 0
+AnswersOnce kept =
+    (moment : Moment) (item : Item) (text other : List ℕ) (refused later : Bool) → kept moment
+    → Answers moment item text refused → Answers moment item other later → (text ≡ other) × (refused ≡ later)
+
+one_said : (kept : Moment → Type 0) → ((moment : Moment) (item : Item) → MaySay moment item → kept moment → kept (behind moment item))
+    → AnswersOnce kept → {total : ℕ} {moment : Moment} {lines : List Line} {text other : List ℕ} {refused later : Bool}
+    {standing second : Standing} → kept moment → Says total moment lines text refused standing
+    → Says total moment lines other later second → (text ≡ other) × (refused ≡ later) × (standing ≡ second)
+one_said kept keeps once now (rests empty) (rests _) = (refl, refl, refl)
+one_said kept keeps once now (rests empty) (begins some lacks) = elim (some empty) [ ]
+one_said kept keeps once now (rests empty) (ends front bad rest place is before none at) = elim (no_more front bad rest (sym is ∙ empty)) [ ]
+one_said kept keeps once now (rests empty) (goes_on item others text rest refused later may is answers said) = elim (no_item_empty item others (sym is ∙ empty)) [ ]
+one_said kept keeps once now (begins some lacks) (rests empty) = elim (some empty) [ ]
+one_said kept keeps once now (begins some lacks) (begins _ _) = (refl, refl, refl)
+one_said kept keeps once {moment = moment} now (begins some lacks) (ends front bad rest place is before none at) =
+    elim (opened moment _ front bad rest is (inr lacks) none) [ ]
+one_said kept keeps once {moment = moment} now (begins some lacks) (goes_on item others text rest refused later may is answers said) =
+    elim (whole_or_open moment item others _ may is lacks) [ ]
+one_said kept keeps once now (ends front bad rest place is before none at) (rests empty) = elim (no_more front bad rest (sym is ∙ empty)) [ ]
+one_said kept keeps once {moment = moment} now (ends front bad rest place is before none at) (begins some lacks) =
+    elim (opened moment _ front bad rest is (inr lacks) none) [ ]
+one_said kept keeps once {total = total} {moment = moment} now (ends front bad rest place is before none at) (ends front' bad' rest' place' is' before' none' at') =
+    (refl, refl, ap EndedAt (ends_once moment total front front' bad bad' rest rest' place place' (sym is ∙ is') before before' none none' at at'))
+one_said kept keeps once {moment = moment} now (ends front bad rest place is before none at) (goes_on item others text rest' refused later may is' answers said) =
+    elim (ends_apart moment item others front bad rest may (sym is' ∙ is) before none) [ ]
+one_said kept keeps once now (goes_on item others text rest refused later may is answers said) (rests empty) = elim (no_item_empty item others (sym is ∙ empty)) [ ]
+one_said kept keeps once {moment = moment} now (goes_on item others text rest refused later may is answers said) (begins some lacks) =
+    elim (whole_or_open moment item others _ may is lacks) [ ]
+one_said kept keeps once {moment = moment} now (goes_on item others text rest' refused later may is' answers said) (ends front bad rest place is before none at) =
+    elim (ends_apart moment item others front bad rest may (sym is' ∙ is) before none) [ ]
+one_said kept keeps once {total = total} {moment = moment} now (goes_on {standing = standing} item others text rest refused later may is answers said)
+    (goes_on {standing = second} item' others' text' rest' refused' later' may' is' answers' said') =
+    let one = one_item item item' others others' (is_item moment item may) (is_item moment item' may') (sym is ∙ is') in
+    let own = once moment item text text' refused refused' now answers
+    (subst (λ it. Answers moment it text' refused') (sym one.0) answers') in
+    let more = one_said kept keeps once (keeps moment item may now) said
+    (subst (λ it. Says total (behind moment item) it rest' later' second) (sym one.1)
+    (subst (λ it. Says total (behind moment it) others' rest' later' second) (sym one.0) said')) in
+    (λ i. own.0 i ++ more.0 i, λ i. own.1 i || more.1 i, more.2)
+
+-- what is kept at each moment: the present texts are in order of name
+abbrev are_present : Moment → Type 0
+are_present moment = ArePresent moment.state.texts
+
+stay_present : (moment : Moment) (item : Item) → MaySay moment item → are_present moment → are_present (behind moment item)
+stay_present moment (Declares device) may present = present
+stay_present moment (Commands command) may present = texts_stay_present moment.state (request_of command) present
+
+answers_once : AnswersOnce are_present
+answers_once moment (Declares device) text other refused later present a b = (a.0 ∙ sym b.0, a.1 ∙ sym b.1)
+answers_once moment (Commands command) text other refused later present a b =
+    let same = replies_are_unique moment.devices moment.state (request_of command) a.0 b.0 present a.1 b.1 in
+    (a.2 ∙ ap (λ reply. spoken_reply moment.devices reply) same ∙ sym b.2, a.3 ∙ ap (λ reply. is_refusal reply) same ∙ sym b.3)
+
+pub lines_have_one_answer : LinesHaveOneAnswer
+lines_have_one_answer _ _ _ _ _ _ _ nothing nothing = (refl, refl, refl)
+lines_have_one_answer _ _ _ _ _ _ _ (stranger other) (stranger _) = (refl, refl, refl)
+lines_have_one_answer _ _ _ _ _ _ _ (stranger other) (opened_by said) = elim (other refl) [ ]
+lines_have_one_answer _ _ _ _ _ _ _ (opened_by said) (stranger other) = elim (other refl) [ ]
+lines_have_one_answer _ _ _ _ _ _ _ (opened_by said) (opened_by again) = one_said are_present stay_present answers_once none_present said again

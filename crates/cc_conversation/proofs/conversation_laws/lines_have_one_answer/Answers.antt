@@ -1,0 +1,5 @@
+use Rattle.cc_conversation.proofs.SpokenOnce.{lines_have_one_answer}
+use Rattle.cc_conversation.proofs.conversation_laws.lines_have_one_answer.Goals as goal
+
+pub returns : goal.returns
+returns c = lines_have_one_answer

@@ -1,0 +1,28 @@
+-- What is answered in a conversation.
+use Rattle.std.specs.Prelude.{◌≡◌, ℕ, Bool, List}
+use Rattle.std.specs.List.{flat_map}
+use Rattle.cc_job.specs.declared.job.Job.{Job}
+use Rattle.cc_job.specs.Jobs.{IsJob}
+use Rattle.cc_mnf.specs.ElaboratedModules.{device_names}
+use Rattle.cc_words.specs.Lines.{Line, lines_of}
+use Rattle.cc_answers.specs.Requests.{requests_of}
+use Rattle.cc_replies.specs.Outputs.{IsOutput}
+use Rattle.cc_replies.specs.ReplyTexts.{Reply, reply_text}
+use Rattle.cc_replies.specs.Requests.{no_module}
+use Rattle.cc_conversation.specs.Conversations.{Standing, Rests, IsSpoken, spoken_reply}
+
+-- The lines of each job are answered as the job is: by the same replies, each with an empty line behind it. Nothing is
+-- open then. So it is with each front of a job that is one by itself.
+abbrev pub JobsAreSpoken : Type 0
+JobsAreSpoken =
+    (bytes : List ℕ) (job : Job) → IsJob bytes job → (text : List ℕ) (refused : Bool)
+    → IsOutput job.devices no_module (requests_of job) text refused
+    → (replies : List Reply) × (text ≡ flat_map (reply_text (device_names job.devices)) replies)
+    × IsSpoken (lines_of bytes) (flat_map (spoken_reply job.devices) replies) refused Rests
+
+-- Lines have one answer, and the conversation stands in one way then.
+abbrev pub LinesHaveOneAnswer : Type 0
+LinesHaveOneAnswer =
+    (lines : List Line) (text other : List ℕ) (refused later : Bool) (standing second : Standing)
+    → IsSpoken lines text refused standing → IsSpoken lines other later second
+    → (text ≡ other) × (refused ≡ later) × (standing ≡ second)

@@ -1,0 +1,103 @@
+-- A conversation: lines in the form of those of a job, of which each command is answered before more is read. What belongs
+-- to the lines that were said is said here of all lines so far at once, in whatever pieces they came.
+use Rattle.std.specs.Prelude.{◌≡◌, ◌≢◌, ℕ, suc, ◌+◌, ◌<◌, ◌⊎◌, Bool, true, false, ◌||◌}
+use Rattle.std.specs.Prelude.{List, [], ◌∷◌, ◌++◌, length, map, ◌==◌, if◌then◌else◌}
+use Rattle.std.specs.List.{IsDistinct}
+use Rattle.std.specs.Str.{bytes_eq}
+use Rattle.cc_base.specs.declared.device.DeviceDecl.{DeviceDecl}
+use Rattle.cc_job.specs.Jobs.{Item, Declares, Commands, IsItem, item_lines, skipped, first_line}
+use Rattle.cc_mnf.specs.ElaboratedModules.{device_names}
+use Rattle.cc_words.specs.Lines.{Line}
+use Rattle.cc_answers.specs.Requests.{request_of}
+use Rattle.cc_replies.specs.Replies.{Replies, after}
+use Rattle.cc_replies.specs.ReplyTexts.{Reply, reply_text, is_refusal}
+use Rattle.cc_replies.specs.Requests.{JobState, no_module}
+
+-- what was said so far: the devices, whether a command was given, and what the commands changed
+pub record Moment : Type 0 where
+  pub devices : List DeviceDecl
+  pub begun : Bool
+  pub state : JobState
+
+-- before the first line behind the first
+abbrev pub beginning : Moment
+beginning = record { devices = []; begun = false; state = no_module }
+
+-- A device may be declared before the first command, where there are fewer than 16, by a name that none of them has.
+pub record MayDeclare (moment : Moment) (device : DeviceDecl) : Type 0 where
+  pub early : moment.begun ≡ false
+  pub few : length moment.devices < 16
+  pub names : IsDistinct bytes_eq (map (λ it. it.name) (moment.devices ++ device ∷ []))
+
+-- an item may be said: a device that may be declared, or a command
+abbrev pub MaySay : Moment → Item → Type 0
+MaySay moment (Declares device) = IsItem (Declares device) × MayDeclare moment device
+MaySay moment (Commands command) = IsItem (Commands command)
+
+-- what has been said behind an item
+abbrev pub behind : Moment → Item → Moment
+behind moment (Declares device) =
+    record { devices = moment.devices ++ device ∷ []; begun = moment.begun; state = moment.state }
+behind moment (Commands command) =
+    record { devices = moment.devices; begun = true; state = after moment.state (request_of command) }
+
+-- A reply as it is written in a conversation: with an empty line behind it. No reply has one, so it ends there.
+abbrev pub spoken_reply : List DeviceDecl → Reply → List ℕ
+spoken_reply devices reply = reply_text (device_names devices) reply ++ 10 ∷ []
+
+-- What is answered to an item: nothing to a device, and its reply to a command; and whether that is a refusal.
+abbrev pub Answers : Moment → Item → List ℕ → Bool → Type 0
+Answers moment (Declares device) text refused = (text ≡ []) × (refused ≡ false)
+Answers moment (Commands command) text refused =
+    (reply : Reply) × Replies moment.devices moment.state (request_of command) reply
+    × (text ≡ spoken_reply moment.devices reply) × (refused ≡ is_refusal reply)
+
+-- some item may be said next whose lines begin with these
+abbrev pub GoesOn : Moment → List Line → Type 0
+GoesOn moment lines =
+    (item : Item) × (missing : List Line) × MaySay moment item × (item_lines item ≡ lines ++ missing)
+
+-- and it has more lines than these
+abbrev pub IsOpen : Moment → List Line → Type 0
+IsOpen moment lines =
+    (item : Item) × (next : Line) × (missing : List Line) × MaySay moment item
+    × (item_lines item ≡ lines ++ next ∷ missing)
+
+-- How a conversation stands: nothing is open; the lines of an item have begun, and some are missing; or it ended at a line
+-- with which no item goes on, by its number.
+pub data Standing : Type 0 where
+  Rests : Standing
+  Begun : Standing
+  EndedAt : (number : ℕ) → Standing
+
+-- What is written for the last of so many lines, whether a reply is a refusal, and how the conversation stands then.
+pub data Says (total : ℕ) : Moment → List Line → List ℕ → Bool → Standing → Type 0 where
+  rests : {moment : Moment} {lines : List Line} → skipped lines ≡ [] → Says total moment lines [] false Rests
+  begins : {moment : Moment} {lines : List Line} → skipped lines ≢ [] → IsOpen moment (skipped lines)
+      → Says total moment lines [] false Begun
+  ends : {moment : Moment} {lines : List Line} (front : List Line) (bad : Line) (rest : List Line) (place : ℕ)
+      → skipped lines ≡ front ++ bad ∷ rest → (front ≡ []) ⊎ IsOpen moment front
+      → (GoesOn moment (front ++ bad ∷ []) → ⊥) → place + length rest ≡ total
+      → Says total moment lines [] false (EndedAt place)
+  goes_on : {moment : Moment} {lines : List Line} {standing : Standing} (item : Item) (others : List Line)
+      (text rest : List ℕ) (refused later : Bool) → MaySay moment item → skipped lines ≡ item_lines item ++ others
+      → Answers moment item text refused → Says total (behind moment item) others rest later standing
+      → Says total moment lines (text ++ rest) (refused || later) standing
+
+-- The same from the first line on.
+pub data IsSpoken : List Line → List ℕ → Bool → Standing → Type 0 where
+  nothing : IsSpoken [] [] false Rests
+  stranger : {line : Line} {lines : List Line} → line ≢ first_line → IsSpoken (line ∷ lines) [] false (EndedAt 1)
+  opened : {lines : List Line} {text : List ℕ} {refused : Bool} {standing : Standing}
+      → Says (suc (length lines)) beginning lines text refused standing
+      → IsSpoken (first_line ∷ lines) text refused standing
+
+-- the byte before all that stands in the first line, where one has ended
+abbrev pub in_front : ℕ → List Line → List Line
+in_front byte [] = []
+in_front byte (line ∷ lines) = (byte ∷ line) ∷ lines
+
+-- The lines that have ended: each before its line feed. What stands behind the last line feed is still being said.
+abbrev pub ended_lines : List ℕ → List Line
+ended_lines [] = []
+ended_lines (byte ∷ bytes) = if byte == 10 then [] ∷ ended_lines bytes else in_front byte (ended_lines bytes)

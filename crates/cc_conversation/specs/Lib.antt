@@ -1,0 +1,3 @@
+pub mod Conversations
+pub mod ConversationExamples
+pub mod ConversationLaws

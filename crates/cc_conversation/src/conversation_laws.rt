@@ -1,0 +1,23 @@
+//! The laws of conversations. The functions do nothing.
+ghost use Rattle.cc_conversation.specs.ConversationExamples as example;
+ghost use Rattle.cc_conversation.specs.ConversationLaws.{JobsAreSpoken, LinesHaveOneAnswer};
+
+/// A host that sends a job line by line gets the replies that the job gets as a whole, each with an empty line behind it.
+pub fn jobs_are_spoken()
+    ensures { JobsAreSpoken }
+{}
+
+/// What a host is answered is determined by the lines that it sent, in whatever pieces they came.
+pub fn lines_have_one_answer()
+    ensures { LinesHaveOneAnswer }
+{}
+
+/// Small conversations: nothing is asked, strangers speak, replies have an empty line behind them, lines are
+/// missing, and bad lines end it.
+pub fn worked_conversations()
+    ensures nothing { example.NothingIsAsked }
+    ensures strangers { example.StrangersEndIt }
+    ensures replies { example.RepliesEndWithAnEmptyLine }
+    ensures missing { example.LinesAreMissing }
+    ensures bad { example.BadLinesEndIt }
+{}
