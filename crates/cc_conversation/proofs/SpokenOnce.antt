@@ -1,7 +1,7 @@
 -- What is said has one answer.
 use Rattle.std.proofs.Common.{◌≡◌, ◌⊎◌, ◌+◌, ℕ, Bool, List, [], ◌∷◌, ◌++◌, length, inl, inr, refl, sym, ap, subst, ◌∙◌, arith, append_assoc, append-nil}
 use Rattle.std.specs.Prelude.{◌||◌}
-use Rattle.cc_job.specs.Jobs.{Item, Declares, Commands, IsItem, item_lines}
+use Rattle.cc_job.specs.Jobs.{Item, Declares, Commands, IsItem, item_lines, skipped}
 use Rattle.cc_job.proofs.ItemLists.{one_item}
 use Rattle.cc_words.specs.Lines.{Line}
 use Rattle.cc_answers.specs.Requests.{request_of}
@@ -10,7 +10,7 @@ use Rattle.cc_replies.proofs.ReplyLaws.{replies_are_unique}
 use Rattle.cc_replies.specs.ReplyTexts.{is_refusal}
 use Rattle.cc_verdicts.specs.PresentTexts.{ArePresent}
 use Rattle.cc_answers.proofs.Answering.{none_present}
-use Rattle.cc_conversation.specs.ConversationLaws.{LinesHaveOneAnswer}
+use Rattle.cc_conversation.specs.ConversationLaws.{LinesHaveOneAnswer, AnswersStay}
 use Rattle.cc_conversation.specs.Conversations.{spoken_reply, Moment, MaySay, GoesOn, IsOpen, Answers, Standing, EndedAt, Says, behind}
 use Rattle.cc_conversation.specs.Conversations.IsSpoken.{nothing, stranger, opened as opened_by}
 use Rattle.cc_conversation.specs.Conversations.Says.{rests, begins, ends, goes_on}
@@ -174,3 +174,43 @@ lines_have_one_answer _ _ _ _ _ _ _ (stranger other) (stranger _) = (refl, refl,
 lines_have_one_answer _ _ _ _ _ _ _ (stranger other) (opened_by said) = elim (other refl) [ ]
 lines_have_one_answer _ _ _ _ _ _ _ (opened_by said) (stranger other) = elim (other refl) [ ]
 lines_have_one_answer _ _ _ _ _ _ _ (opened_by said) (opened_by again) = one_said are_present stay_present answers_once none_present said again
+
+skipped_more : (lines more : List Line) (first : Line) (rest : List Line) → skipped lines ≡ first ∷ rest
+    → skipped (lines ++ more) ≡ first ∷ (rest ++ more)
+skipped_more [] more first rest e = cc
+skipped_more ([] ∷ lines) more first rest e = skipped_more lines more first rest e
+skipped_more ((byte ∷ line) ∷ lines) more first rest e = ap (λ it. it ++ more) e
+
+item_more : (item : Item) (lines others more : List Line) → skipped lines ≡ item_lines item ++ others
+    → skipped (lines ++ more) ≡ item_lines item ++ (others ++ more)
+item_more (Declares device) lines others more e = skipped_more lines more _ _ e ∙ append_assoc (item_lines (Declares device)) others more
+item_more (Commands command) lines others more e = skipped_more lines more _ _ e ∙ append_assoc (item_lines (Commands command)) others more
+
+stays : {total beyond : ℕ} {moment : Moment} {lines : List Line} (more : List Line) {text other : List ℕ} {refused later : Bool}
+    {standing second : Standing} → are_present moment → Says total moment lines text refused standing
+    → Says beyond moment (lines ++ more) other later second → (rest : List ℕ) × (other ≡ text ++ rest)
+stays more {other = other} now (rests empty) said = (other, refl)
+stays more {other = other} now (begins some lacks) said = (other, refl)
+stays more {other = other} now (ends front bad rest place is before none at) said = (other, refl)
+stays {lines = lines} more now (goes_on item others text rest refused later may is answers said) (rests empty) =
+    elim (no_item_empty item (others ++ more) (sym (item_more item lines others more is) ∙ empty)) [ ]
+stays {moment = moment} {lines = lines} more now (goes_on item others text rest refused later may is answers said) (begins some lacks) =
+    elim (whole_or_open moment item (others ++ more) _ may (item_more item lines others more is) lacks) [ ]
+stays {moment = moment} {lines = lines} more now (goes_on item others text rest' refused later may is' answers said) (ends front bad rest place is before none at) =
+    elim (ends_apart moment item (others ++ more) front bad rest may (sym (item_more item lines others more is') ∙ is) before none) [ ]
+stays {total = total} {beyond = beyond} {moment = moment} {lines = lines} more now (goes_on item others text rest refused later may is answers said)
+    (goes_on {standing = second} item' others' text' rest' refused' later' may' is' answers' said') =
+    let one = one_item item item' (others ++ more) others' (is_item moment item may) (is_item moment item' may')
+    (sym (item_more item lines others more is) ∙ is') in
+    let own = answers_once moment item text text' refused refused' now answers
+    (subst (λ it. Answers moment it text' refused') (sym one.0) answers') in
+    let (left, joined) = stays more (stay_present moment item may now) said
+    (subst (λ it. Says beyond (behind moment item) it rest' later' second) (sym one.1)
+    (subst (λ it. Says beyond (behind moment it) others' rest' later' second) (sym one.0) said')) in
+    (left, (λ i. sym own.0 i ++ joined i) ∙ sym (append_assoc text rest left))
+
+pub answers_stay : AnswersStay
+answers_stay [] more text other refused later standing second nothing said = (other, refl)
+answers_stay (_ ∷ _) more text other refused later standing second (stranger differs) said = (other, refl)
+answers_stay (_ ∷ _) more text other refused later standing second (opened_by said) (stranger differs) = elim (differs refl) [ ]
+answers_stay (_ ∷ _) more text other refused later standing second (opened_by said) (opened_by again) = stays more none_present said again

@@ -1,5 +1,5 @@
 -- What is answered in a conversation.
-use Rattle.std.specs.Prelude.{◌≡◌, ℕ, Bool, List}
+use Rattle.std.specs.Prelude.{◌≡◌, ℕ, Bool, List, ◌++◌}
 use Rattle.std.specs.List.{flat_map}
 use Rattle.cc_job.specs.declared.job.Job.{Job}
 use Rattle.cc_job.specs.Jobs.{IsJob}
@@ -26,3 +26,10 @@ LinesHaveOneAnswer =
     (lines : List Line) (text other : List ℕ) (refused later : Bool) (standing second : Standing)
     → IsSpoken lines text refused standing → IsSpoken lines other later second
     → (text ≡ other) × (refused ≡ later) × (standing ≡ second)
+
+-- What was answered to lines stands at the front of what is answered to these and more.
+abbrev pub AnswersStay : Type 0
+AnswersStay =
+    (lines more : List Line) (text other : List ℕ) (refused later : Bool) (standing second : Standing)
+    → IsSpoken lines text refused standing → IsSpoken (lines ++ more) other later second
+    → (rest : List ℕ) × (other ≡ text ++ rest)

@@ -41,7 +41,7 @@ behind moment (Declares device) =
 behind moment (Commands command) =
     record { devices = moment.devices; begun = true; state = after moment.state (request_of command) }
 
--- A reply as it is written in a conversation: with an empty line behind it. No reply has one, so it ends there.
+-- a reply as it is written in a conversation: with an empty line behind it, which tells where it ends
 abbrev pub spoken_reply : List DeviceDecl → Reply → List ℕ
 spoken_reply devices reply = reply_text (device_names devices) reply ++ 10 ∷ []
 

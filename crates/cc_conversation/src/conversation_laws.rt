@@ -1,6 +1,6 @@
 //! The laws of conversations. The functions do nothing.
 ghost use Rattle.cc_conversation.specs.ConversationExamples as example;
-ghost use Rattle.cc_conversation.specs.ConversationLaws.{JobsAreSpoken, LinesHaveOneAnswer};
+ghost use Rattle.cc_conversation.specs.ConversationLaws.{JobsAreSpoken, LinesHaveOneAnswer, AnswersStay};
 
 /// A host that sends a job line by line gets the replies that the job gets as a whole, each with an empty line behind it.
 pub fn jobs_are_spoken()
@@ -10,6 +10,11 @@ pub fn jobs_are_spoken()
 /// What a host is answered is determined by the lines that it sent, in whatever pieces they came.
 pub fn lines_have_one_answer()
     ensures { LinesHaveOneAnswer }
+{}
+
+/// What a host was answered is taken back by nothing that it says behind it.
+pub fn answers_stay()
+    ensures { AnswersStay }
 {}
 
 /// Small conversations: nothing is asked, strangers speak, replies have an empty line behind them, lines are

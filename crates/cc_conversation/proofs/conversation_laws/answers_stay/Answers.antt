@@ -1,0 +1,5 @@
+use Rattle.cc_conversation.proofs.SpokenOnce.{answers_stay}
+use Rattle.cc_conversation.proofs.conversation_laws.answers_stay.Goals as goal
+
+pub returns : goal.returns
+returns c = answers_stay
