@@ -15,7 +15,7 @@ use Rattle.cc_replies.specs.Requests.{JobState, no_module}
 use Rattle.cc_conversation.specs.Conversations.{Moment, Says, IsSpoken, Rests, spoken_reply, behind}
 use Rattle.cc_conversation.specs.Conversations.Says.{rests, goes_on}
 use Rattle.cc_conversation.specs.Conversations.IsSpoken.{opened}
-use Rattle.cc_conversation.specs.ConversationLaws.{JobsAreSpoken}
+use Rattle.cc_conversation.specs.ConversationLaws.{JobsAreSpoken, RestingLinesAreAJob}
 
 abbrev names_of : List DeviceDecl → List (List ℕ)
 names_of devices = map (λ it. it.name) devices
@@ -92,3 +92,51 @@ pub jobs_are_spoken : JobsAreSpoken
 jobs_are_spoken bytes job is text refused output =
     let (told, joined, said) = devices_said (suc (length is.behind)) [] job.devices job.commands is.behind text refused is.few is.names is.items output in
     (told, joined, subst (λ lines. IsSpoken lines (flat_map (spoken_reply job.devices) told) refused Rests) (sym is.begins) (opened said))
+
+-- What is left of a job whose lines rest: further devices, none where a command was given, and commands.
+record Rested (moment : Moment) (lines : List Line) : Type 0 where
+  devices : List DeviceDecl
+  commands : List Command
+  items : AreItems lines (map Declares devices ++ map Commands commands)
+  none : moment.begun ≡ true → devices ≡ []
+  few : length (moment.devices ++ devices) ≤ 16
+  names : IsDistinct bytes_eq (names_of (moment.devices ++ devices))
+
+rested : {total : ℕ} {moment : Moment} {lines : List Line} {text : List ℕ} {refused : Bool} → length moment.devices ≤ 16
+    → IsDistinct bytes_eq (names_of moment.devices) → Says total moment lines text refused Rests → Rested moment lines
+rested {moment = moment} few apart (rests empty) = record {
+  devices = [];
+  commands = [];
+  items = empty;
+  none = λ begun. refl;
+  few = subst (λ it. length it ≤ 16) (sym (append-nil moment.devices)) few;
+  names = subst (λ it. IsDistinct bytes_eq (names_of it)) (sym (append-nil moment.devices)) apart;
+}
+rested {moment = moment} few apart (goes_on (Declares device) others text rest refused later may is answers said) =
+    let own : length (moment.devices ++ device ∷ []) ≤ 16 =
+    omega (arith, may.1.few, length-append moment.devices (device ∷ [])) in
+    let behind_it = rested own may.1.names said in
+    let joined = append_assoc moment.devices (device ∷ []) behind_it.devices in record {
+      devices = device ∷ behind_it.devices;
+      commands = behind_it.commands;
+      items = (others, may.0, is, behind_it.items);
+      none = λ begun. let early : true ≡ false = sym begun ∙ may.1.early in cc;
+      few = subst (λ it. length it ≤ 16) joined behind_it.few;
+      names = subst (λ it. IsDistinct bytes_eq (names_of it)) joined behind_it.names;
+    }
+rested {moment = moment} few apart (goes_on (Commands command) others text rest refused later may is answers said) =
+    let behind_it = rested few apart said in
+    let none = behind_it.none refl in record {
+      devices = [];
+      commands = command ∷ behind_it.commands;
+      items = (others, may, is, subst (λ it. AreItems others (map Declares it ++ map Commands behind_it.commands)) none behind_it.items);
+      none = λ begun. refl;
+      few = subst (λ it. length (moment.devices ++ it) ≤ 16) none behind_it.few;
+      names = subst (λ it. IsDistinct bytes_eq (names_of (moment.devices ++ it))) none behind_it.names;
+    }
+
+pub resting_lines_are_a_job : RestingLinesAreAJob
+unfolding IsDistinct
+resting_lines_are_a_job lines text refused (opened said) =
+    let it = rested (omega arith) tt said in
+    (record { devices = it.devices; commands = it.commands }, it.items, it.few, it.names)

@@ -1,8 +1,9 @@
 -- What is answered in a conversation.
-use Rattle.std.specs.Prelude.{◌≡◌, ℕ, Bool, List, ◌++◌}
-use Rattle.std.specs.List.{flat_map}
+use Rattle.std.specs.Prelude.{◌≡◌, ℕ, ◌≤◌, Bool, List, ◌∷◌, ◌++◌, length, map}
+use Rattle.std.specs.List.{IsDistinct, flat_map}
+use Rattle.std.specs.Str.{bytes_eq}
 use Rattle.cc_job.specs.declared.job.Job.{Job}
-use Rattle.cc_job.specs.Jobs.{IsJob}
+use Rattle.cc_job.specs.Jobs.{AreItems, IsJob, first_line, items_of}
 use Rattle.cc_mnf.specs.ElaboratedModules.{device_names}
 use Rattle.cc_words.specs.Lines.{Line, lines_of}
 use Rattle.cc_answers.specs.Requests.{requests_of}
@@ -19,6 +20,13 @@ JobsAreSpoken =
     → IsOutput job.devices no_module (requests_of job) text refused
     → (replies : List Reply) × (text ≡ flat_map (reply_text (device_names job.devices)) replies)
     × IsSpoken (lines_of bytes) (flat_map (spoken_reply job.devices) replies) refused Rests
+
+-- Where nothing is open behind the first line, the lines are those of a job.
+abbrev pub RestingLinesAreAJob : Type 0
+RestingLinesAreAJob =
+    (lines : List Line) (text : List ℕ) (refused : Bool) → IsSpoken (first_line ∷ lines) text refused Rests
+    → (job : Job) × AreItems lines (items_of job) × (length job.devices ≤ 16)
+    × IsDistinct bytes_eq (map (λ device. device.name) job.devices)
 
 -- Lines have one answer, and the conversation stands in one way then.
 abbrev pub LinesHaveOneAnswer : Type 0

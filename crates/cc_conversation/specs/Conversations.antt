@@ -1,7 +1,7 @@
 -- A conversation: lines in the form of those of a job, of which each command is answered before more is read. What belongs
 -- to the lines that were said is said here of all lines so far at once, in whatever pieces they came.
 use Rattle.std.specs.Prelude.{◌≡◌, ◌≢◌, ℕ, suc, ◌+◌, ◌<◌, ◌⊎◌, Bool, true, false, ◌||◌}
-use Rattle.std.specs.Prelude.{List, [], ◌∷◌, ◌++◌, length, map, ◌==◌, if◌then◌else◌}
+use Rattle.std.specs.Prelude.{List, [], ◌∷◌, ◌++◌, length, map}
 use Rattle.std.specs.List.{IsDistinct}
 use Rattle.std.specs.Str.{bytes_eq}
 use Rattle.cc_base.specs.declared.device.DeviceDecl.{DeviceDecl}
@@ -91,13 +91,3 @@ pub data IsSpoken : List Line → List ℕ → Bool → Standing → Type 0 wher
   opened : {lines : List Line} {text : List ℕ} {refused : Bool} {standing : Standing}
       → Says (suc (length lines)) beginning lines text refused standing
       → IsSpoken (first_line ∷ lines) text refused standing
-
--- the byte before all that stands in the first line, where one has ended
-abbrev pub in_front : ℕ → List Line → List Line
-in_front byte [] = []
-in_front byte (line ∷ lines) = (byte ∷ line) ∷ lines
-
--- The lines that have ended: each before its line feed. What stands behind the last line feed is still being said.
-abbrev pub ended_lines : List ℕ → List Line
-ended_lines [] = []
-ended_lines (byte ∷ bytes) = if byte == 10 then [] ∷ ended_lines bytes else in_front byte (ended_lines bytes)

@@ -1,10 +1,12 @@
 //! The laws of conversations. The functions do nothing.
 ghost use Rattle.cc_conversation.specs.ConversationExamples as example;
-ghost use Rattle.cc_conversation.specs.ConversationLaws.{JobsAreSpoken, LinesHaveOneAnswer, AnswersStay};
+ghost use Rattle.cc_conversation.specs.ConversationLaws.{JobsAreSpoken, RestingLinesAreAJob, LinesHaveOneAnswer, AnswersStay};
 
 /// A host that sends a job line by line gets the replies that the job gets as a whole, each with an empty line behind it.
+/// Where nothing is open behind the first line, what the host said is a job.
 pub fn jobs_are_spoken()
-    ensures { JobsAreSpoken }
+    ensures jobs { JobsAreSpoken }
+    ensures others { RestingLinesAreAJob }
 {}
 
 /// What a host is answered is determined by the lines that it sent, in whatever pieces they came.
