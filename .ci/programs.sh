@@ -184,6 +184,20 @@ for program in ${judges[@]+"${judges[@]}"}; do
     expect 'an answer that cannot be written' 2 '' 'certify: write fault\n'
     closed < "$jobs/identity.cert"
     expect 'no standard output' 2 '' 'certify: write fault\n'
+
+    # Certificates as high as they may be, nested in each way.
+    for script in "$top"/tests/limits/*_of_height_5000.cert.py; do
+        deep=$(basename "$script" .cert.py)
+        export PYTHONPATH=$top/tests PYTHONDONTWRITEBYTECODE=1
+        python3 "$script" > "$work/deep"
+        if [ -f "${script%.cert.py}.out.py" ]; then
+            python3 "${script%.cert.py}.out.py" > "$work/answer"
+        else
+            cp "${script%.cert.py}.out" "$work/answer"
+        fi
+        low < "$work/deep"
+        expect "$deep on a stack of 512 KB" "$(sed -n '$s/^status //p' "$work/answer")" "$(sed '$d' "$work/answer")\n" ''
+    done
 done
 
 if [ "$failed" -gt 0 ]; then

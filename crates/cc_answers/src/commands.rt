@@ -159,8 +159,10 @@ fn ask<K: Sink, L: Ledger>(
     }
 }
 
-// Carries out a command where the policy is in force.
-fn answer<K: Sink, L: Ledger>(
+/// Carries out a command where the policy is in force, and writes the reply. It tells whether that is a refusal.
+///
+/// What is kept serves again as long as it is kept for the present modules.
+pub fn answer<K: Sink, L: Ledger>(
     alloc: Global,
     names: &Names,
     session: &mut Session,

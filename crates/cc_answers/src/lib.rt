@@ -3,10 +3,10 @@
 
 pub mod commands;
 mod explaining;
-mod explanation;
-mod kept;
-mod linked;
-mod made;
+pub mod explanation;
+pub mod kept;
+pub mod linked;
+pub mod made;
 mod questions;
 mod replies;
 mod running;

@@ -266,14 +266,24 @@ fn read_claim(alloc: Global, names: u32, entries: u32, claim: &Claim) -> Result<
 }
 
 // Whether each variable of the claim is in scope, and of the kind of its place.
-fn is_in_scope(ctx: &Ctx, claim: &Claim) -> bool
-    ensures { result ≡ plain.is_in_scope (kinds_of (context_of ctx.now)) (claim_of claim.now) }
+fn is_in_scope(alloc: Global, ctx: &Ctx, claim: &Claim) -> Result<bool, AllocError>
+    ensures { IfOk result (λ b. b ≡ plain.is_in_scope (kinds_of (context_of ctx.now)) (claim_of claim.now)) }
 {
     match claim {
-        Claim::Typed(ty) => wf(ctx, ty),
-        Claim::TypeBelow(left, right) => wf(ctx, left) && wf(ctx, right),
-        Claim::ShapeBelow(left, right) => wf_shape(ctx, left) && wf_shape(ctx, right),
-        Claim::SetBelow(left, right) => wf_set(ctx, left) && wf_set(ctx, right),
+        Claim::Typed(ty) => wf(alloc, ctx, ty),
+        Claim::TypeBelow(left, right) => {
+            if !wf(alloc, ctx, left)? {
+                return Ok(false);
+            }
+            wf(alloc, ctx, right)
+        }
+        Claim::ShapeBelow(left, right) => {
+            if !wf_shape(alloc, ctx, left)? {
+                return Ok(false);
+            }
+            wf_shape(alloc, ctx, right)
+        }
+        Claim::SetBelow(left, right) => Ok(wf_set(ctx, left) && wf_set(ctx, right)),
     }
 }
 
@@ -337,7 +347,7 @@ pub(crate) fn claim_at(
         return claim_of_another_kind(alloc, rule);
     }
     let read = read_claim(alloc, names, entries, claim)?;
-    if is_in_scope(ctx, &read) {
+    if is_in_scope(alloc, ctx, &read)? {
         Ok(read)
     } else {
         claim_of_another_kind(alloc, rule)

@@ -52,7 +52,7 @@ pub fn read_bind<'a>(
     }
     let (_, rest) = read_exact(" ", rest)?;
     let (ty, rest) = read_type(alloc, Locals::Counted, names, 5000, 0, rest)?;
-    if !wf(ctx, &ty) {
+    if !wf(alloc, ctx, &ty)? {
         return Err(Stop::Misfit);
     }
     Ok(((name, ty), rest))
@@ -71,7 +71,7 @@ pub fn read_statement<'a>(
     ensures placed { IfOk result (λ read. AreFirst (places_of read.0)) }
 {
     let (node, rest) = read_term(alloc, names, 5000, 0, bytes)?;
-    if !wf_term(ctx, &node) {
+    if !wf_term(alloc, ctx, &node)? {
         return Err(Stop::Misfit);
     }
     Ok((node, rest))

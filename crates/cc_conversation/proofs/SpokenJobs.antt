@@ -1,24 +1,38 @@
 -- The lines of a job are answered by its replies.
-use Rattle.std.proofs.Common.{◌≡◌, ◌≤◌, ◌<◌, ℕ, suc, Bool, true, false, List, [], ◌∷◌, ◌++◌, length, map, refl, sym, ap, subst, ◌∙◌, arith, append_assoc, append-nil, length-append}
-use Rattle.std.specs.Prelude.{◌||◌}
+use Rattle.std.proofs.Common.{◌≡◌, ◌≤◌, ◌<◌, ◌+◌, ℕ, suc, Bool, true, false, List, [], ◌∷◌, ◌++◌, length, map, refl, sym, ap, subst, ◌∙◌, arith, append_assoc, append-nil, length-append}
+use Rattle.std.specs.Prelude.{◌||◌, ◌==◌, if◌then◌else◌}
 use Rattle.std.specs.List.{AllByRecursion, IsDistinct, flat_map}
 use Rattle.std.specs.Str.{bytes_eq}
 use Rattle.cc_base.specs.declared.device.DeviceDecl.{DeviceDecl}
 use Rattle.cc_job.specs.declared.job.Command.{Command}
-use Rattle.cc_job.specs.Jobs.{Declares, Commands, AreItems}
-use Rattle.cc_words.specs.Lines.{Line}
+use Rattle.cc_job.specs.Jobs.{Item, Declares, Commands, AreItems, item_lines, skipped, first_line}
+use Rattle.cc_words.specs.Lines.{Line, lines_of, before_first_line}
 use Rattle.cc_mnf.specs.ElaboratedModules.{device_names}
 use Rattle.cc_answers.specs.Requests.{request_of}
 use Rattle.cc_replies.specs.Outputs.{IsOutput}
 use Rattle.cc_replies.specs.ReplyTexts.{Reply, reply_text, is_refusal}
 use Rattle.cc_replies.specs.Requests.{JobState, no_module}
 use Rattle.cc_conversation.specs.Conversations.{Moment, Says, IsSpoken, Rests, spoken_reply, behind}
+use Rattle.cc_item_reading.specs.Sayings.{size, item_limit}
 use Rattle.cc_conversation.specs.Conversations.Says.{rests, goes_on}
 use Rattle.cc_conversation.specs.Conversations.IsSpoken.{opened}
+use Rattle.cc_item_reading.proofs.Hearing.{size_both}
 use Rattle.cc_conversation.specs.ConversationLaws.{JobsAreSpoken, RestingLinesAreAJob}
 
 abbrev names_of : List DeviceDecl → List (List ℕ)
 names_of devices = map (λ it. it.name) devices
+
+-- the lines of an item have no more bytes than those that it stands before, and so have those behind it
+skipped_size : (lines : List Line) → size (skipped lines) ≤ size lines
+skipped_size [] = omega arith
+skipped_size ([] ∷ lines) = let less = skipped_size lines in omega (arith, less)
+skipped_size ((byte ∷ line) ∷ lines) = omega arith
+
+item_size : (lines : List Line) (item : Item) (rest : List Line) → skipped lines ≡ item_lines item ++ rest
+    → size (item_lines item) + size rest ≤ size lines
+item_size lines item rest is =
+    let all = skipped_size lines in
+    omega (arith, all, ap size is, size_both (item_lines item) rest)
 
 -- replies with this text answer the lines, each with an empty line behind it, where the devices are these at last
 abbrev AnswersLines : ℕ → Moment → List DeviceDecl → List Line → List ℕ → Bool → Type 0
@@ -28,18 +42,19 @@ AnswersLines total moment devices lines text refused =
 
 -- commands are answered in turn, behind the devices
 commands_said : (total : ℕ) (devices : List DeviceDecl) (begun : Bool) (state : JobState) (commands : List Command)
-    (lines : List Line) (text : List ℕ) (refused : Bool) → AreItems lines (map Commands commands)
+    (lines : List Line) (text : List ℕ) (refused : Bool) → AreItems lines (map Commands commands) → size lines ≤ item_limit
     → IsOutput devices state (map request_of commands) text refused
     → AnswersLines total (record { devices = devices; begun = begun; state = state }) devices lines text refused
-commands_said total devices begun state [] lines text refused items output =
+commands_said total devices begun state [] lines text refused items short output =
     ([], output.0, subst (λ r. Says total (record { devices = devices; begun = begun; state = state }) lines [] r Rests) (sym output.1) (rests items))
-commands_said total devices begun state (first ∷ others) lines text refused items output =
+commands_said total devices begun state (first ∷ others) lines text refused items short output =
     let now : Moment = record { devices = devices; begun = begun; state = state } in
     let (reply, rest, later, replies, more, is, refuses) = output in
-    let (told, joined, said) = commands_said total devices true (behind now (Commands first)).state others items.0 rest later items.3 more in
+    let room = item_size lines (Commands first) items.0 items.2 in
+    let (told, joined, said) = commands_said total devices true (behind now (Commands first)).state others items.0 rest later items.3 (omega (arith, room, short)) more in
     let all : Says total now lines (spoken_reply devices reply ++ flat_map (spoken_reply devices) told) (is_refusal reply || later) Rests =
     goes_on (Commands first) items.0 (spoken_reply devices reply) (flat_map (spoken_reply devices) told) (is_refusal reply) later
-    items.1 items.2 (reply, replies, refl, refl) said in (
+    items.1 items.2 (omega (arith, room, short)) (reply, replies, refl, refl) said in (
       reply ∷ told,
       is ∙ ap (λ it. reply_text (device_names devices) reply ++ it) joined,
       subst (λ r. Says total now lines (spoken_reply devices reply ++ flat_map (spoken_reply devices) told) r Rests) (sym refuses) all,
@@ -62,15 +77,16 @@ names_append (first ∷ front) rest = ap (λ it. first.name ∷ it) (names_appen
 -- devices are declared in turn, and then the commands are answered
 devices_said : (total : ℕ) (before later : List DeviceDecl) (commands : List Command) (lines : List Line) (text : List ℕ)
     (refused : Bool) → length (before ++ later) ≤ 16 → IsDistinct bytes_eq (names_of (before ++ later))
-    → AreItems lines (map Declares later ++ map Commands commands)
+    → AreItems lines (map Declares later ++ map Commands commands) → size lines ≤ item_limit
     → IsOutput (before ++ later) no_module (map request_of commands) text refused
     → AnswersLines total (record { devices = before; begun = false; state = no_module }) (before ++ later) lines text refused
-devices_said total before [] commands lines text refused few apart items output =
+devices_said total before [] commands lines text refused few apart items short output =
     subst (λ it. AnswersLines total (record { devices = before; begun = false; state = no_module }) it lines text refused) (sym (append-nil before))
-    (commands_said total before false no_module commands lines text refused items
+    (commands_said total before false no_module commands lines text refused items short
     (subst (λ it. IsOutput it no_module (map request_of commands) text refused) (append-nil before) output))
-devices_said total before (device ∷ later) commands lines text refused few apart items output =
+devices_said total before (device ∷ later) commands lines text refused few apart items short output =
     let now : Moment = record { devices = before; begun = false; state = no_module } in
+    let room = item_size lines (Declares device) items.0 items.2 in
     let joined : (before ++ device ∷ []) ++ later ≡ before ++ device ∷ later = append_assoc before (device ∷ []) later in
     let one : length before < 16 = omega (arith, few, length-append before (device ∷ later)) in
     let own : IsDistinct bytes_eq (names_of (before ++ device ∷ [])) =
@@ -79,18 +95,31 @@ devices_said total before (device ∷ later) commands lines text refused few apa
     (subst (λ it. IsDistinct bytes_eq (names_of it)) (sym joined) apart)) in
     let (told, is, said) = devices_said total (before ++ device ∷ []) later commands items.0 text refused
     (subst (λ it. length it ≤ 16) (sym joined) few)
-    (subst (λ it. IsDistinct bytes_eq (names_of it)) (sym joined) apart) items.3
+    (subst (λ it. IsDistinct bytes_eq (names_of it)) (sym joined) apart) items.3 (omega (arith, room, short))
     (subst (λ it. IsOutput it no_module (map request_of commands) text refused) (sym joined) output) in
     subst (λ it. AnswersLines total now it lines text refused) joined (
       told,
       is,
       goes_on (Declares device) items.0 [] (flat_map (spoken_reply ((before ++ device ∷ []) ++ later)) told) false refused
-          (items.1, record { early = refl; few = one; names = own }) items.2 (refl, refl) said,
+          (items.1, record { early = refl; few = one; names = own }) items.2 (omega (arith, room, short)) (refl, refl) said,
     )
 
+-- lines have as many bytes as the text that they are of, or one more
+lines_size : (bytes : List ℕ) → size (lines_of bytes) ≤ length bytes + 1
+lines_size [] = omega arith
+lines_size (byte ∷ bytes) = at (byte == 10) (lines_of bytes) (lines_size bytes)
+  where
+    at : (ends : Bool) (lines : List Line) → size lines ≤ length bytes + 1
+        → size (if ends then [] ∷ lines else before_first_line byte lines) ≤ length (byte ∷ bytes) + 1
+    at true lines short = omega (arith, short)
+    at false [] short = omega arith
+    at false (line ∷ lines) short = omega (arith, short)
+
 pub jobs_are_spoken : JobsAreSpoken
-jobs_are_spoken bytes job is text refused output =
-    let (told, joined, said) = devices_said (suc (length is.behind)) [] job.devices job.commands is.behind text refused is.few is.names is.items output in
+jobs_are_spoken bytes job is few text refused output =
+    let all = lines_size bytes in
+    let room : size is.behind ≤ item_limit = omega (arith, few, all, ap size is.begins, size_both (first_line ∷ []) is.behind) in
+    let (told, joined, said) = devices_said (suc (length is.behind)) [] job.devices job.commands is.behind text refused is.few is.names is.items room output in
     (told, joined, subst (λ lines. IsSpoken lines (flat_map (spoken_reply job.devices) told) refused Rests) (sym is.begins) (opened said))
 
 -- What is left of a job whose lines rest: further devices, none where a command was given, and commands.
@@ -112,7 +141,7 @@ rested {moment = moment} few apart (rests empty) = record {
   few = subst (λ it. length it ≤ 16) (sym (append-nil moment.devices)) few;
   names = subst (λ it. IsDistinct bytes_eq (names_of it)) (sym (append-nil moment.devices)) apart;
 }
-rested {moment = moment} few apart (goes_on (Declares device) others text rest refused later may is answers said) =
+rested {moment = moment} few apart (goes_on (Declares device) others text rest refused later may is short answers said) =
     let own : length (moment.devices ++ device ∷ []) ≤ 16 =
     omega (arith, may.1.few, length-append moment.devices (device ∷ [])) in
     let behind_it = rested own may.1.names said in
@@ -124,7 +153,7 @@ rested {moment = moment} few apart (goes_on (Declares device) others text rest r
       few = subst (λ it. length it ≤ 16) joined behind_it.few;
       names = subst (λ it. IsDistinct bytes_eq (names_of it)) joined behind_it.names;
     }
-rested {moment = moment} few apart (goes_on (Commands command) others text rest refused later may is answers said) =
+rested {moment = moment} few apart (goes_on (Commands command) others text rest refused later may is short answers said) =
     let behind_it = rested few apart said in
     let none = behind_it.none refl in record {
       devices = [];

@@ -1,7 +1,7 @@
 -- What is said has one answer.
-use Rattle.std.proofs.Common.{◌≡◌, ◌⊎◌, ◌+◌, ℕ, Bool, List, [], ◌∷◌, ◌++◌, length, inl, inr, refl, sym, ap, subst, ◌∙◌, arith, append_assoc, append-nil}
+use Rattle.std.proofs.Common.{◌≡◌, ◌⊎◌, ◌+◌, ◌<◌, ◌≤◌, ℕ, Bool, List, [], ◌∷◌, ◌++◌, length, inl, inr, refl, sym, ap, subst, ◌∙◌, arith, append_assoc, append-nil, length-append}
 use Rattle.std.specs.Prelude.{◌||◌}
-use Rattle.cc_job.specs.Jobs.{Item, Declares, Commands, IsItem, item_lines, skipped}
+use Rattle.cc_job.specs.Jobs.{Item, Declares, Commands, IsItem, item_lines, skipped, first_line, text as text_of}
 use Rattle.cc_job.proofs.ItemLists.{one_item}
 use Rattle.cc_words.specs.Lines.{Line}
 use Rattle.cc_answers.specs.Requests.{request_of}
@@ -11,9 +11,11 @@ use Rattle.cc_replies.specs.ReplyTexts.{is_refusal}
 use Rattle.cc_verdicts.specs.PresentTexts.{ArePresent}
 use Rattle.cc_answers.proofs.Answering.{none_present}
 use Rattle.cc_conversation.specs.ConversationLaws.{LinesHaveOneAnswer, AnswersStay}
-use Rattle.cc_conversation.specs.Conversations.{spoken_reply, Moment, MaySay, GoesOn, IsOpen, Answers, Standing, EndedAt, Says, behind}
-use Rattle.cc_conversation.specs.Conversations.IsSpoken.{nothing, stranger, opened as opened_by}
-use Rattle.cc_conversation.specs.Conversations.Says.{rests, begins, ends, goes_on}
+use Rattle.cc_conversation.specs.Conversations.{spoken_reply, Moment, MaySay, GoesOn, IsOpen, Answers, Standing, EndedAt, Overlong, Says, behind}
+use Rattle.cc_item_reading.specs.Sayings.{size, item_limit}
+use Rattle.cc_item_reading.proofs.Hearing.{size_both}
+use Rattle.cc_conversation.specs.Conversations.IsSpoken.{nothing, overlong, stranger, opened as opened_by}
+use Rattle.cc_conversation.specs.Conversations.Says.{rests, begins, ends, exceeds, goes_on}
 
 -- an item that may be said is one
 is_item : (moment : Moment) (item : Item) → MaySay moment item → IsItem item
@@ -112,6 +114,39 @@ ends_once moment total front other bad beside rest others place second is before
       | longer more e ↦ elim (opened moment front other beside more e before lacks) [ ]
     ]
 
+-- a list of lines that may be said has no front that is too long
+no_long_front : (whole front : List Line) (next : Line) (rest : List Line) → whole ≡ front ++ next ∷ rest → size whole ≤ item_limit
+    → item_limit < size (front ++ next ∷ []) → ⊥
+no_long_front whole front next rest is short long =
+    let bytes = ap size (is ∙ sym (append_assoc front (next ∷ []) rest)) ∙ size_both (front ++ next ∷ []) rest in
+    omega (arith, bytes, short, long)
+
+-- an item that may be said has none either
+no_long_item : (moment : Moment) (item : Item) (others front : List Line) (next : Line) (rest : List Line) → MaySay moment item
+    → item_lines item ++ others ≡ front ++ next ∷ rest → (front ≡ []) ⊎ IsOpen moment front
+    → size (item_lines item) ≤ item_limit → item_limit < size (front ++ next ∷ []) → ⊥
+no_long_item moment item others front next rest may is before short long =
+    elim (ends_where (item_lines item) others front next rest is) [
+      | inl within ↦ no_long_front (item_lines item) front next within.0 within.1 short long
+      | inr beyond ↦ elim before [
+        | inl empty ↦ no_item_empty item beyond.0 (sym beyond.1 ∙ empty)
+        | inr lacks ↦ whole_or_open moment item beyond.0 front may beyond.1 lacks
+      ]
+    ]
+
+-- a line ends a conversation, or makes an item too long, and not both
+no_long_end : (moment : Moment) (front other : List Line) (bad next : Line) (rest others : List Line)
+    → front ++ bad ∷ rest ≡ other ++ next ∷ others → (other ≡ []) ⊎ IsOpen moment other
+    → (GoesOn moment (front ++ bad ∷ []) → ⊥) → size (front ++ bad ∷ []) ≤ item_limit
+    → item_limit < size (other ++ next ∷ []) → ⊥
+no_long_end moment front other bad next rest others is before none short long =
+    elim (splits front other bad next rest others is) [
+      | same f n r ↦ no_long_front (front ++ bad ∷ []) other next [] (λ i. f i ++ n i ∷ []) short long
+      | shorter more e ↦ opened moment other front bad more e before none
+      | longer more e ↦ no_long_front (front ++ bad ∷ []) other next (more ++ bad ∷ [])
+          (ap (λ it. it ++ bad ∷ []) e ∙ append_assoc other (next ∷ more) (bad ∷ [])) short long
+    ]
+
 -- One answer for each item that may be said, at each moment that is kept.
 abbrev AnswersOnce : (Moment → Type 0) → Type 0
 AnswersOnce kept =
@@ -123,29 +158,44 @@ one_said : (kept : Moment → Type 0) → ((moment : Moment) (item : Item) → M
     {standing second : Standing} → kept moment → Says total moment lines text refused standing
     → Says total moment lines other later second → (text ≡ other) × (refused ≡ later) × (standing ≡ second)
 one_said kept keeps once now (rests empty) (rests _) = (refl, refl, refl)
-one_said kept keeps once now (rests empty) (begins some lacks) = elim (some empty) [ ]
-one_said kept keeps once now (rests empty) (ends front bad rest place is before none at) = elim (no_more front bad rest (sym is ∙ empty)) [ ]
-one_said kept keeps once now (rests empty) (goes_on item others text rest refused later may is answers said) = elim (no_item_empty item others (sym is ∙ empty)) [ ]
-one_said kept keeps once now (begins some lacks) (rests empty) = elim (some empty) [ ]
-one_said kept keeps once now (begins some lacks) (begins _ _) = (refl, refl, refl)
-one_said kept keeps once {moment = moment} now (begins some lacks) (ends front bad rest place is before none at) =
+one_said kept keeps once now (rests empty) (begins some lacks low) = elim (some empty) [ ]
+one_said kept keeps once now (rests empty) (ends front bad rest place is before none short at) = elim (no_more front bad rest (sym is ∙ empty)) [ ]
+one_said kept keeps once now (rests empty) (exceeds front next rest is before short long) = elim (no_more front next rest (sym is ∙ empty)) [ ]
+one_said kept keeps once now (rests empty) (goes_on item others text rest refused later may is short answers said) = elim (no_item_empty item others (sym is ∙ empty)) [ ]
+one_said kept keeps once now (begins some lacks low) (rests empty) = elim (some empty) [ ]
+one_said kept keeps once now (begins some lacks low) (begins _ _ _) = (refl, refl, refl)
+one_said kept keeps once {moment = moment} now (begins some lacks low) (ends front bad rest place is before none short at) =
     elim (opened moment _ front bad rest is (inr lacks) none) [ ]
-one_said kept keeps once {moment = moment} now (begins some lacks) (goes_on item others text rest refused later may is answers said) =
+one_said kept keeps once now (begins some lacks low) (exceeds front next rest is before less long) =
+    elim (no_long_front _ front next rest is low long) [ ]
+one_said kept keeps once {moment = moment} now (begins some lacks low) (goes_on item others text rest refused later may is short answers said) =
     elim (whole_or_open moment item others _ may is lacks) [ ]
-one_said kept keeps once now (ends front bad rest place is before none at) (rests empty) = elim (no_more front bad rest (sym is ∙ empty)) [ ]
-one_said kept keeps once {moment = moment} now (ends front bad rest place is before none at) (begins some lacks) =
+one_said kept keeps once now (ends front bad rest place is before none short at) (rests empty) = elim (no_more front bad rest (sym is ∙ empty)) [ ]
+one_said kept keeps once {moment = moment} now (ends front bad rest place is before none short at) (begins some lacks low) =
     elim (opened moment _ front bad rest is (inr lacks) none) [ ]
-one_said kept keeps once {total = total} {moment = moment} now (ends front bad rest place is before none at) (ends front' bad' rest' place' is' before' none' at') =
+one_said kept keeps once {total = total} {moment = moment} now (ends front bad rest place is before none short at) (ends front' bad' rest' place' is' before' none' short' at') =
     (refl, refl, ap EndedAt (ends_once moment total front front' bad bad' rest rest' place place' (sym is ∙ is') before before' none none' at at'))
-one_said kept keeps once {moment = moment} now (ends front bad rest place is before none at) (goes_on item others text rest' refused later may is' answers said) =
+one_said kept keeps once {moment = moment} now (ends front bad rest place is before none short at) (exceeds other next others is' before' less long) =
+    elim (no_long_end moment front other bad next rest others (sym is ∙ is') before' none short long) [ ]
+one_said kept keeps once {moment = moment} now (ends front bad rest place is before none short at) (goes_on item others text rest' refused later may is' short' answers said) =
     elim (ends_apart moment item others front bad rest may (sym is' ∙ is) before none) [ ]
-one_said kept keeps once now (goes_on item others text rest refused later may is answers said) (rests empty) = elim (no_item_empty item others (sym is ∙ empty)) [ ]
-one_said kept keeps once {moment = moment} now (goes_on item others text rest refused later may is answers said) (begins some lacks) =
+one_said kept keeps once now (exceeds front next rest is before less long) (rests empty) = elim (no_more front next rest (sym is ∙ empty)) [ ]
+one_said kept keeps once now (exceeds front next rest is before less long) (begins some lacks low) =
+    elim (no_long_front _ front next rest is low long) [ ]
+one_said kept keeps once {moment = moment} now (exceeds other next others is' before' less long) (ends front bad rest place is before none short at) =
+    elim (no_long_end moment front other bad next rest others (sym is ∙ is') before' none short long) [ ]
+one_said kept keeps once now (exceeds front next rest is before less long) (exceeds front' next' rest' is' before' less' long') = (refl, refl, refl)
+one_said kept keeps once {moment = moment} now (exceeds front next rest is before less long) (goes_on item others text rest' refused later may is' short' answers said) =
+    elim (no_long_item moment item others front next rest may (sym is' ∙ is) before short' long) [ ]
+one_said kept keeps once now (goes_on item others text rest refused later may is short answers said) (rests empty) = elim (no_item_empty item others (sym is ∙ empty)) [ ]
+one_said kept keeps once {moment = moment} now (goes_on item others text rest refused later may is short answers said) (begins some lacks low) =
     elim (whole_or_open moment item others _ may is lacks) [ ]
-one_said kept keeps once {moment = moment} now (goes_on item others text rest' refused later may is' answers said) (ends front bad rest place is before none at) =
+one_said kept keeps once {moment = moment} now (goes_on item others text rest' refused later may is' short' answers said) (ends front bad rest place is before none short at) =
     elim (ends_apart moment item others front bad rest may (sym is' ∙ is) before none) [ ]
-one_said kept keeps once {total = total} {moment = moment} now (goes_on {standing = standing} item others text rest refused later may is answers said)
-    (goes_on {standing = second} item' others' text' rest' refused' later' may' is' answers' said') =
+one_said kept keeps once {moment = moment} now (goes_on item others text rest' refused later may is' short' answers said) (exceeds front next rest is before less long) =
+    elim (no_long_item moment item others front next rest may (sym is' ∙ is) before short' long) [ ]
+one_said kept keeps once {total = total} {moment = moment} now (goes_on {standing = standing} item others text rest refused later may is short answers said)
+    (goes_on {standing = second} item' others' text' rest' refused' later' may' is' short' answers' said') =
     let one = one_item item item' others others' (is_item moment item may) (is_item moment item' may') (sym is ∙ is') in
     let own = once moment item text text' refused refused' now answers
     (subst (λ it. Answers moment it text' refused') (sym one.0) answers') in
@@ -168,11 +218,19 @@ answers_once moment (Commands command) text other refused later present a b =
     let same = replies_are_unique moment.devices moment.state (request_of command) a.0 b.0 present a.1 b.1 in
     (a.2 ∙ ap (λ reply. spoken_reply moment.devices reply) same ∙ sym b.2, a.3 ∙ ap (λ reply. is_refusal reply) same ∙ sym b.3)
 
+first_size : size (first_line ∷ []) ≤ item_limit
+first_size = omega arith
+
 pub lines_have_one_answer : LinesHaveOneAnswer
 lines_have_one_answer _ _ _ _ _ _ _ nothing nothing = (refl, refl, refl)
-lines_have_one_answer _ _ _ _ _ _ _ (stranger other) (stranger _) = (refl, refl, refl)
-lines_have_one_answer _ _ _ _ _ _ _ (stranger other) (opened_by said) = elim (other refl) [ ]
-lines_have_one_answer _ _ _ _ _ _ _ (opened_by said) (stranger other) = elim (other refl) [ ]
+lines_have_one_answer _ _ _ _ _ _ _ (overlong long) (overlong _) = (refl, refl, refl)
+lines_have_one_answer _ _ _ _ _ _ _ (overlong long) (stranger _ short) = absurd (omega (arith, long, short))
+lines_have_one_answer _ _ _ _ _ _ _ (overlong long) (opened_by said) = absurd (omega (arith, long, first_size))
+lines_have_one_answer _ _ _ _ _ _ _ (stranger other short) (overlong long) = absurd (omega (arith, long, short))
+lines_have_one_answer _ _ _ _ _ _ _ (stranger other short) (stranger _ _) = (refl, refl, refl)
+lines_have_one_answer _ _ _ _ _ _ _ (stranger other short) (opened_by said) = elim (other refl) [ ]
+lines_have_one_answer _ _ _ _ _ _ _ (opened_by said) (overlong long) = absurd (omega (arith, long, first_size))
+lines_have_one_answer _ _ _ _ _ _ _ (opened_by said) (stranger other short) = elim (other refl) [ ]
 lines_have_one_answer _ _ _ _ _ _ _ (opened_by said) (opened_by again) = one_said are_present stay_present answers_once none_present said again
 
 skipped_more : (lines more : List Line) (first : Line) (rest : List Line) → skipped lines ≡ first ∷ rest
@@ -190,16 +248,19 @@ stays : {total beyond : ℕ} {moment : Moment} {lines : List Line} (more : List 
     {standing second : Standing} → are_present moment → Says total moment lines text refused standing
     → Says beyond moment (lines ++ more) other later second → (rest : List ℕ) × (other ≡ text ++ rest)
 stays more {other = other} now (rests empty) said = (other, refl)
-stays more {other = other} now (begins some lacks) said = (other, refl)
-stays more {other = other} now (ends front bad rest place is before none at) said = (other, refl)
-stays {lines = lines} more now (goes_on item others text rest refused later may is answers said) (rests empty) =
+stays more {other = other} now (begins some lacks low) said = (other, refl)
+stays more {other = other} now (ends front bad rest place is before none short at) said = (other, refl)
+stays more {other = other} now (exceeds front next rest is before less long) said = (other, refl)
+stays {lines = lines} more now (goes_on item others text rest refused later may is short answers said) (rests empty) =
     elim (no_item_empty item (others ++ more) (sym (item_more item lines others more is) ∙ empty)) [ ]
-stays {moment = moment} {lines = lines} more now (goes_on item others text rest refused later may is answers said) (begins some lacks) =
+stays {moment = moment} {lines = lines} more now (goes_on item others text rest refused later may is short answers said) (begins some lacks low) =
     elim (whole_or_open moment item (others ++ more) _ may (item_more item lines others more is) lacks) [ ]
-stays {moment = moment} {lines = lines} more now (goes_on item others text rest' refused later may is' answers said) (ends front bad rest place is before none at) =
+stays {moment = moment} {lines = lines} more now (goes_on item others text rest' refused later may is' short' answers said) (ends front bad rest place is before none short at) =
     elim (ends_apart moment item (others ++ more) front bad rest may (sym (item_more item lines others more is') ∙ is) before none) [ ]
-stays {total = total} {beyond = beyond} {moment = moment} {lines = lines} more now (goes_on item others text rest refused later may is answers said)
-    (goes_on {standing = second} item' others' text' rest' refused' later' may' is' answers' said') =
+stays {moment = moment} {lines = lines} more now (goes_on item others text rest' refused later may is' short' answers said) (exceeds front next rest is before less long) =
+    elim (no_long_item moment item (others ++ more) front next rest may (sym (item_more item lines others more is') ∙ is) before short' long) [ ]
+stays {total = total} {beyond = beyond} {moment = moment} {lines = lines} more now (goes_on item others text rest refused later may is short answers said)
+    (goes_on {standing = second} item' others' text' rest' refused' later' may' is' short' answers' said') =
     let one = one_item item item' (others ++ more) others' (is_item moment item may) (is_item moment item' may')
     (sym (item_more item lines others more is) ∙ is') in
     let own = answers_once moment item text text' refused refused' now answers
@@ -211,6 +272,8 @@ stays {total = total} {beyond = beyond} {moment = moment} {lines = lines} more n
 
 pub answers_stay : AnswersStay
 answers_stay [] more text other refused later standing second nothing said = (other, refl)
-answers_stay (_ ∷ _) more text other refused later standing second (stranger differs) said = (other, refl)
-answers_stay (_ ∷ _) more text other refused later standing second (opened_by said) (stranger differs) = elim (differs refl) [ ]
+answers_stay (_ ∷ _) more text other refused later standing second (overlong long) said = (other, refl)
+answers_stay (_ ∷ _) more text other refused later standing second (stranger differs short) said = (other, refl)
+answers_stay (_ ∷ _) more text other refused later standing second (opened_by said) (overlong long) = absurd (omega (arith, long, first_size))
+answers_stay (_ ∷ _) more text other refused later standing second (opened_by said) (stranger differs short) = elim (differs refl) [ ]
 answers_stay (_ ∷ _) more text other refused later standing second (opened_by said) (opened_by again) = stays more none_present said again

@@ -28,8 +28,8 @@ RepliesEndWithAnEmptyLine =
 -- a text and rules that lack a line: nothing is answered to them yet
 pub record LinesAreMissing : Type 0 where
   pub text : Hears (codes "capc 1" ∷ codes "policy 0" ∷ codes "put m 2" ∷ codes "policy 0" ∷ [])
-      (codes "policy 0" ∷ [] ∷ []) false Begun
-  pub rules : Hears (codes "capc 1" ∷ codes "policy 2" ∷ codes "deny * *" ∷ []) [] false Begun
+      (codes "policy 0" ∷ [] ∷ []) false (Begun 17)
+  pub rules : Hears (codes "capc 1" ∷ codes "policy 2" ∷ codes "deny * *" ∷ []) [] false (Begun 18)
 
 -- A line with which none goes on ends it, and what follows is answered by nothing: words with two spaces between them,
 -- and a device behind a command.

@@ -11,12 +11,13 @@ use Rattle.cc_replies.specs.Outputs.{IsOutput}
 use Rattle.cc_replies.specs.ReplyTexts.{Reply, reply_text}
 use Rattle.cc_replies.specs.Requests.{no_module}
 use Rattle.cc_conversation.specs.Conversations.{Standing, Rests, IsSpoken, spoken_reply}
+use Rattle.cc_item_reading.specs.Sayings.{item_limit}
 
--- The lines of each job are answered as the job is: by the same replies, each with an empty line behind it. Nothing is
--- open then. So it is with each front of a job that is one by itself.
+-- The lines of each job that is no longer than a job may be are answered as the job is: by the same replies, each with an
+-- empty line behind it. Nothing is open then. So it is with each front of a job that is one by itself.
 abbrev pub JobsAreSpoken : Type 0
 JobsAreSpoken =
-    (bytes : List ℕ) (job : Job) → IsJob bytes job → (text : List ℕ) (refused : Bool)
+    (bytes : List ℕ) (job : Job) → IsJob bytes job → length bytes ≤ item_limit → (text : List ℕ) (refused : Bool)
     → IsOutput job.devices no_module (requests_of job) text refused
     → (replies : List Reply) × (text ≡ flat_map (reply_text (device_names job.devices)) replies)
     × IsSpoken (lines_of bytes) (flat_map (spoken_reply job.devices) replies) refused Rests

@@ -1,11 +1,11 @@
 -- A conversation: lines in the form of those of a job, of which each command is answered before more is read. What belongs
--- to the lines that were said is said here of all lines so far at once, in whatever pieces they came.
-use Rattle.std.specs.Prelude.{◌≡◌, ◌≢◌, ℕ, suc, ◌+◌, ◌<◌, ◌⊎◌, Bool, true, false, ◌||◌}
-use Rattle.std.specs.Prelude.{List, [], ◌∷◌, ◌++◌, length, map}
-use Rattle.std.specs.List.{IsDistinct}
-use Rattle.std.specs.Str.{bytes_eq}
+-- to the lines that were said is said here of all lines so far at once. No program speaks so yet.
+use Rattle.std.specs.Prelude.{◌≡◌, ◌≢◌, ℕ, suc, ◌+◌, ◌<◌, ◌≤◌, ◌⊎◌, Bool, true, false, ◌||◌}
+use Rattle.std.specs.Prelude.{List, [], ◌∷◌, ◌++◌, length}
 use Rattle.cc_base.specs.declared.device.DeviceDecl.{DeviceDecl}
-use Rattle.cc_job.specs.Jobs.{Item, Declares, Commands, IsItem, item_lines, skipped, first_line}
+use Rattle.cc_job.specs.Jobs.{Item, Declares, Commands, item_lines, skipped, first_line}
+use Rattle.cc_item_reading.specs.Sayings as sayings
+use Rattle.cc_item_reading.specs.Sayings.{size, item_limit}
 use Rattle.cc_mnf.specs.ElaboratedModules.{device_names}
 use Rattle.cc_words.specs.Lines.{Line}
 use Rattle.cc_answers.specs.Requests.{request_of}
@@ -23,16 +23,9 @@ pub record Moment : Type 0 where
 abbrev pub beginning : Moment
 beginning = record { devices = []; begun = false; state = no_module }
 
--- A device may be declared before the first command, where there are fewer than 16, by a name that none of them has.
-pub record MayDeclare (moment : Moment) (device : DeviceDecl) : Type 0 where
-  pub early : moment.begun ≡ false
-  pub few : length moment.devices < 16
-  pub names : IsDistinct bytes_eq (map (λ it. it.name) (moment.devices ++ device ∷ []))
-
--- an item may be said: a device that may be declared, or a command
+-- an item may be said at the moment
 abbrev pub MaySay : Moment → Item → Type 0
-MaySay moment (Declares device) = IsItem (Declares device) × MayDeclare moment device
-MaySay moment (Commands command) = IsItem (Commands command)
+MaySay moment item = sayings.MaySay moment.devices moment.begun item
 
 -- what has been said behind an item
 abbrev pub behind : Moment → Item → Moment
@@ -52,42 +45,48 @@ Answers moment (Commands command) text refused =
     (reply : Reply) × Replies moment.devices moment.state (request_of command) reply
     × (text ≡ spoken_reply moment.devices reply) × (refused ≡ is_refusal reply)
 
--- some item may be said next whose lines begin with these
+-- some item may be said at the moment whose lines begin with these
 abbrev pub GoesOn : Moment → List Line → Type 0
-GoesOn moment lines =
-    (item : Item) × (missing : List Line) × MaySay moment item × (item_lines item ≡ lines ++ missing)
+GoesOn moment lines = sayings.GoesOn moment.devices moment.begun lines
 
 -- and it has more lines than these
 abbrev pub IsOpen : Moment → List Line → Type 0
-IsOpen moment lines =
-    (item : Item) × (next : Line) × (missing : List Line) × MaySay moment item
-    × (item_lines item ≡ lines ++ next ∷ missing)
+IsOpen moment lines = sayings.IsOpen moment.devices moment.begun lines
 
--- How a conversation stands: nothing is open; the lines of an item have begun, and some are missing; or it ended at a line
--- with which no item goes on, by its number.
+-- How a conversation stands: nothing is open; the lines of an item have begun, which have so many bytes so far, and some are
+-- missing; or it ended at a line with which no item goes on, by its number; or at one with which an item has more bytes
+-- than it may.
 pub data Standing : Type 0 where
   Rests : Standing
-  Begun : Standing
+  Begun : (bytes : ℕ) → Standing
   EndedAt : (number : ℕ) → Standing
+  Overlong : Standing
 
 -- What is written for the last of so many lines, whether a reply is a refusal, and how the conversation stands then.
 pub data Says (total : ℕ) : Moment → List Line → List ℕ → Bool → Standing → Type 0 where
   rests : {moment : Moment} {lines : List Line} → skipped lines ≡ [] → Says total moment lines [] false Rests
   begins : {moment : Moment} {lines : List Line} → skipped lines ≢ [] → IsOpen moment (skipped lines)
-      → Says total moment lines [] false Begun
+      → size (skipped lines) ≤ item_limit → Says total moment lines [] false (Begun (size (skipped lines)))
   ends : {moment : Moment} {lines : List Line} (front : List Line) (bad : Line) (rest : List Line) (place : ℕ)
       → skipped lines ≡ front ++ bad ∷ rest → (front ≡ []) ⊎ IsOpen moment front
-      → (GoesOn moment (front ++ bad ∷ []) → ⊥) → place + length rest ≡ total
+      → (GoesOn moment (front ++ bad ∷ []) → ⊥) → size (front ++ bad ∷ []) ≤ item_limit → place + length rest ≡ total
       → Says total moment lines [] false (EndedAt place)
+  exceeds : {moment : Moment} {lines : List Line} (front : List Line) (next : Line) (rest : List Line)
+      → skipped lines ≡ front ++ next ∷ rest → (front ≡ []) ⊎ IsOpen moment front
+      → size front ≤ item_limit → item_limit < size (front ++ next ∷ [])
+      → Says total moment lines [] false Overlong
   goes_on : {moment : Moment} {lines : List Line} {standing : Standing} (item : Item) (others : List Line)
       (text rest : List ℕ) (refused later : Bool) → MaySay moment item → skipped lines ≡ item_lines item ++ others
-      → Answers moment item text refused → Says total (behind moment item) others rest later standing
+      → size (item_lines item) ≤ item_limit → Answers moment item text refused
+      → Says total (behind moment item) others rest later standing
       → Says total moment lines (text ++ rest) (refused || later) standing
 
 -- The same from the first line on.
 pub data IsSpoken : List Line → List ℕ → Bool → Standing → Type 0 where
   nothing : IsSpoken [] [] false Rests
-  stranger : {line : Line} {lines : List Line} → line ≢ first_line → IsSpoken (line ∷ lines) [] false (EndedAt 1)
+  overlong : {line : Line} {lines : List Line} → item_limit < size (line ∷ []) → IsSpoken (line ∷ lines) [] false Overlong
+  stranger : {line : Line} {lines : List Line} → line ≢ first_line → size (line ∷ []) ≤ item_limit
+      → IsSpoken (line ∷ lines) [] false (EndedAt 1)
   opened : {lines : List Line} {text : List ℕ} {refused : Bool} {standing : Standing}
       → Says (suc (length lines)) beginning lines text refused standing
       → IsSpoken (first_line ∷ lines) text refused standing

@@ -1,5 +1,5 @@
 //! Conversations: lines in the form of those of a job, of which each command is answered before more is read. What is said
-//! in them and what is answered, and its laws. The functions do nothing.
+//! in them and what is answered, its laws, and worked examples.
 #![tactic(auto)]
 
 pub mod conversation_laws;

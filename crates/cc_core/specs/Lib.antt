@@ -1,6 +1,5 @@
 pub mod ActingShapes
 pub mod Actions
-pub mod Binders
 pub mod Captured
 pub mod Changes
 pub mod ClosedEntries
@@ -33,4 +32,5 @@ pub mod TermViews
 pub mod Terms
 pub mod Traversal
 pub mod Typing
+pub mod WaitingTests
 pub mod WellFormed

@@ -86,7 +86,7 @@ device_first (first ∷ devices) commands device others (one ∷ all) orders e =
     declared : Declares first ≡ Declares one → one ≡ first
     declared h = cc
 
-any_before : (device : DeviceDecl) (devices more : List DeviceDecl) → IsDistinct bytes_eq (names_of (devices ++ device ∷ more)) → has_device devices device ≡ false
+pub any_before : (device : DeviceDecl) (devices more : List DeviceDecl) → IsDistinct bytes_eq (names_of (devices ++ device ∷ more)) → has_device devices device ≡ false
 unfolding IsDistinct
 any_before device [] more apart = refl
 any_before device (other ∷ devices) more apart = rw (differs (devices) apart.0, any_before device devices more apart.1) refl
@@ -194,7 +194,7 @@ bad_line bytes before line behind number spelled begins place refuses =
         ∙ take_at (before ++ line ∷ []) behind number size
 
 -- a line with nothing in it
-abbrev blank_line : Line
+abbrev pub blank_line : Line
 blank_line = []
 
 -- a text that is cut short
@@ -223,15 +223,15 @@ no_cut_of_nothing : (behind : List ℕ) → text_cut 0 behind ≡ None → ⊥
 no_cut_of_nothing [] h = cc
 no_cut_of_nothing (b ∷ bs) h = cc
 
-blanks_lack : (n : ℕ) → AllLack 10 (replicate n blank_line)
+pub blanks_lack : (n : ℕ) → AllLack 10 (replicate n blank_line)
 blanks_lack zero = tt
 blanks_lack (suc n) = (tt, blanks_lack n)
 
-all_any : (n : ℕ) → AllByRecursion IsRule (replicate n any_rule)
+pub all_any : (n : ℕ) → AllByRecursion IsRule (replicate n any_rule)
 all_any zero = tt
 all_any (suc n) = ((tt, tt), all_any n)
 
-all_append : (rules others : List Rule) → AllByRecursion IsRule rules → AllByRecursion IsRule others → AllByRecursion IsRule (rules ++ others)
+pub all_append : (rules others : List Rule) → AllByRecursion IsRule rules → AllByRecursion IsRule others → AllByRecursion IsRule (rules ++ others)
 all_append [] others are all = all
 all_append (rule ∷ rules) others are all = (are.0, all_append rules others are.1 all)
 

@@ -270,6 +270,15 @@ is_admitted devices commands (PolicyHead count) = true
 is_admitted devices commands (ReplayHead owner definition fuel count) = true
 is_admitted devices commands (CommandHead command) = true
 
+-- the same where commands are not counted, but it is told whether one was given
+abbrev pub may_stand : List DeviceDecl → Bool → Head → Bool
+may_stand devices begun (Device device) = not begun && nat_lt (length devices) 16 && not (has_device devices device)
+may_stand devices begun (PutHead name count) = true
+may_stand devices begun (VerifyHead count) = true
+may_stand devices begun (PolicyHead count) = true
+may_stand devices begun (ReplayHead owner definition fuel count) = true
+may_stand devices begun (CommandHead command) = true
+
 -- the devices and the commands, with what a line and the text and the rules behind it say
 abbrev pub devices_with : List DeviceDecl → Head → List DeviceDecl
 devices_with devices (Device device) = devices ++ device ∷ []

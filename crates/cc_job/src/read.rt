@@ -3,7 +3,7 @@
 ghost use Rattle.std.specs.Prelude.{◌≡◌, ◌+◌, ◌-◌, ◌^◌, ◌<◌, length, OnOk, IfOk};
 ghost use Rattle.cc_words.specs.Lines.{text_cut};
 ghost use Rattle.cc_job.specs.Jobs.{ReadsJob};
-ghost use Rattle.cc_job.specs.Reading.{text_size, rule_count, lines_behind, has_device, admits, is_admitted, devices_with, commands_with, rules_in, next_rules, next_text, next_item, IsStep};
+ghost use Rattle.cc_job.specs.Reading.{text_size, rule_count, lines_behind, has_device, admits, is_admitted, may_stand, devices_with, commands_with, rules_in, next_rules, next_text, next_item, IsStep};
 
 use crate::head::{Head, head_of};
 use crate::job::{Command, CommandList, DeviceList, Job, JobError};
@@ -14,8 +14,8 @@ use cc_policy::policy::Policy;
 use cc_words::lines::{line_count, next_line, text_cut};
 use std::alloc::{AllocError, Global};
 
-// How many lines of text stand behind the line.
-fn text_size(head: &Head) -> u32
+/// How many lines of text stand behind the line.
+pub fn text_size(head: &Head) -> u32
     ensures { result ≡ text_size head.now }
 {
     match head {
@@ -28,8 +28,8 @@ fn text_size(head: &Head) -> u32
     }
 }
 
-// How many lines of rules.
-fn rule_count(head: &Head) -> u32
+/// How many lines of rules.
+pub fn rule_count(head: &Head) -> u32
     ensures { result ≡ rule_count head.now }
 {
     match head {
@@ -76,6 +76,21 @@ fn is_admitted(devices: &[DeviceDecl], commands: &[Command], head: &Head) -> boo
 {
     match head {
         Head::Device(device) => admits(devices, commands, device),
+        Head::Put(_, _) => true,
+        Head::Verify(_) => true,
+        Head::Policy(_) => true,
+        Head::Replay(_, _, _, _) => true,
+        Head::Command(_) => true,
+    }
+}
+
+/// Whether what the line says may be said behind these devices: where it declares one, there is no command yet, there are
+/// less than 16 devices, and none has its name.
+pub fn may_stand(devices: &[DeviceDecl], begun: bool, head: &Head) -> bool
+    ensures { result ≡ may_stand devices.now begun head.now }
+{
+    match head {
+        Head::Device(device) => !begun && devices.len() < 16 && !has_device(devices, device),
         Head::Put(_, _) => true,
         Head::Verify(_) => true,
         Head::Policy(_) => true,

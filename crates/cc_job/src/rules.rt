@@ -61,9 +61,9 @@ fn rule_with(alloc: Global, word: &[u8], rest: &[&[u8]]) -> Result<Option<Rule>,
     }))
 }
 
-// The rule that a line is, if it is one.
+/// The rule that a line is, if it is one.
 #[tactic(auto, unfolding(crate::specs::Reading::rule_of))]
-fn rule_of(alloc: Global, line: &[u8]) -> Result<Option<Rule>, AllocError>
+pub fn rule_of(alloc: Global, line: &[u8]) -> Result<Option<Rule>, AllocError>
     ensures { IfOk result (λ rule. rule ≡ rule_of line.now) }
 {
     let words = split_at(alloc, line, b' ')?;

@@ -318,13 +318,16 @@ struct Entries {
 }
 
 // Whether the entry, as it stands in a key, is well formed in the context.
-fn is_well_formed(ctx: &Ctx, bind: &Bind) -> bool
-    ensures { IsTrue result → is_well_formed_entry (kinds_of (context_of ctx.now)) (bind_of bind.now) ≡ true }
+fn is_well_formed(alloc: Global, ctx: &Ctx, bind: &Bind) -> Result<bool, AllocError>
+    ensures { IfOk result (λ w. IsTrue w → is_well_formed_entry (kinds_of (context_of ctx.now)) (bind_of bind.now) ≡ true) }
 {
     match bind {
-        Bind::Var(ty) => wf_shape(ctx, &ty.shape) && wf_set(ctx, &ty.set),
-        Bind::TVar(bound) => wf_shape(ctx, bound),
-        Bind::Unread { .. } => false,
+        Bind::Var(ty) => {
+            let fits = wf_shape(alloc, ctx, &ty.shape)?;
+            Ok(fits && wf_set(ctx, &ty.set))
+        }
+        Bind::TVar(bound) => wf_shape(alloc, ctx, bound),
+        Bind::Unread { .. } => Ok(false),
     }
 }
 
@@ -357,7 +360,7 @@ fn with_entry(alloc: Global, before: &Entries, bind: &Bind) -> Result<Option<Ent
     ensures formed { IfOk result (λ o. IfSome o (λ e. IsWellFormedContext (context_of e.whole))) }
     ensures stands { IfOk result (λ o. IfSome o (λ e. (base : Context) → context_of before.now.whole ≡ context_of before.now.own ++ base → context_of e.whole ≡ context_of e.own ++ base)) }
 {
-    if !is_well_formed(&before.whole, bind) {
+    if !is_well_formed(alloc, &before.whole, bind)? {
         return Ok(None);
     }
     let first = copy_entry(bind)?;
@@ -386,18 +389,18 @@ fn entries_of(alloc: Global, base: &Ctx, binds: &[Bind]) -> Result<Option<Entrie
 }
 
 // Whether the shape is well formed in the context.
-fn is_well_formed_shape(ctx: &Ctx, shape: &Rc<Shape>) -> bool
-    ensures { IsTrue result → IsWellFormedShape (context_of ctx.now) (shape_of shape.now.value) }
+fn is_well_formed_shape(alloc: Global, ctx: &Ctx, shape: &Rc<Shape>) -> Result<bool, AllocError>
+    ensures { IfOk result (λ w. IsTrue w → IsWellFormedShape (context_of ctx.now) (shape_of shape.now.value)) }
 {
-    wf_shape(ctx, shape)
+    wf_shape(alloc, ctx, shape)
 }
 
 // Whether the variable is a type variable of the context.
-fn is_name(ctx: &Ctx, variable: Var) -> bool
-    ensures { IsTrue result → IsWellFormedShape (context_of ctx.now) (TypeVariable variable) }
+fn is_name(alloc: Global, ctx: &Ctx, variable: Var) -> Result<bool, AllocError>
+    ensures { IfOk result (λ w. IsTrue w → IsWellFormedShape (context_of ctx.now) (TypeVariable variable)) }
 {
     let name = Shape::TVar(variable);
-    wf_shape(ctx, &name)
+    wf_shape(alloc, ctx, &name)
 }
 
 // The same shape, shared.
@@ -426,10 +429,10 @@ fn pair_with(
     requires whole { context_of entries.whole ≡ context_of entries.own ++ context_of base.now }
     ensures { IfOk result (λ o. IfSome o (λ pair. (log : List Placed) → is_matched (length (context_of base.now)) log (context_of ctx.now) lost steps variable (shape_of right.now.value) ≡ true → is_keyed log (context_of base.now) pair ≡ true)) }
 {
-    if !is_name(&entries.whole, key.variable) {
+    if !is_name(alloc, &entries.whole, key.variable)? {
         return Ok(None);
     }
-    if !is_well_formed_shape(&entries.whole, &key.right) {
+    if !is_well_formed_shape(alloc, &entries.whole, &key.right)? {
         return Ok(None);
     }
     let to = key.places.as_slice();

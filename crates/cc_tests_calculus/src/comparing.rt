@@ -31,7 +31,10 @@ enum Compared {
 fn comparison(alloc: Global, ctx: &Ctx, left: &Ty, right: &Ty) -> Result<Compared, AllocError>
     requires { IsWellFormedContext (context_of ctx.now) }
 {
-    if !wf(ctx, left) || !wf(ctx, right) {
+    if !wf(alloc, ctx, left)? {
+        return Ok(Compared::IllFormed);
+    }
+    if !wf(alloc, ctx, right)? {
         return Ok(Compared::IllFormed);
     }
     let mut demands = Demands::new(alloc);
@@ -143,7 +146,10 @@ fn kept_often(
     requires { IsWellFormedContext (context_of ctx.now) }
 {
     let mut kept = Some(0);
-    if !wf(ctx, left) || !wf(ctx, right) {
+    if !wf(alloc, ctx, left)? {
+        return Ok(None);
+    }
+    if !wf(alloc, ctx, right)? {
         return Ok(None);
     }
     for _index in 0..times {
@@ -209,7 +215,7 @@ fn a_chain_of_type_variables_is_exposed(rt: HostRuntime) -> Result<(), AllocErro
     let alloc = rt.alloc();
     let ctx = variables(alloc, 99)?;
     let newest = Rc::new(alloc, Shape::TVar(Var::Free(99)))?;
-    assert!(rt; wf_shape(&ctx, &newest));
+    assert!(rt; wf_shape(alloc, &ctx, &newest)?);
     assert!(rt; same_shape(expose(&ctx, &newest), &Shape::Base(Base::Int)));
     Ok(())
 }

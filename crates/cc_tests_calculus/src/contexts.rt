@@ -69,7 +69,7 @@ pub fn declared(alloc: Global, ctx: &Ctx, ty: Ty) -> Result<Ctx, AllocError>
     requires { IsWellFormedContext (context_of ctx.now) }
     ensures { IfOk result (λ c. IsWellFormedContext (context_of c)) }
 {
-    if wf(ctx, &ty) {
+    if wf(alloc, ctx, &ty)? {
         ctx.push(alloc, Bind::Var(ty))
     } else {
         ctx.clone()
@@ -81,7 +81,7 @@ pub fn bounded(alloc: Global, ctx: &Ctx, bound: Shape) -> Result<Ctx, AllocError
     requires { IsWellFormedContext (context_of ctx.now) }
     ensures { IfOk result (λ c. IsWellFormedContext (context_of c)) }
 {
-    if wf_shape(ctx, &bound) {
+    if wf_shape(alloc, ctx, &bound)? {
         ctx.push(alloc, Bind::TVar(Rc::new(alloc, bound)?))
     } else {
         ctx.clone()

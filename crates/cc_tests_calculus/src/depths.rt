@@ -42,10 +42,10 @@ fn long_chains_of_lets_are_dropped(rt: HostRuntime) -> Result<(), AllocError> {
 fn deep_terms_are_walked(rt: HostRuntime) -> Result<(), AllocError> {
     let alloc = rt.alloc();
     let term = nested_lets(alloc, 10000)?;
-    assert!(rt; wf_term(&Ctx::new(), &term));
+    assert!(rt; wf_term(alloc, &Ctx::new(), &term)?);
     assert!(rt; cv(alloc, &term)?.is_empty());
     let opened = instantiate_term(alloc, &term, 3)?;
-    assert!(rt; wf_term(&Ctx::new(), &opened));
+    assert!(rt; wf_term(alloc, &Ctx::new(), &opened)?);
     Ok(())
 }
 
@@ -62,7 +62,7 @@ fn deep_types_are_walked(rt: HostRuntime) -> Result<(), AllocError> {
     let set = CapSet::new(alloc);
     let ty = Ty { shape, set };
     assert!(rt; size(&ty) == 4096);
-    assert!(rt; wf(&Ctx::new(), &ty));
+    assert!(rt; wf(alloc, &Ctx::new(), &ty)?);
     let opened = instantiate(alloc, &ty, 3)?;
     assert!(rt; same_type(&opened, &ty));
     Ok(())

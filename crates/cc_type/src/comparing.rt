@@ -71,10 +71,13 @@ fn remember(
     requires { IsWellFormedShape (context_of base.now) (shape_of left.now) → IsWellFormedShape (context_of base.now) (shape_of right.now) → is_compared_as most_steps (asked_of log.old.demands) (context_of base.now) (shape_of left.now) (shape_of right.now) ≡ true }
     ensures { log.new.demands ≡ log.old.demands }
 {
-    if wf_shape(base, left) && wf_shape(base, right) {
-        return log.remember_compared(alloc, base, left, right);
+    if !wf_shape(alloc, base, left)? {
+        return Ok(());
     }
-    Ok(())
+    if !wf_shape(alloc, base, right)? {
+        return Ok(());
+    }
+    log.remember_compared(alloc, base, left, right)
 }
 
 // Goes over the two shapes, and remembers where nothing of them has to be kept when they come again.

@@ -468,10 +468,10 @@ fn keep_bound(
         return keep_shapes(alloc, ctx, bound, right, at, log, steps, false);
     }
     let name = Shape::TVar(variable);
-    if !wf_shape(&log.known.base, &name) {
+    if !wf_shape(alloc, &log.known.base, &name)? {
         return keep_own(alloc, ctx, variable, bound, right, at, log, steps);
     }
-    if !wf_shape(&log.known.base, right) {
+    if !wf_shape(alloc, &log.known.base, right)? {
         return keep_own(alloc, ctx, variable, bound, right, at, log, steps);
     }
     if log.known.matches(variable, right, steps, false) {

@@ -74,7 +74,7 @@ pub fn function_given(
     ensures { IfOk result (λ o. (body : Term) → set ≡ captured_variables (FunctionTerm (type_of takes).shape (type_of takes).set body)
         → option_map type_of o ≡ plain.function_given (context_of ctx.now) (type_of takes).shape (type_of takes).set body (type_of gives.now)) }
 {
-    if !wf(ctx, &takes) {
+    if !wf(alloc, ctx, &takes)? {
         return Ok(None);
     }
     let gives = close_type(alloc, gives, ctx.len())?;
@@ -96,7 +96,7 @@ pub fn type_function_given(
     ensures { IfOk result (λ o. (body : Term) → set ≡ captured_variables (TypeFunctionTerm (shape_of bound.value) body)
         → option_map type_of o ≡ plain.type_function_given (context_of ctx.now) (shape_of bound.value) body (type_of gives.now)) }
 {
-    if !wf_shape(ctx, &bound) {
+    if !wf_shape(alloc, ctx, &bound)? {
         return Ok(None);
     }
     let gives = close_type(alloc, gives, ctx.len())?;
@@ -141,9 +141,13 @@ pub fn type_application_given(
 {
     match head {
         Shape::TFun(bound, gives) => {
-            let fits = same_shape(left, argument)
-                && (same_shape(right, bound) && wf_shape(ctx, argument));
-            if !fits {
+            if !same_shape(left, argument) {
+                return Ok(None);
+            }
+            if !same_shape(right, bound) {
+                return Ok(None);
+            }
+            if !wf_shape(alloc, ctx, argument)? {
                 return Ok(None);
             }
             let ty = subst_type(alloc, gives, argument)?;
@@ -300,8 +304,10 @@ pub fn boundary_given(
     ensures { IfOk result (λ o. option_map type_of o ≡ plain.boundary_given (context_of ctx.now) (shape_of gives.now.value) (type_of inner.now)) }
 {
     let ty = pure_type(alloc, gives)?;
-    let fits = same_type(inner, &ty) && wf_shape(ctx, gives);
-    if !fits {
+    if !same_type(inner, &ty) {
+        return Ok(None);
+    }
+    if !wf_shape(alloc, ctx, gives)? {
         return Ok(None);
     }
     Ok(Some(ty))
@@ -320,8 +326,10 @@ pub fn exit_given(
     match exit {
         Shape::Exit(shape) => {
             let taken = pure_type(alloc, shape)?;
-            let fits = same_type(value, &taken) && wf(ctx, gives);
-            if !fits {
+            if !same_type(value, &taken) {
+                return Ok(None);
+            }
+            if !wf(alloc, ctx, gives)? {
                 return Ok(None);
             }
             let ty = gives.clone()?;
@@ -332,11 +340,19 @@ pub fn exit_given(
 }
 
 /// The upper type, where the lower one is the type of the term.
-pub fn widened(ctx: &Ctx, ty: &Ty, lower: &Ty, upper: &Ty) -> Result<Option<Ty>, AllocError>
+pub fn widened(
+    alloc: Global,
+    ctx: &Ctx,
+    ty: &Ty,
+    lower: &Ty,
+    upper: &Ty,
+) -> Result<Option<Ty>, AllocError>
     ensures { IfOk result (λ o. option_map type_of o ≡ plain.widened (context_of ctx.now) (type_of ty.now) (type_of lower.now) (type_of upper.now)) }
 {
-    let fits = same_type(lower, ty) && wf(ctx, upper);
-    if !fits {
+    if !same_type(lower, ty) {
+        return Ok(None);
+    }
+    if !wf(alloc, ctx, upper)? {
         return Ok(None);
     }
     let ty = upper.clone()?;

@@ -65,13 +65,13 @@ fn three(alloc: Global, first: Spot, second: Spot, third: Spot) -> Result<Spots,
 
 // Among how many entries the term is read as it is: all of the context, where each of its variables has its entry or its
 // binder.
-fn entries_read(ctx: &Ctx, node: &Node) -> u32
-    ensures { read_term result (term_of node.now) ≡ term_of node.now }
+fn entries_read(alloc: Global, ctx: &Ctx, node: &Node) -> Result<u32, AllocError>
+    ensures { IfOk result (λ n. read_term n (term_of node.now) ≡ term_of node.now) }
 {
-    if wf_term(ctx, node) {
-        entries_of(ctx)
+    if wf_term(alloc, ctx, node)? {
+        Ok(entries_of(ctx))
     } else {
-        0
+        Ok(0)
     }
 }
 
@@ -88,7 +88,7 @@ fn typing_read(ctx: &Ctx, term: &KnownTerm, entries: u32) -> Result<Spot, AllocE
 pub fn typing(alloc: Global, ctx: &Ctx, node: &Rc<Node>) -> Result<Spot, AllocError>
     ensures { IfOk result (λ s. place_of s ≡ plain.TypeOf (context_of ctx.now) (term_of node.now.value)) }
 {
-    let entries = entries_read(ctx, node);
+    let entries = entries_read(alloc, ctx, node)?;
     let term = unknown(alloc, node)?;
     typing_read(ctx, &term, entries)
 }

@@ -333,12 +333,12 @@ fn exit(
     }
 }
 
-fn subsumption(ctx: &Ctx, premises: &Premises, ty: &Ty) -> Result<bool, AllocError>
+fn subsumption(alloc: Global, ctx: &Ctx, premises: &Premises, ty: &Ty) -> Result<bool, AllocError>
     ensures { IfOk result (λ b. b ≡ plain.is_given (type_of ty.now) (plain.of_type_and_types (plain.widened (context_of ctx.now)) (claims_of (premises_of premises.now)))) }
 {
     match type_and_types(premises) {
         Some((found, lower, upper)) => {
-            let result = given::widened(ctx, found, lower, upper)?;
+            let result = given::widened(alloc, ctx, found, lower, upper)?;
             Ok(is_given(ty, &result))
         }
         None => Ok(false),
@@ -442,7 +442,7 @@ pub fn typing_instance(
             Form::Leave(gives, _, _) => exit(alloc, ctx, gives, entries, premises, ty),
             _ => Ok(false),
         },
-        Rule::Subsumption => subsumption(ctx, premises, ty),
+        Rule::Subsumption => subsumption(alloc, ctx, premises, ty),
         _ => Ok(false),
     }
 }

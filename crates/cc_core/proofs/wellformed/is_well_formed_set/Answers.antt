@@ -1,7 +1,7 @@
 use Rattle.std.proofs.Common.{sym, ◌∙◌}
 use Rattle.std.proofs.lemmas.Iterator.Consumers.{YieldsList-from_first, YieldsList-turn, YieldsList-end}
 use Rattle.cc_core.specs.WellFormed.{kinds_of, is_well_formed_element}
-use Rattle.cc_core.specs.Binders.{passed_kinds}
+use Rattle.cc_core.specs.WaitingTests.{passed_kinds}
 use Rattle.cc_core.specs.TermViews.{context_of}
 use Rattle.cc_core.proofs.CallLemmas.{all-fails, all-push, all-gone}
 use Rattle.cc_core.proofs.wellformed.is_well_formed_set.Goals as goal

@@ -1,7 +1,7 @@
 use Rattle.std.proofs.Common.{◌≡◌, true}
 use Rattle.std.specs.List.{list_all}
 use Rattle.cc_core.specs.WellFormed.{kinds_of, is_well_formed_element}
-use Rattle.cc_core.specs.Binders.{passed_kinds}
+use Rattle.cc_core.specs.WaitingTests.{passed_kinds}
 use Rattle.cc_core.specs.TermViews.{context_of}
 use Rattle.cc_core.proofs.wellformed.is_well_formed_set.Given as goal
 

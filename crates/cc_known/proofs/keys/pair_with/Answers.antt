@@ -18,9 +18,9 @@ returns c = λ log matched.
     (matches_keyed (length base) log small (context_of c.args.ctx.now) (renamed_by c.as_slice-to.result.now) name c.args.variable key
     (shape_of c.args.right.now.value) c.args.steps c.args.lost
     (let long = length-append (context_of c.args.entries.own) base in omega (arith, long))
-    (c.in_ok-stand_in.ensures c.if-not-branch-2.false).1 (subst IsWellFormedContext c.requires.whole c.requires.formed) c.requires.context
-    (c.in_ok-stand_in.ensures c.if-not-branch-2.false).0
-    (subst (λ g. IsWellFormedShape g (TypeVariable name)) c.requires.whole (c.is_name.ensures c.if-not-is_name.false))
-    (subst (λ g. IsWellFormedShape g key) c.requires.whole (c.is_well_formed_shape.ensures c.if-not-is_well_formed_shape.false))
-    (c.is_renamed_name.ensures c.if-not-is_renamed_name.false) (c.in_ok-is_renamed.ensures c.if-not-branch.false)
+    (c.in_ok-stand_in.ensures c.if-not-branch-4.false).1 (subst IsWellFormedContext c.requires.whole c.requires.formed) c.requires.context
+    (c.in_ok-stand_in.ensures c.if-not-branch-4.false).0
+    (subst (λ g. IsWellFormedShape g (TypeVariable name)) c.requires.whole (c.in_ok-is_name.ensures c.if-not-branch.false))
+    (subst (λ g. IsWellFormedShape g key) c.requires.whole (c.in_ok-is_well_formed_shape.ensures c.if-not-branch-2.false))
+    (c.is_renamed_name.ensures c.if-not-is_renamed_name.false) (c.in_ok-is_renamed.ensures c.if-not-branch-3.false)
     matched)

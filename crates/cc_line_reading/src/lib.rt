@@ -1,0 +1,4 @@
+//! Reading a source line by line.
+#![tactic(auto)]
+
+pub mod lines;

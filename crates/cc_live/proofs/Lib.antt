@@ -1,0 +1,11 @@
+pub mod AlikeLives
+pub mod AnsweredLives
+pub mod AskedTurns
+pub mod GoingOn
+pub mod HeardLines
+pub mod LiveSteps
+pub mod LiveTexts
+pub mod QuietSteps
+pub mod SafeLives
+pub mod TakenTurns
+pub mod WorkedLives

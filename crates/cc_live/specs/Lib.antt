@@ -1,0 +1,5 @@
+pub mod LiveRuns
+pub mod LiveLaws
+pub mod LiveEnds
+pub mod LiveTurns
+pub mod LiveExamples
