@@ -1,13 +1,14 @@
 -- A conversation: lines in the form of those of a job, of which each command is answered before more is read. What belongs
--- to the lines that were said is said here of all lines so far at once. No program speaks so yet.
-use Rattle.std.specs.Prelude.{◌≡◌, ◌≢◌, ℕ, suc, ◌+◌, ◌<◌, ◌≤◌, ◌⊎◌, Bool, true, false, ◌||◌}
-use Rattle.std.specs.Prelude.{List, [], ◌∷◌, ◌++◌, length}
+-- to the lines that were said is said here of all lines so far at once, in whatever pieces they came.
+use Rattle.std.specs.Prelude.{◌≡◌, ◌≢◌, ℕ, suc, ◌+◌, ◌<◌, ◌≤◌, nat_lt, ◌⊎◌, Bool, true, false, ◌||◌, if◌then◌else◌}
+use Rattle.std.specs.Prelude.{List, [], ◌∷◌, ◌++◌, length, map, None}
 use Rattle.cc_base.specs.declared.device.DeviceDecl.{DeviceDecl}
 use Rattle.cc_job.specs.Jobs.{Item, Declares, Commands, item_lines, skipped, first_line}
 use Rattle.cc_item_reading.specs.Sayings as sayings
 use Rattle.cc_item_reading.specs.Sayings.{size, item_limit}
 use Rattle.cc_mnf.specs.ElaboratedModules.{device_names}
-use Rattle.cc_words.specs.Lines.{Line}
+use Rattle.cc_words.specs.Lines.{Line, lines_of, AreWholeLines}
+use Rattle.cc_words.specs.Words.{cut_at}
 use Rattle.cc_answers.specs.Requests.{request_of}
 use Rattle.cc_replies.specs.Replies.{Replies, after}
 use Rattle.cc_replies.specs.ReplyTexts.{Reply, reply_text, is_refusal}
@@ -90,3 +91,22 @@ pub data IsSpoken : List Line → List ℕ → Bool → Standing → Type 0 wher
   opened : {lines : List Line} {text : List ℕ} {refused : Bool} {standing : Standing}
       → Says (suc (length lines)) beginning lines text refused standing
       → IsSpoken (first_line ∷ lines) text refused standing
+
+-- how it stands where so many bytes of a further line came
+abbrev pub with_part : Standing → ℕ → Standing
+with_part Rests part = if nat_lt part item_limit then Rests else Overlong
+with_part (Begun bytes) part = if nat_lt (bytes + part) item_limit then Begun bytes else Overlong
+with_part (EndedAt number) part = EndedAt number
+with_part Overlong part = Overlong
+
+-- What is answered to bytes that came so far, in whatever pieces: what is answered to their lines. A last line that has not
+-- its line feed yet is none.
+pub record IsHeard (bytes text : List ℕ) (refused : Bool) (standing : Standing) : Type 0 where
+  pub whole : List ℕ
+  pub part : List ℕ
+  pub split : bytes ≡ whole ++ part
+  pub are_whole : AreWholeLines whole
+  pub no_feed : cut_at 10 part ≡ None
+  pub before : Standing
+  pub spoken : IsSpoken (lines_of whole) text refused before
+  pub stands : standing ≡ with_part before (length part)

@@ -9,7 +9,7 @@ pub fn jobs_are_spoken()
     ensures others { RestingLinesAreAJob }
 {}
 
-/// What a host is answered is determined by the lines that it sent.
+/// What a host is answered is determined by the lines that it sent, in whatever pieces they came.
 pub fn lines_have_one_answer()
     ensures { LinesHaveOneAnswer }
 {}
