@@ -1,7 +1,7 @@
 #!/usr/bin/env bash
 # Runs the built programs on the examples of the pages, and on what needs a shell: streams that are closed, that cannot be
-# read or that take nothing, or not all, or that do not wait, standard input that is not to be read, and the deepest types on a small stack. All other
-# jobs, certificates and command lines stand in tests/.
+# read or that take nothing, or not all, or that do not wait, standard input that is not to be read, and the deepest types
+# and the highest certificates on a small stack. All other jobs, certificates and command lines stand in tests/.
 # It prints a line for each failure and a closing line where there is one, and nothing where all is as it must be.
 # Usage: .ci/programs.sh [PROGRAM ..]; with no program, those that `rt ci` leaves, and those that judge certificates.
 set -u
