@@ -1,3 +1,11 @@
+mod RunsOnce
 mod SpokenJobs
 mod SpokenOnce
+mod HeardOnce
 mod WorkedConversations
+mod Progressing
+mod Turning
+mod Ending
+mod HearingOn
+mod GoingOn
+mod OrderTurns

@@ -12,9 +12,9 @@ use Rattle.cc_answers.specs.Requests.{request_of}
 use Rattle.cc_replies.specs.Outputs.{IsOutput}
 use Rattle.cc_replies.specs.ReplyTexts.{Reply, reply_text, is_refusal}
 use Rattle.cc_replies.specs.Requests.{JobState, no_module}
-use Rattle.cc_conversation.specs.Conversations.{Moment, Says, IsSpoken, Rests, spoken_reply, behind}
+use Rattle.cc_conversation.specs.Conversations.{IsWithoutRun, Moment, Says, IsSpoken, Rests, spoken_reply, behind}
 use Rattle.cc_item_reading.specs.Sayings.{size, item_limit}
-use Rattle.cc_conversation.specs.Conversations.Says.{rests, goes_on}
+use Rattle.cc_conversation.specs.Conversations.Says.{rests, goes_on, runs, stops}
 use Rattle.cc_conversation.specs.Conversations.IsSpoken.{opened}
 use Rattle.cc_item_reading.proofs.Hearing.{size_both}
 use Rattle.cc_conversation.specs.ConversationLaws.{JobsAreSpoken, RestingLinesAreAJob}
@@ -132,8 +132,8 @@ record Rested (moment : Moment) (lines : List Line) : Type 0 where
   names : IsDistinct bytes_eq (names_of (moment.devices ++ devices))
 
 rested : {total : ℕ} {moment : Moment} {lines : List Line} {text : List ℕ} {refused : Bool} → length moment.devices ≤ 16
-    → IsDistinct bytes_eq (names_of moment.devices) → Says total moment lines text refused Rests → Rested moment lines
-rested {moment = moment} few apart (rests empty) = record {
+    → IsDistinct bytes_eq (names_of moment.devices) → (said : Says total moment lines text refused Rests) → IsWithoutRun said → Rested moment lines
+rested {moment = moment} few apart (rests empty) without = record {
   devices = [];
   commands = [];
   items = empty;
@@ -141,10 +141,10 @@ rested {moment = moment} few apart (rests empty) = record {
   few = subst (λ it. length it ≤ 16) (sym (append-nil moment.devices)) few;
   names = subst (λ it. IsDistinct bytes_eq (names_of it)) (sym (append-nil moment.devices)) apart;
 }
-rested {moment = moment} few apart (goes_on (Declares device) others text rest refused later may is short answers said) =
+rested {moment = moment} few apart (goes_on (Declares device) others text rest refused later may is short answers said) without =
     let own : length (moment.devices ++ device ∷ []) ≤ 16 =
     omega (arith, may.1.few, length-append moment.devices (device ∷ [])) in
-    let behind_it = rested own may.1.names said in
+    let behind_it = rested own may.1.names said without in
     let joined = append_assoc moment.devices (device ∷ []) behind_it.devices in record {
       devices = device ∷ behind_it.devices;
       commands = behind_it.commands;
@@ -153,8 +153,8 @@ rested {moment = moment} few apart (goes_on (Declares device) others text rest r
       few = subst (λ it. length it ≤ 16) joined behind_it.few;
       names = subst (λ it. IsDistinct bytes_eq (names_of it)) joined behind_it.names;
     }
-rested {moment = moment} few apart (goes_on (Commands command) others text rest refused later may is short answers said) =
-    let behind_it = rested few apart said in
+rested {moment = moment} few apart (goes_on (Commands command) others text rest refused later may is short answers said) without =
+    let behind_it = rested few apart said without in
     let none = behind_it.none refl in record {
       devices = [];
       commands = command ∷ behind_it.commands;
@@ -163,9 +163,11 @@ rested {moment = moment} few apart (goes_on (Commands command) others text rest 
       few = subst (λ it. length (moment.devices ++ it) ≤ 16) none behind_it.few;
       names = subst (λ it. IsDistinct bytes_eq (names_of (moment.devices ++ it))) none behind_it.names;
     }
+rested few apart (runs course host others text rest refused later run short over said) without = absurd without
+rested few apart (stops course host others text run short stands) without = absurd without
 
 pub resting_lines_are_a_job : RestingLinesAreAJob
 unfolding IsDistinct
-resting_lines_are_a_job lines text refused (opened said) =
-    let it = rested (omega arith) tt said in
+resting_lines_are_a_job lines text refused said without =
+    let it = rested (omega arith) tt said without in
     (record { devices = it.devices; commands = it.commands }, it.items, it.few, it.names)

@@ -11,11 +11,14 @@ use Rattle.cc_replies.specs.ReplyTexts.{is_refusal}
 use Rattle.cc_verdicts.specs.PresentTexts.{ArePresent}
 use Rattle.cc_answers.proofs.Answering.{none_present}
 use Rattle.cc_conversation.specs.ConversationLaws.{LinesHaveOneAnswer, AnswersStay}
-use Rattle.cc_conversation.specs.Conversations.{spoken_reply, Moment, MaySay, GoesOn, IsOpen, Answers, Standing, EndedAt, Overlong, Says, behind}
+use Rattle.cc_conversation.specs.Conversations.{spoken_reply, Moment, MaySay, GoesOn, IsOpen, IsRun, Answers, Standing, EndedAt, Overlong, StandsIn, Says, behind, under_way}
 use Rattle.cc_item_reading.specs.Sayings.{size, item_limit}
 use Rattle.cc_item_reading.proofs.Hearing.{size_both}
 use Rattle.cc_conversation.specs.Conversations.IsSpoken.{nothing, overlong, stranger, opened as opened_by}
-use Rattle.cc_conversation.specs.Conversations.Says.{rests, begins, ends, exceeds, goes_on}
+use Rattle.cc_conversation.specs.Conversations.Says.{rests, begins, ends, exceeds, goes_on, runs, stops}
+use Rattle.cc_conversation.proofs.RunsOnce.{run_rests, run_begins, run_ends, run_exceeds, run_goes_on, one_run, run_steady, over_once, over_stands, stands_once, stands_then_over, stands_then_stands}
+use Rattle.cc_item_reading.specs.Sayings.{live_line}
+use Rattle.cc_live.specs.LiveRuns.{Course, Over}
 
 -- an item that may be said is one
 is_item : (moment : Moment) (item : Item) → MaySay moment item → IsItem item
@@ -147,63 +150,6 @@ no_long_end moment front other bad next rest others is before none short long =
           (ap (λ it. it ++ bad ∷ []) e ∙ append_assoc other (next ∷ more) (bad ∷ [])) short long
     ]
 
--- One answer for each item that may be said, at each moment that is kept.
-abbrev AnswersOnce : (Moment → Type 0) → Type 0
-AnswersOnce kept =
-    (moment : Moment) (item : Item) (text other : List ℕ) (refused later : Bool) → kept moment
-    → Answers moment item text refused → Answers moment item other later → (text ≡ other) × (refused ≡ later)
-
-one_said : (kept : Moment → Type 0) → ((moment : Moment) (item : Item) → MaySay moment item → kept moment → kept (behind moment item))
-    → AnswersOnce kept → {total : ℕ} {moment : Moment} {lines : List Line} {text other : List ℕ} {refused later : Bool}
-    {standing second : Standing} → kept moment → Says total moment lines text refused standing
-    → Says total moment lines other later second → (text ≡ other) × (refused ≡ later) × (standing ≡ second)
-one_said kept keeps once now (rests empty) (rests _) = (refl, refl, refl)
-one_said kept keeps once now (rests empty) (begins some lacks low) = elim (some empty) [ ]
-one_said kept keeps once now (rests empty) (ends front bad rest place is before none short at) = elim (no_more front bad rest (sym is ∙ empty)) [ ]
-one_said kept keeps once now (rests empty) (exceeds front next rest is before short long) = elim (no_more front next rest (sym is ∙ empty)) [ ]
-one_said kept keeps once now (rests empty) (goes_on item others text rest refused later may is short answers said) = elim (no_item_empty item others (sym is ∙ empty)) [ ]
-one_said kept keeps once now (begins some lacks low) (rests empty) = elim (some empty) [ ]
-one_said kept keeps once now (begins some lacks low) (begins _ _ _) = (refl, refl, refl)
-one_said kept keeps once {moment = moment} now (begins some lacks low) (ends front bad rest place is before none short at) =
-    elim (opened moment _ front bad rest is (inr lacks) none) [ ]
-one_said kept keeps once now (begins some lacks low) (exceeds front next rest is before less long) =
-    elim (no_long_front _ front next rest is low long) [ ]
-one_said kept keeps once {moment = moment} now (begins some lacks low) (goes_on item others text rest refused later may is short answers said) =
-    elim (whole_or_open moment item others _ may is lacks) [ ]
-one_said kept keeps once now (ends front bad rest place is before none short at) (rests empty) = elim (no_more front bad rest (sym is ∙ empty)) [ ]
-one_said kept keeps once {moment = moment} now (ends front bad rest place is before none short at) (begins some lacks low) =
-    elim (opened moment _ front bad rest is (inr lacks) none) [ ]
-one_said kept keeps once {total = total} {moment = moment} now (ends front bad rest place is before none short at) (ends front' bad' rest' place' is' before' none' short' at') =
-    (refl, refl, ap EndedAt (ends_once moment total front front' bad bad' rest rest' place place' (sym is ∙ is') before before' none none' at at'))
-one_said kept keeps once {moment = moment} now (ends front bad rest place is before none short at) (exceeds other next others is' before' less long) =
-    elim (no_long_end moment front other bad next rest others (sym is ∙ is') before' none short long) [ ]
-one_said kept keeps once {moment = moment} now (ends front bad rest place is before none short at) (goes_on item others text rest' refused later may is' short' answers said) =
-    elim (ends_apart moment item others front bad rest may (sym is' ∙ is) before none) [ ]
-one_said kept keeps once now (exceeds front next rest is before less long) (rests empty) = elim (no_more front next rest (sym is ∙ empty)) [ ]
-one_said kept keeps once now (exceeds front next rest is before less long) (begins some lacks low) =
-    elim (no_long_front _ front next rest is low long) [ ]
-one_said kept keeps once {moment = moment} now (exceeds other next others is' before' less long) (ends front bad rest place is before none short at) =
-    elim (no_long_end moment front other bad next rest others (sym is ∙ is') before' none short long) [ ]
-one_said kept keeps once now (exceeds front next rest is before less long) (exceeds front' next' rest' is' before' less' long') = (refl, refl, refl)
-one_said kept keeps once {moment = moment} now (exceeds front next rest is before less long) (goes_on item others text rest' refused later may is' short' answers said) =
-    elim (no_long_item moment item others front next rest may (sym is' ∙ is) before short' long) [ ]
-one_said kept keeps once now (goes_on item others text rest refused later may is short answers said) (rests empty) = elim (no_item_empty item others (sym is ∙ empty)) [ ]
-one_said kept keeps once {moment = moment} now (goes_on item others text rest refused later may is short answers said) (begins some lacks low) =
-    elim (whole_or_open moment item others _ may is lacks) [ ]
-one_said kept keeps once {moment = moment} now (goes_on item others text rest' refused later may is' short' answers said) (ends front bad rest place is before none short at) =
-    elim (ends_apart moment item others front bad rest may (sym is' ∙ is) before none) [ ]
-one_said kept keeps once {moment = moment} now (goes_on item others text rest' refused later may is' short' answers said) (exceeds front next rest is before less long) =
-    elim (no_long_item moment item others front next rest may (sym is' ∙ is) before short' long) [ ]
-one_said kept keeps once {total = total} {moment = moment} now (goes_on {standing = standing} item others text rest refused later may is short answers said)
-    (goes_on {standing = second} item' others' text' rest' refused' later' may' is' short' answers' said') =
-    let one = one_item item item' others others' (is_item moment item may) (is_item moment item' may') (sym is ∙ is') in
-    let own = once moment item text text' refused refused' now answers
-    (subst (λ it. Answers moment it text' refused') (sym one.0) answers') in
-    let more = one_said kept keeps once (keeps moment item may now) said
-    (subst (λ it. Says total (behind moment item) it rest' later' second) (sym one.1)
-    (subst (λ it. Says total (behind moment it) others' rest' later' second) (sym one.0) said')) in
-    (λ i. own.0 i ++ more.0 i, λ i. own.1 i || more.1 i, more.2)
-
 -- what is kept at each moment: the present texts are in order of name
 abbrev are_present : Moment → Type 0
 are_present moment = ArePresent moment.state.texts
@@ -212,11 +158,103 @@ stay_present : (moment : Moment) (item : Item) → MaySay moment item → are_pr
 stay_present moment (Declares device) may present = present
 stay_present moment (Commands command) may present = texts_stay_present moment.state (request_of command) present
 
-answers_once : AnswersOnce are_present
+answers_once : (moment : Moment) (item : Item) (text other : List ℕ) (refused later : Bool) → are_present moment
+    → Answers moment item text refused → Answers moment item other later → (text ≡ other) × (refused ≡ later)
 answers_once moment (Declares device) text other refused later present a b = (a.0 ∙ sym b.0, a.1 ∙ sym b.1)
 answers_once moment (Commands command) text other refused later present a b =
     let same = replies_are_unique moment.devices moment.state (request_of command) a.0 b.0 present a.1 b.1 in
     (a.2 ∙ ap (λ reply. spoken_reply moment.devices reply) same ∙ sym b.2, a.3 ∙ ap (λ reply. is_refusal reply) same ∙ sym b.3)
+
+one_said : {total : ℕ} {moment : Moment} {lines : List Line} {text other : List ℕ} {refused later : Bool}
+    {standing second : Standing} → are_present moment → Says total moment lines text refused standing
+    → Says total moment lines other later second → (text ≡ other) × (refused ≡ later) × (standing ≡ second)
+one_said now (rests empty) (rests _) = (refl, refl, refl)
+one_said now (rests empty) (begins some lacks low) = elim (some empty) [ ]
+one_said now (rests empty) (ends front bad rest place is before unlike none short at) = elim (no_more front bad rest (sym is ∙ empty)) [ ]
+one_said now (rests empty) (exceeds front next rest is before short long) = elim (no_more front next rest (sym is ∙ empty)) [ ]
+one_said now (rests empty) (goes_on item others text rest refused later may is short answers said) = elim (no_item_empty item others (sym is ∙ empty)) [ ]
+one_said now (begins some lacks low) (rests empty) = elim (some empty) [ ]
+one_said now (begins some lacks low) (begins _ _ _) = (refl, refl, refl)
+one_said {moment = moment} now (begins some lacks low) (ends front bad rest place is before unlike none short at) =
+    elim (opened moment _ front bad rest is (inr lacks) none) [ ]
+one_said now (begins some lacks low) (exceeds front next rest is before less long) =
+    elim (no_long_front _ front next rest is low long) [ ]
+one_said {moment = moment} now (begins some lacks low) (goes_on item others text rest refused later may is short answers said) =
+    elim (whole_or_open moment item others _ may is lacks) [ ]
+one_said now (ends front bad rest place is before unlike none short at) (rests empty) = elim (no_more front bad rest (sym is ∙ empty)) [ ]
+one_said {moment = moment} now (ends front bad rest place is before unlike none short at) (begins some lacks low) =
+    elim (opened moment _ front bad rest is (inr lacks) none) [ ]
+one_said {total = total} {moment = moment} now (ends front bad rest place is before unlike none short at) (ends front' bad' rest' place' is' before' unlike' none' short' at') =
+    (refl, refl, ap EndedAt (ends_once moment total front front' bad bad' rest rest' place place' (sym is ∙ is') before before' none none' at at'))
+one_said {moment = moment} now (ends front bad rest place is before unlike none short at) (exceeds other next others is' before' less long) =
+    elim (no_long_end moment front other bad next rest others (sym is ∙ is') before' none short long) [ ]
+one_said {moment = moment} now (ends front bad rest place is before unlike none short at) (goes_on item others text rest' refused later may is' short' answers said) =
+    elim (ends_apart moment item others front bad rest may (sym is' ∙ is) before none) [ ]
+one_said now (exceeds front next rest is before less long) (rests empty) = elim (no_more front next rest (sym is ∙ empty)) [ ]
+one_said now (exceeds front next rest is before less long) (begins some lacks low) =
+    elim (no_long_front _ front next rest is low long) [ ]
+one_said {moment = moment} now (exceeds other next others is' before' less long) (ends front bad rest place is before unlike none short at) =
+    elim (no_long_end moment front other bad next rest others (sym is ∙ is') before' none short long) [ ]
+one_said now (exceeds front next rest is before less long) (exceeds front' next' rest' is' before' less' long') = (refl, refl, refl)
+one_said {moment = moment} now (exceeds front next rest is before less long) (goes_on item others text rest' refused later may is' short' answers said) =
+    elim (no_long_item moment item others front next rest may (sym is' ∙ is) before short' long) [ ]
+one_said now (goes_on item others text rest refused later may is short answers said) (rests empty) = elim (no_item_empty item others (sym is ∙ empty)) [ ]
+one_said {moment = moment} now (goes_on item others text rest refused later may is short answers said) (begins some lacks low) =
+    elim (whole_or_open moment item others _ may is lacks) [ ]
+one_said {moment = moment} now (goes_on item others text rest' refused later may is' short' answers said) (ends front bad rest place is before unlike none short at) =
+    elim (ends_apart moment item others front bad rest may (sym is' ∙ is) before none) [ ]
+one_said {moment = moment} now (goes_on item others text rest' refused later may is' short' answers said) (exceeds front next rest is before less long) =
+    elim (no_long_item moment item others front next rest may (sym is' ∙ is) before short' long) [ ]
+one_said {total = total} {moment = moment} now (goes_on {standing = standing} item others text rest refused later may is short answers said)
+    (goes_on {standing = second} item' others' text' rest' refused' later' may' is' short' answers' said') =
+    let one = one_item item item' others others' (is_item moment item may) (is_item moment item' may') (sym is ∙ is') in
+    let own = answers_once moment item text text' refused refused' now answers
+    (subst (λ it. Answers moment it text' refused') (sym one.0) answers') in
+    let more = one_said (stay_present moment item may now) said
+    (subst (λ it. Says total (behind moment item) it rest' later' second) (sym one.1)
+    (subst (λ it. Says total (behind moment it) others' rest' later' second) (sym one.0) said')) in
+    (λ i. own.0 i ++ more.0 i, λ i. own.1 i || more.1 i, more.2)
+one_said now (rests empty) (runs course host beside told left so further run brief over said') = elim (run_rests run empty) [ ]
+one_said now (rests empty) (stops course host beside told run brief stands) = elim (run_rests run empty) [ ]
+one_said now (begins some lacks low) (runs course host beside told left so further run brief over said') = elim (run_begins run lacks) [ ]
+one_said now (begins some lacks low) (stops course host beside told run brief stands) = elim (run_begins run lacks) [ ]
+one_said now (ends front bad rest place is before unlike none short at) (runs course host beside told left so further run brief over said') = elim (run_ends run front bad rest is before unlike) [ ]
+one_said now (ends front bad rest place is before unlike none short at) (stops course host beside told run brief stands) = elim (run_ends run front bad rest is before unlike) [ ]
+one_said now (exceeds front next rest is before less long) (runs course host beside told left so further run brief over said') = elim (run_exceeds run front next rest is before long) [ ]
+one_said now (exceeds front next rest is before less long) (stops course host beside told run brief stands) = elim (run_exceeds run front next rest is before long) [ ]
+one_said now (goes_on item others text rest refused later may is short answers said) (runs course host beside told left so further run brief over said') = elim (run_goes_on run item others may is) [ ]
+one_said now (goes_on item others text rest refused later may is short answers said) (stops course host beside told run brief stands) = elim (run_goes_on run item others may is) [ ]
+one_said now (runs course host beside told left so further run brief over said') (rests empty) = elim (run_rests run empty) [ ]
+one_said now (stops course host beside told run brief stands) (rests empty) = elim (run_rests run empty) [ ]
+one_said now (runs course host beside told left so further run brief over said') (begins some lacks low) = elim (run_begins run lacks) [ ]
+one_said now (stops course host beside told run brief stands) (begins some lacks low) = elim (run_begins run lacks) [ ]
+one_said now (runs course host beside told left so further run brief over said') (ends front bad rest place is before unlike none short at) = elim (run_ends run front bad rest is before unlike) [ ]
+one_said now (stops course host beside told run brief stands) (ends front bad rest place is before unlike none short at) = elim (run_ends run front bad rest is before unlike) [ ]
+one_said now (runs course host beside told left so further run brief over said') (exceeds front next rest is before less long) = elim (run_exceeds run front next rest is before long) [ ]
+one_said now (stops course host beside told run brief stands) (exceeds front next rest is before less long) = elim (run_exceeds run front next rest is before long) [ ]
+one_said now (runs course host beside told left so further run brief over said') (goes_on item others text rest refused later may is short answers said) = elim (run_goes_on run item others may is) [ ]
+one_said now (stops course host beside told run brief stands) (goes_on item others text rest refused later may is short answers said) = elim (run_goes_on run item others may is) [ ]
+one_said {total = total} {moment = moment} now (runs {standing = standing} course host others text rest refused later run short over said)
+    (runs {standing = second} course' host' others' text' rest' refused' later' run' short' over' said') =
+    let one = one_run now run run' in
+    let own = over_once course (run_steady run) host host' others others' text text' refused refused' over
+    (subst (λ c. c host' ≡ record { text = text'; standing = Over refused' [] }) (sym one.1) over') one.0 in
+    let more = one_said {moment = under_way moment} now said
+    (subst (λ it. Says total (under_way moment) it rest' later' second) (sym own.2) said') in
+    (λ i. (own.0 i ++ 10 ∷ []) ++ more.0 i, λ i. own.1 i || more.1 i, more.2)
+one_said {total = total} now (runs course host others text rest refused later run short over said) (stops {standing = standing} course' host' others' text' run' short' stands) =
+    let one = one_run now run run' in
+    elim (over_stands course (run_steady run) host host' others others' text text' refused total standing over short
+    (subst (λ c. StandsIn total (c host') others' text' standing) (sym one.1) stands) short' one.0) [ ]
+one_said {total = total} now (stops {standing = standing} course host others text run short stands) (runs course' host' others' text' rest' refused' later' run' short' over' said') =
+    let one = one_run now run' run in
+    elim (over_stands course' (run_steady run') host' host others' others text' text refused' total standing over' short'
+    (subst (λ c. StandsIn total (c host) others text standing) (sym one.1) stands) short one.0) [ ]
+one_said {total = total} now (stops {standing = standing} course host others text run short stands) (stops {standing = second} course' host' others' text' run' short' stands') =
+    let one = one_run now run run' in
+    let same = stands_once course (run_steady run) host host' others others' text text' total standing second stands short
+    (subst (λ c. StandsIn total (c host') others' text' second) (sym one.1) stands') short' one.0 in
+    (same.0, refl, same.1)
 
 first_size : size (first_line ∷ []) ≤ item_limit
 first_size = omega arith
@@ -231,7 +269,7 @@ lines_have_one_answer _ _ _ _ _ _ _ (stranger other short) (stranger _ _) = (ref
 lines_have_one_answer _ _ _ _ _ _ _ (stranger other short) (opened_by said) = elim (other refl) [ ]
 lines_have_one_answer _ _ _ _ _ _ _ (opened_by said) (overlong long) = absurd (omega (arith, long, first_size))
 lines_have_one_answer _ _ _ _ _ _ _ (opened_by said) (stranger other short) = elim (other refl) [ ]
-lines_have_one_answer _ _ _ _ _ _ _ (opened_by said) (opened_by again) = one_said are_present stay_present answers_once none_present said again
+lines_have_one_answer _ _ _ _ _ _ _ (opened_by said) (opened_by again) = one_said none_present said again
 
 skipped_more : (lines more : List Line) (first : Line) (rest : List Line) → skipped lines ≡ first ∷ rest
     → skipped (lines ++ more) ≡ first ∷ (rest ++ more)
@@ -244,18 +282,28 @@ item_more : (item : Item) (lines others more : List Line) → skipped lines ≡ 
 item_more (Declares device) lines others more e = skipped_more lines more _ _ e ∙ append_assoc (item_lines (Declares device)) others more
 item_more (Commands command) lines others more e = skipped_more lines more _ _ e ∙ append_assoc (item_lines (Commands command)) others more
 
+run_more : {moment : Moment} {lines behind : List Line} {course : Course} (more : List Line) → IsRun moment lines behind course
+    → IsRun moment (lines ++ more) (behind ++ more) course
+run_more {lines = lines} {behind = behind} more run = record {
+  it = run.it;
+  may = run.may;
+  short = run.short;
+  says = skipped_more lines more (live_line run.it) behind run.says;
+  hosted = run.hosted;
+}
+
 stays : {total beyond : ℕ} {moment : Moment} {lines : List Line} (more : List Line) {text other : List ℕ} {refused later : Bool}
     {standing second : Standing} → are_present moment → Says total moment lines text refused standing
     → Says beyond moment (lines ++ more) other later second → (rest : List ℕ) × (other ≡ text ++ rest)
 stays more {other = other} now (rests empty) said = (other, refl)
 stays more {other = other} now (begins some lacks low) said = (other, refl)
-stays more {other = other} now (ends front bad rest place is before none short at) said = (other, refl)
+stays more {other = other} now (ends front bad rest place is before unlike none short at) said = (other, refl)
 stays more {other = other} now (exceeds front next rest is before less long) said = (other, refl)
 stays {lines = lines} more now (goes_on item others text rest refused later may is short answers said) (rests empty) =
     elim (no_item_empty item (others ++ more) (sym (item_more item lines others more is) ∙ empty)) [ ]
 stays {moment = moment} {lines = lines} more now (goes_on item others text rest refused later may is short answers said) (begins some lacks low) =
     elim (whole_or_open moment item (others ++ more) _ may (item_more item lines others more is) lacks) [ ]
-stays {moment = moment} {lines = lines} more now (goes_on item others text rest' refused later may is' short' answers said) (ends front bad rest place is before none short at) =
+stays {moment = moment} {lines = lines} more now (goes_on item others text rest' refused later may is' short' answers said) (ends front bad rest place is before unlike none short at) =
     elim (ends_apart moment item (others ++ more) front bad rest may (sym (item_more item lines others more is') ∙ is) before none) [ ]
 stays {moment = moment} {lines = lines} more now (goes_on item others text rest' refused later may is' short' answers said) (exceeds front next rest is before less long) =
     elim (no_long_item moment item (others ++ more) front next rest may (sym (item_more item lines others more is') ∙ is) before short' long) [ ]
@@ -269,6 +317,48 @@ stays {total = total} {beyond = beyond} {moment = moment} {lines = lines} more n
     (subst (λ it. Says beyond (behind moment item) it rest' later' second) (sym one.1)
     (subst (λ it. Says beyond (behind moment it) others' rest' later' second) (sym one.0) said')) in
     (left, (λ i. sym own.0 i ++ joined i) ∙ sym (append_assoc text rest left))
+stays {lines = lines} more now (goes_on item others text rest refused later may is short answers said) (runs course host beside told left so further run brief over said') =
+    elim (run_goes_on run item (others ++ more) may (item_more item lines others more is)) [ ]
+stays {lines = lines} more now (goes_on item others text rest refused later may is short answers said) (stops course host beside told run brief stands) =
+    elim (run_goes_on run item (others ++ more) may (item_more item lines others more is)) [ ]
+stays more now (runs course host others text rest refused later run short over said) (rests empty) = elim (run_rests (run_more more run) empty) [ ]
+stays more now (runs course host others text rest refused later run short over said) (begins some lacks low) = elim (run_begins (run_more more run) lacks) [ ]
+stays more now (runs course host others text rest' refused later run short over said) (ends front bad rest place is before unlike none low at) =
+    elim (run_ends (run_more more run) front bad rest is before unlike) [ ]
+stays more now (runs course host others text rest' refused later run short over said) (exceeds front next rest is before less long) =
+    elim (run_exceeds (run_more more run) front next rest is before long) [ ]
+stays more now (runs course host others text rest' refused later run short over said) (goes_on item others' text' rest refused' later' may is short' answers said') =
+    elim (run_goes_on (run_more more run) item others' may is) [ ]
+stays {beyond = beyond} {moment = moment} more now (runs {standing = standing} course host others text rest refused later run short over said)
+    (runs {standing = second} course' host' others' text' rest' refused' later' run' short' over' said') =
+    let one = one_run now (run_more more run) run' in
+    let own = over_once course (run_steady run) host host' (others ++ more) others' text text' refused refused' over
+    (subst (λ c. c host' ≡ record { text = text'; standing = Over refused' [] }) (sym one.1) over') (sym (append_assoc host others more) ∙ one.0) in
+    let (left, joined) = stays {moment = under_way moment} more now said (subst (λ it. Says beyond (under_way moment) it rest' later' second) (sym own.2) said') in
+    (left, (λ i. (sym own.0 i ++ 10 ∷ []) ++ joined i) ∙ sym (append_assoc (text ++ 10 ∷ []) rest left))
+stays {beyond = beyond} more now (runs course host others text rest refused later run short over said) (stops {standing = second} course' host' others' text' run' short' stands) =
+    let one = one_run now (run_more more run) run' in
+    elim (over_stands course (run_steady run) host host' (others ++ more) others' text text' refused beyond second over short
+    (subst (λ c. StandsIn beyond (c host') others' text' second) (sym one.1) stands) short' (sym (append_assoc host others more) ∙ one.0)) [ ]
+stays more now (stops course host others text run short stands) (rests empty) = elim (run_rests (run_more more run) empty) [ ]
+stays more now (stops course host others text run short stands) (begins some lacks low) = elim (run_begins (run_more more run) lacks) [ ]
+stays more now (stops course host others text run short stands) (ends front bad rest place is before unlike none low at) =
+    elim (run_ends (run_more more run) front bad rest is before unlike) [ ]
+stays more now (stops course host others text run short stands) (exceeds front next rest is before less long) =
+    elim (run_exceeds (run_more more run) front next rest is before long) [ ]
+stays more now (stops course host others text run short stands) (goes_on item others' text' rest refused' later' may is short' answers said') =
+    elim (run_goes_on (run_more more run) item others' may is) [ ]
+stays {total = total} more now (stops {standing = standing} course host others text run short stands) (runs course' host' others' text' rest' refused' later' run' short' over' said') =
+    let one = one_run now (run_more more run) run' in
+    let told = stands_then_over course (run_steady run) host host' others others' more text text' refused' total standing stands short
+    (subst (λ c. c host' ≡ record { text = text'; standing = Over refused' [] }) (sym one.1) over') short' one.0 in (
+      told.0 ++ (10 ∷ rest'),
+      ap (λ t. (t ++ 10 ∷ []) ++ rest') told.1 ∙ append_assoc (text ++ told.0) (10 ∷ []) rest' ∙ append_assoc text told.0 (10 ∷ rest'),
+    )
+stays {total = total} {beyond = beyond} more now (stops {standing = standing} course host others text run short stands) (stops {standing = second} course' host' others' text' run' short' stands') =
+    let one = one_run now (run_more more run) run' in
+    stands_then_stands course (run_steady run) host host' others others' more text text' total beyond standing second stands short
+    (subst (λ c. StandsIn beyond (c host') others' text' second) (sym one.1) stands') short' one.0
 
 pub answers_stay : AnswersStay
 answers_stay [] more text other refused later standing second nothing said = (other, refl)

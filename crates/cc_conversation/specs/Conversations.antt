@@ -1,13 +1,17 @@
 -- A conversation: lines in the form of those of a job, of which each command is answered before more is read. What belongs
--- to the lines that were said is said here of all lines so far at once. No program speaks so yet.
-use Rattle.std.specs.Prelude.{◌≡◌, ◌≢◌, ℕ, suc, ◌+◌, ◌<◌, ◌≤◌, ◌⊎◌, Bool, true, false, ◌||◌}
-use Rattle.std.specs.Prelude.{List, [], ◌∷◌, ◌++◌, length}
+-- to the lines that were said is said here of all lines so far at once, in whatever pieces they came.
+use Rattle.std.specs.Prelude.{◌≡◌, ◌≢◌, ℕ, suc, ◌+◌, ◌<◌, ◌≤◌, nat_lt, ◌⊎◌, Bool, true, false, ◌||◌, if◌then◌else◌}
+use Rattle.std.specs.Prelude.{List, [], ◌∷◌, ◌++◌, length, map, None}
+use Rattle.std.specs.List.{AllByRecursion}
 use Rattle.cc_base.specs.declared.device.DeviceDecl.{DeviceDecl}
 use Rattle.cc_job.specs.Jobs.{Item, Declares, Commands, item_lines, skipped, first_line}
 use Rattle.cc_item_reading.specs.Sayings as sayings
-use Rattle.cc_item_reading.specs.Sayings.{size, item_limit}
+use Rattle.cc_item_reading.specs.Sayings.{Live, IsLive, IsLiveLine, live_line, size, item_limit}
+use Rattle.cc_hosting.specs.HostedRuns.{IsHosted}
+use Rattle.cc_live.specs.LiveRuns.{Live as Told, Course, Over, Waits, Breaks}
 use Rattle.cc_mnf.specs.ElaboratedModules.{device_names}
-use Rattle.cc_words.specs.Lines.{Line}
+use Rattle.cc_words.specs.Lines.{Line, lines_of, AreWholeLines}
+use Rattle.cc_words.specs.Words.{cut_at}
 use Rattle.cc_answers.specs.Requests.{request_of}
 use Rattle.cc_replies.specs.Replies.{Replies, after}
 use Rattle.cc_replies.specs.ReplyTexts.{Reply, reply_text, is_refusal}
@@ -45,6 +49,22 @@ Answers moment (Commands command) text refused =
     (reply : Reply) × Replies moment.devices moment.state (request_of command) reply
     × (text ≡ spoken_reply moment.devices reply) × (refused ≡ is_refusal reply)
 
+-- what has been said behind a live run: no more than that a command was given
+abbrev pub under_way : Moment → Moment
+under_way moment = record { devices = moment.devices; begun = true; state = moment.state }
+
+-- each of the lines that a host says has no more bytes than an item may
+abbrev pub AreShort : List Line → Type 0
+AreShort lines = AllByRecursion (λ line. size (line ∷ []) ≤ item_limit) lines
+
+-- That a definition is run on the devices of the host was said, and lines behind it; and this is what comes of those.
+pub record IsRun (moment : Moment) (lines behind : List Line) (course : Course) : Type 0 where
+  pub it : Live
+  pub may : IsLive it
+  pub short : size (live_line it ∷ []) ≤ item_limit
+  pub says : skipped lines ≡ live_line it ∷ behind
+  pub hosted : IsHosted moment.devices moment.state it.owner it.definition it.fuel course
+
 -- some item may be said at the moment whose lines begin with these
 abbrev pub GoesOn : Moment → List Line → Type 0
 GoesOn moment lines = sayings.GoesOn moment.devices moment.begun lines
@@ -54,13 +74,23 @@ abbrev pub IsOpen : Moment → List Line → Type 0
 IsOpen moment lines = sayings.IsOpen moment.devices moment.begun lines
 
 -- How a conversation stands: nothing is open; the lines of an item have begun, which have so many bytes so far, and some are
--- missing; or it ended at a line with which no item goes on, by its number; or at one with which an item has more bytes
--- than it may.
+-- missing; or an answer of the host is missing; or it ended at a line with which nothing goes on, by its number; or at one
+-- with which an item has more bytes than it may, or which itself has.
 pub data Standing : Type 0 where
   Rests : Standing
   Begun : (bytes : ℕ) → Standing
+  Asks : Standing
   EndedAt : (number : ℕ) → Standing
   Overlong : Standing
+
+-- How a conversation stands where a live run is not over with some lines of the host: none follows, and an answer is missing;
+-- or the last one, of so many in all with those that follow, is no answer; or the next one has too many bytes.
+pub data StandsIn (total : ℕ) (it : Told) : List Line → List ℕ → Standing → Type 0 where
+  asks : {text : List ℕ} → it ≡ record { text = text; standing = Waits } → StandsIn total it [] text Asks
+  breaks : {rest : List Line} {text : List ℕ} (place : ℕ) → it ≡ record { text = text; standing = Breaks [] }
+      → place + length rest ≡ total → StandsIn total it rest text (EndedAt place)
+  floods : {next : Line} {rest : List Line} {text : List ℕ} → it ≡ record { text = text; standing = Waits }
+      → item_limit < size (next ∷ []) → StandsIn total it (next ∷ rest) text Overlong
 
 -- What is written for the last of so many lines, whether a reply is a refusal, and how the conversation stands then.
 pub data Says (total : ℕ) : Moment → List Line → List ℕ → Bool → Standing → Type 0 where
@@ -68,7 +98,7 @@ pub data Says (total : ℕ) : Moment → List Line → List ℕ → Bool → Sta
   begins : {moment : Moment} {lines : List Line} → skipped lines ≢ [] → IsOpen moment (skipped lines)
       → size (skipped lines) ≤ item_limit → Says total moment lines [] false (Begun (size (skipped lines)))
   ends : {moment : Moment} {lines : List Line} (front : List Line) (bad : Line) (rest : List Line) (place : ℕ)
-      → skipped lines ≡ front ++ bad ∷ rest → (front ≡ []) ⊎ IsOpen moment front
+      → skipped lines ≡ front ++ bad ∷ rest → (front ≡ []) ⊎ IsOpen moment front → (front ≡ [] → IsLiveLine bad → ⊥)
       → (GoesOn moment (front ++ bad ∷ []) → ⊥) → size (front ++ bad ∷ []) ≤ item_limit → place + length rest ≡ total
       → Says total moment lines [] false (EndedAt place)
   exceeds : {moment : Moment} {lines : List Line} (front : List Line) (next : Line) (rest : List Line)
@@ -80,6 +110,25 @@ pub data Says (total : ℕ) : Moment → List Line → List ℕ → Bool → Sta
       → size (item_lines item) ≤ item_limit → Answers moment item text refused
       → Says total (behind moment item) others rest later standing
       → Says total moment lines (text ++ rest) (refused || later) standing
+  runs : {moment : Moment} {lines : List Line} {standing : Standing} (course : Course) (host others : List Line)
+      (text rest : List ℕ) (refused later : Bool) → IsRun moment lines (host ++ others) course → AreShort host
+      → course host ≡ record { text = text; standing = Over refused [] }
+      → Says total (under_way moment) others rest later standing
+      → Says total moment lines ((text ++ 10 ∷ []) ++ rest) (refused || later) standing
+  stops : {moment : Moment} {lines : List Line} {standing : Standing} (course : Course) (host others : List Line)
+      (text : List ℕ) → IsRun moment lines (host ++ others) course → AreShort host
+      → StandsIn total (course host) others text standing → Says total moment lines text false standing
+
+-- no live run was said
+abbrev pub IsWithoutRun : {total : ℕ} {moment : Moment} {lines : List Line} {text : List ℕ} {refused : Bool} {standing : Standing}
+    → Says total moment lines text refused standing → Type 0
+IsWithoutRun (rests empty) = Unit {0}
+IsWithoutRun (begins some lacks short) = Unit {0}
+IsWithoutRun (ends front bad rest place is before unlike none short at) = Unit {0}
+IsWithoutRun (exceeds front next rest is before less long) = Unit {0}
+IsWithoutRun (goes_on item others text rest refused later may is short answers said) = IsWithoutRun said
+IsWithoutRun (runs course host others text rest refused later run short over said) = ⊥
+IsWithoutRun (stops course host others text run short stands) = ⊥
 
 -- The same from the first line on.
 pub data IsSpoken : List Line → List ℕ → Bool → Standing → Type 0 where
@@ -90,3 +139,23 @@ pub data IsSpoken : List Line → List ℕ → Bool → Standing → Type 0 wher
   opened : {lines : List Line} {text : List ℕ} {refused : Bool} {standing : Standing}
       → Says (suc (length lines)) beginning lines text refused standing
       → IsSpoken (first_line ∷ lines) text refused standing
+
+-- how it stands where so many bytes of a further line came
+abbrev pub with_part : Standing → ℕ → Standing
+with_part Rests part = if nat_lt part item_limit then Rests else Overlong
+with_part (Begun bytes) part = if nat_lt (bytes + part) item_limit then Begun bytes else Overlong
+with_part Asks part = if nat_lt part item_limit then Asks else Overlong
+with_part (EndedAt number) part = EndedAt number
+with_part Overlong part = Overlong
+
+-- What is answered to bytes that came so far, in whatever pieces: what is answered to their lines. A last line that has not
+-- its line feed yet is none.
+pub record IsHeard (bytes text : List ℕ) (refused : Bool) (standing : Standing) : Type 0 where
+  pub whole : List ℕ
+  pub part : List ℕ
+  pub split : bytes ≡ whole ++ part
+  pub are_whole : AreWholeLines whole
+  pub no_feed : cut_at 10 part ≡ None
+  pub before : Standing
+  pub spoken : IsSpoken (lines_of whole) text refused before
+  pub stands : standing ≡ with_part before (length part)

@@ -1,6 +1,6 @@
 //! The laws of conversations. The functions do nothing.
 ghost use Rattle.cc_conversation.specs.ConversationExamples as example;
-ghost use Rattle.cc_conversation.specs.ConversationLaws.{JobsAreSpoken, RestingLinesAreAJob, LinesHaveOneAnswer, AnswersStay};
+ghost use Rattle.cc_conversation.specs.ConversationLaws.{JobsAreSpoken, RestingLinesAreAJob, LinesHaveOneAnswer, BytesHaveOneAnswer, AnswersStay, HeardAnswersStay};
 
 /// A host that sends a job line by line gets the replies that the job gets as a whole, each with an empty line behind it.
 /// Where nothing is open behind the first line, what the host said is a job.
@@ -9,14 +9,16 @@ pub fn jobs_are_spoken()
     ensures others { RestingLinesAreAJob }
 {}
 
-/// What a host is answered is determined by the lines that it sent.
+/// What a host is answered is determined by the lines that it sent, in whatever pieces they came.
 pub fn lines_have_one_answer()
-    ensures { LinesHaveOneAnswer }
+    ensures lines { LinesHaveOneAnswer }
+    ensures bytes { BytesHaveOneAnswer }
 {}
 
 /// What a host was answered is taken back by nothing that it says behind it.
 pub fn answers_stay()
-    ensures { AnswersStay }
+    ensures lines { AnswersStay }
+    ensures bytes { HeardAnswersStay }
 {}
 
 /// Small conversations: nothing is asked, strangers speak, replies have an empty line behind them, lines are

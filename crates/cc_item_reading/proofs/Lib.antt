@@ -1,3 +1,4 @@
 pub mod Hearing
+pub mod LiveWords
 pub mod ItemFronts
 pub mod NextItems

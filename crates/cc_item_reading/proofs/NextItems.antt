@@ -1,5 +1,5 @@
 -- What comes of reading the next item, from what comes of its lines.
-use Rattle.std.proofs.Common.{◌≡◌, ◌≢◌, inl, inr, ℕ, ◌+◌, ◌-◌, ◌≤◌, Bool, true, List, [], ◌∷◌, ◌++◌, length, map, take, Option, Some, Result, Ok, Err, refl, sym, ap, subst, ◌∙◌, arith, append-nil, length-append}
+use Rattle.std.proofs.Common.{◌≡◌, ◌≢◌, inl, inr, ℕ, ◌+◌, ◌-◌, ◌≤◌, Bool, true, List, [], ◌∷◌, ◌++◌, length, map, take, Option, Some, None, Result, Ok, Err, refl, sym, ap, subst, ◌∙◌, arith, append-nil, length-append}
 use Rattle.std.proofs.lemmas.List.{length-map}
 use Rattle.cc_base.specs.declared.device.DeviceDecl.{DeviceDecl}
 use Rattle.cc_policy.specs.declared.policy.Rule.{Rule}
@@ -17,10 +17,11 @@ use Rattle.cc_item_reading.specs.declared.reading.Heard.{Heard}
 use Rattle.cc_item_reading.specs.declared.reading.Heard.TheVariants as heard
 use Rattle.cc_item_reading.specs.declared.reading.NotHeard.{NotHeard}
 use Rattle.cc_item_reading.specs.declared.reading.NotHeard.TheVariants as errors
-use Rattle.cc_item_reading.specs.Sayings.{GoesOn, size, item_limit}
-use Rattle.cc_item_reading.specs.ItemReading.{HearsLine, HearsText, HearsRules, HearsBehind, HearsItem, HearsNextItem, IsItemHeard, AreDeclared, item_with}
+use Rattle.cc_item_reading.specs.Sayings.{GoesOn, IsLiveLine, size, item_limit}
+use Rattle.cc_item_reading.specs.ItemReading.{HearsLine, HearsText, HearsRules, HearsBehind, HearsItem, HearsNextItem, IsItemHeard, IsLiveHeard, AreDeclared, item_with}
 use Rattle.cc_item_reading.proofs.Hearing.{hears_none, hears_both, line_put}
-use Rattle.cc_item_reading.proofs.ItemFronts.{IsWhole, whole_item, open_front, none_rules}
+use Rattle.cc_item_reading.proofs.ItemFronts.{IsWhole, whole_item, open_front, none_says, none_rules}
+use Rattle.cc_item_reading.proofs.LiveWords.{live_gives, none_live}
 
 -- a text of no lines, or no rules
 no_both : (head : Head) (lines : List Line) (rules : List Rule) (room : ℕ) → length lines ≡ text_size head → length rules ≡ rule_count head
@@ -185,19 +186,45 @@ next_empty devices begun old now left there before mid bytes line first empty =
     (subst (λ it. Hears old now left there (it ∷ [])) empty first.hears, first.counted)
 
 pub next_bad : (devices : List DeviceDecl) (begun : Bool) (old now : Held) (left there : Option (List ℕ)) (before mid : ℕ)
-    (bytes line : List ℕ) → First old now left there before mid bytes line → line ≢ []
+    (bytes line : List ℕ) → First old now left there before mid bytes line → line ≢ [] → (IsLiveLine line → ⊥)
     → (GoesOn devices begun (line ∷ []) → ⊥)
     → HearsNextItem devices begun old now left there before mid (Err errors.BadLine)
-next_bad devices begun old now left there before mid bytes line first some none = (
+next_bad devices begun old now left there before mid bytes line first some other none = (
   [],
   line,
   first.hears,
   inl refl,
   λ h. some,
+  λ h. other,
   none,
   omega (arith, first.short, ap length first.bytes_are, length-append line (10 ∷ [])),
   first.counted,
 )
+
+-- what comes of a line that is no item's
+pub next_unlike : (devices : List DeviceDecl) (begun : Bool) (old now : Held) (left there : Option (List ℕ)) (before mid : ℕ)
+    (bytes line : List ℕ) (result : Result Heard NotHeard) → First old now left there before mid bytes line → line ≢ [] → head_of line ≡ None
+    → IsLiveHeard line result → HearsNextItem devices begun old now left there before mid result
+next_unlike devices begun old now left there before mid bytes line (Ok heard.End) first some none told = absurd told
+next_unlike devices begun old now left there before mid bytes line (Ok heard.Empty) first some none told = absurd told
+next_unlike devices begun old now left there before mid bytes line (Ok (heard.Device device)) first some none told = absurd told
+next_unlike devices begun old now left there before mid bytes line (Ok (heard.Command command)) first some none told = absurd told
+next_unlike devices begun old now left there before mid bytes line (Ok (heard.Live owner definition fuel)) first some none told =
+    let gives = live_gives line (owner, definition, fuel) told in (
+      record {
+        may = gives.0;
+        short = subst (λ it. size (it ∷ []) ≤ item_limit) gives.1 (omega (arith, first.short, ap length first.bytes_are, length-append line (10 ∷ [])));
+        hears = subst (λ it. Hears old now left there (it ∷ [])) gives.1 first.hears;
+      },
+      first.counted,
+    )
+next_unlike devices begun old now left there before mid bytes line (Err errors.BadLine) first some none told =
+    next_bad devices begun old now left there before mid bytes line first some (none_live line told) (none_says devices begun line none)
+next_unlike devices begun old now left there before mid bytes line (Err errors.CutShort) first some none told = absurd told
+next_unlike devices begun old now left there before mid bytes line (Err errors.TooLong) first some none told = absurd told
+next_unlike devices begun old now left there before mid bytes line (Err errors.ReadFault) first some none told = absurd told
+next_unlike devices begun old now left there before mid bytes line (Err errors.NoMemory) first some none told =
+    (first.hears.takes.read, first.hears.takes.consumed)
 
 -- the lines that were taken have no line feed
 lack_of : (old new : Held) (left later : Option (List ℕ)) (lines : List Line) → Hears old new left later lines → AllLack 10 lines
@@ -243,6 +270,7 @@ next_behind_so devices begun old now new left there later before mid behind byte
     at : (it : Heard) → IsItemHeard it item → HearsNextItem devices begun old new left later before behind (Ok it)
     at heard.End h = absurd h
     at heard.Empty h = absurd h
+    at (heard.Live owner definition fuel) h = absurd h
     at (heard.Device device) h =
         (subst (HearsItem devices begun old new left later) h so, counted ∙ ap (λ it. before + length (item_lines it)) h)
     at (heard.Command command) h =
@@ -255,6 +283,7 @@ next_behind_so devices begun old now new left there later before mid behind byte
       bad,
       hears_both old now new left there later (line ∷ []) (front ++ bad ∷ []) first.hears hears,
       inr (open_front devices begun line head front declared says stands lack (inr (rules, refl, are, empty, less))),
+      λ h. cc,
       λ h. cc,
       none_rules devices begun line head rules bad says empty less none,
       omega (arith, first_size bytes line (front ++ bad ∷ []) first.bytes_are, low, first.short),

@@ -16,7 +16,8 @@ use Rattle.cc_item_reading.specs.declared.reading.Heard.{Heard}
 use Rattle.cc_item_reading.specs.declared.reading.Heard.TheVariants as heard
 use Rattle.cc_item_reading.specs.declared.reading.NotHeard.{NotHeard}
 use Rattle.cc_item_reading.specs.declared.reading.NotHeard.TheVariants as errors
-use Rattle.cc_item_reading.specs.Sayings.{MaySay, GoesOn, IsOpen, size, item_limit}
+use Rattle.cc_item_reading.specs.LiveLines.{live_of}
+use Rattle.cc_item_reading.specs.Sayings.{MaySay, GoesOn, IsOpen, Live, IsLive, IsLiveLine, live_line, size, item_limit}
 
 -- the lines of an item have begun, or none has
 abbrev pub HasBegun : List DeviceDecl → Bool → List Line → Type 0
@@ -39,9 +40,15 @@ pub record HearsItem (devices : List DeviceDecl) (begun : Bool) (old new : Held)
   pub short : size (item_lines item) ≤ item_limit
   pub hears : Hears old new left later (item_lines item)
 
+-- that a definition is run on the devices of the host was heard
+pub record HearsLive (old new : Held) (left later : Option (List ℕ)) (it : Live) : Type 0 where
+  pub may : IsLive it
+  pub short : size (live_line it ∷ []) ≤ item_limit
+  pub hears : Hears old new left later (live_line it ∷ [])
+
 -- What comes of reading the next item, where so many lines were taken before and behind it: nothing is left; an empty line; an
--- item; a line with which none goes on, behind those of an item that has begun; the end behind such lines; a line with which
--- an item is too long; a read fault; or memory lacked.
+-- item; that a definition is run on the devices of the host; a line with which no item goes on, nor says that, behind those of
+-- an item that has begun; the end behind such lines; a line with which an item is too long; a read fault; or memory lacked.
 abbrev pub HearsNextItem : List DeviceDecl → Bool → Held → Held → Option (List ℕ) → Option (List ℕ) → ℕ → ℕ → Result Heard NotHeard → Type 0
 HearsNextItem devices begun old new left later before behind (Ok heard.End) =
     Hears old new left later [] × IsOver new × IsAtEnd later × (behind ≡ before)
@@ -53,9 +60,11 @@ HearsNextItem devices begun old new left later before behind (Ok (heard.Device d
 HearsNextItem devices begun old new left later before behind (Ok (heard.Command command)) =
     HearsItem devices begun old new left later (Commands command)
     × (behind ≡ before + length (item_lines (Commands command)))
+HearsNextItem devices begun old new left later before behind (Ok (heard.Live owner definition fuel)) =
+    HearsLive old new left later (record { owner = owner; definition = definition; fuel = fuel }) × (behind ≡ before + 1)
 HearsNextItem devices begun old new left later before behind (Err errors.BadLine) =
     (front : List Line) × (bad : Line) × Hears old new left later (front ++ bad ∷ []) × HasBegun devices begun front
-    × (front ≡ [] → bad ≢ []) × (GoesOn devices begun (front ++ bad ∷ []) → ⊥)
+    × (front ≡ [] → bad ≢ []) × (front ≡ [] → IsLiveLine bad → ⊥) × (GoesOn devices begun (front ++ bad ∷ []) → ⊥)
     × (size (front ++ bad ∷ []) ≤ item_limit) × (behind ≡ before + (length front + 1))
 HearsNextItem devices begun old new left later before behind (Err errors.CutShort) =
     (front : List Line) × Hears old new left later front × (front ≢ []) × IsOpen devices begun front
@@ -144,6 +153,7 @@ item_with (heads.Command command) text rules = Commands command
 abbrev pub IsItemHeard : Heard → Item → Type 0
 IsItemHeard heard.End item = ⊥
 IsItemHeard heard.Empty item = ⊥
+IsItemHeard (heard.Live owner definition fuel) item = ⊥
 IsItemHeard (heard.Device device) item = item ≡ Declares device
 IsItemHeard (heard.Command command) item = item ≡ Commands command
 
@@ -199,3 +209,16 @@ HearsBehind head room old new left later before behind (Err errors.NoMemory) =
 -- there are no more devices than there may be, and their names differ
 abbrev pub AreDeclared : List DeviceDecl → Type 0
 AreDeclared devices = (length devices ≤ 16) × IsDistinct bytes_eq (map (λ it. it.name) devices)
+
+-- what comes of a line that is no item's, where there is memory
+abbrev pub IsLiveHeard : Line → Result Heard NotHeard → Type 0
+IsLiveHeard line (Ok heard.End) = ⊥
+IsLiveHeard line (Ok heard.Empty) = ⊥
+IsLiveHeard line (Ok (heard.Device device)) = ⊥
+IsLiveHeard line (Ok (heard.Command command)) = ⊥
+IsLiveHeard line (Ok (heard.Live owner definition fuel)) = live_of line ≡ Some (owner, definition, fuel)
+IsLiveHeard line (Err errors.BadLine) = live_of line ≡ None
+IsLiveHeard line (Err errors.CutShort) = ⊥
+IsLiveHeard line (Err errors.TooLong) = ⊥
+IsLiveHeard line (Err errors.ReadFault) = ⊥
+IsLiveHeard line (Err errors.NoMemory) = Unit {0}

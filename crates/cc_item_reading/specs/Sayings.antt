@@ -1,10 +1,13 @@
 -- What may be said next in a conversation, of which so many devices were declared so far: items, line by line.
-use Rattle.std.specs.Prelude.{◌≡◌, ℕ, ◌<◌, Bool, false, List, [], ◌∷◌, ◌++◌, length, map}
+use Rattle.std.specs.Prelude.{◌≡◌, ℕ, ◌<◌, ◌≤◌, Bool, false, codes, List, [], ◌∷◌, ◌++◌, length, map}
+use Rattle.std.specs.Fmt.{decimal}
 use Rattle.std.specs.List.{IsDistinct}
 use Rattle.std.specs.Str.{bytes_eq}
+use Rattle.cc_base.specs.Names.{IsName}
 use Rattle.cc_base.specs.declared.device.DeviceDecl.{DeviceDecl}
 use Rattle.cc_job.specs.Jobs.{Item, Declares, Commands, IsItem, item_lines, text}
 use Rattle.cc_words.specs.Lines.{Line}
+use Rattle.cc_words.specs.Words.{joined, pair_text}
 
 -- A device may be declared before the first command, where there are fewer than 16, by a name that none of them has.
 pub record MayDeclare (devices : List DeviceDecl) (begun : Bool) (device : DeviceDecl) : Type 0 where
@@ -27,6 +30,24 @@ abbrev pub IsOpen : List DeviceDecl → Bool → List Line → Type 0
 IsOpen devices begun lines =
     (item : Item) × (next : Line) × (missing : List Line) × MaySay devices begun item
     × (item_lines item ≡ lines ++ next ∷ missing)
+
+-- What a job cannot say: that a definition is run on the devices of the host, for at most so many steps.
+pub record Live : Type 0 where
+  pub owner : List ℕ
+  pub definition : List ℕ
+  pub fuel : ℕ
+
+-- as a run may be
+abbrev pub IsLive : Live → Type 0
+IsLive it = (IsName it.owner × IsName it.definition) × (it.fuel ≤ 1000000)
+
+-- its line
+abbrev pub live_line : Live → Line
+live_line it = joined 32 (codes "live" ∷ pair_text (it.owner, it.definition) ∷ decimal it.fuel ∷ [])
+
+-- the line says that
+abbrev pub IsLiveLine : Line → Type 0
+IsLiveLine line = (it : Live) × IsLive it × (line ≡ live_line it)
 
 -- how many bytes lines have, each with its line feed
 abbrev pub size : List Line → ℕ

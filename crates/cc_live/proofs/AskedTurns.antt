@@ -39,6 +39,7 @@ module _ (names : List (List ℕ)) (steps : ℕ) (held : Configuration) (q : Que
     pub told_no_further : TakesTurn (turn_of names steps held) held old old left left count count before after waiting between (Err errors.WriteFault)
     told_no_further = record {
       heard = [];
+      within = tt;
       text = question_line names q;
       listens = hears_nothing old left;
       counts = omega arith;
@@ -49,6 +50,7 @@ module _ (names : List (List ℕ)) (steps : ℕ) (held : Configuration) (q : Que
     pub told_without_memory : TakesTurn (turn_of names steps held) held old old left left count count before after waiting between (Err errors.NoMemory)
     told_without_memory = record {
       heard = [];
+      within = tt;
       text = question_line names q;
       listens = no_memory_behind old old left left [] (hears_nothing old left);
       counts = omega arith;
@@ -63,6 +65,7 @@ module _ (names : List (List ℕ)) (steps : ℕ) (held : Configuration) (q : Que
         → TakesTurn (turn_of names steps held) held old new left rest count counted before after waiting between (Err errors.ReadFault)
     read_no_further fails = record {
       heard = [];
+      within = tt;
       text = question_line names q;
       listens = record { between = old; rest = left; first = hears_nothing old left; fails = fails.0 };
       counts = omega (arith, fails.1);
@@ -74,6 +77,7 @@ module _ (names : List (List ℕ)) (steps : ℕ) (held : Configuration) (q : Que
         → TakesTurn (turn_of names steps held) held old new left rest count counted before after waiting between (Err errors.TooLong)
     read_too_long fails = record {
       heard = [];
+      within = tt;
       text = question_line names q;
       listens = record { between = old; rest = left; first = hears_nothing old left; fails = fails.0 };
       counts = omega (arith, fails.1);
@@ -85,6 +89,7 @@ module _ (names : List (List ℕ)) (steps : ℕ) (held : Configuration) (q : Que
         → TakesTurn (turn_of names steps held) held old new left rest count counted before after waiting between (Err errors.NoMemory)
     read_without_memory fails = record {
       heard = [];
+      within = tt;
       text = question_line names q;
       listens = record { between = old; rest = left; first = hears_nothing old left; fails = fails.0 };
       counts = omega (arith, fails.1);
@@ -96,6 +101,7 @@ module _ (names : List (List ℕ)) (steps : ℕ) (held : Configuration) (q : Que
         → TakesTurn (turn_of names steps held) held old new left rest count counted before after waiting between (Err errors.Ended)
     read_to_the_end ends = record {
       heard = [];
+      within = tt;
       text = question_line names q;
       listens = (ends.0, ends.1, ends.2);
       counts = omega (arith, ends.3);
@@ -109,6 +115,7 @@ module _ (names : List (List ℕ)) (steps : ℕ) (held : Configuration) (q : Que
           → TakesTurn (turn_of names steps held) held' old new left rest count counted before after waiting waiting' (Ok true)
       went_on says = record {
         heard = line ∷ [];
+        within = (hears.2, tt);
         text = question_line names q;
         listens = hears.0;
         counts = hears.1;
@@ -122,6 +129,7 @@ module _ (names : List (List ℕ)) (steps : ℕ) (held : Configuration) (q : Que
           let told = told_line (stopped_text steps) in
           record {
             heard = line ∷ [];
+            within = (hears.2, tt);
             text = question_line names q ++ told;
             listens = hears.0;
             counts = hears.1;
@@ -138,6 +146,7 @@ module _ (names : List (List ℕ)) (steps : ℕ) (held : Configuration) (q : Que
           → TakesTurn (turn_of names steps held) held' old new left rest count counted before after waiting waiting' (Err errors.BadLine)
       was_broken says = record {
         heard = line ∷ [];
+        within = (hears.2, tt);
         text = question_line names q;
         listens = hears.0;
         counts = hears.1;
@@ -148,6 +157,7 @@ module _ (names : List (List ℕ)) (steps : ℕ) (held : Configuration) (q : Que
       pub heard_without_memory : TakesTurn (turn_of names steps held) held' old new left rest count counted before after waiting waiting' (Err errors.NoMemory)
       heard_without_memory = record {
         heard = line ∷ [];
+        within = (hears.2, tt);
         text = question_line names q;
         listens = no_memory_behind old new left rest (line ∷ []) hears.0;
         counts = hears.1;
@@ -183,6 +193,7 @@ module _ (names : List (List ℕ)) (steps : ℕ) (held next : Configuration) (ol
       → TakesTurn (turn_of names steps held) next old old left left count count before after waiting waiting' (Ok true)
   advances_on u it = record {
     heard = [];
+    within = tt;
     text = it.0;
     listens = hears_nothing old left;
     counts = omega arith;
@@ -194,6 +205,7 @@ module _ (names : List (List ℕ)) (steps : ℕ) (held next : Configuration) (ol
       → TakesTurn (turn_of names steps held) next old old left left count count before after waiting waiting' (Err errors.WriteFault)
   advances_no_further error it = record {
     heard = [];
+    within = tt;
     text = it.0;
     listens = hears_nothing old left;
     counts = omega arith;
@@ -205,6 +217,7 @@ module _ (names : List (List ℕ)) (steps : ℕ) (held next : Configuration) (ol
       → TakesTurn (turn_of names steps held) next old old left left count count before after waiting waiting' (Err errors.NoMemory)
   advances_without_memory error it = record {
     heard = [];
+    within = tt;
     text = it.0;
     listens = no_memory_behind old old left left [] (hears_nothing old left);
     counts = omega arith;

@@ -42,7 +42,7 @@ some_devices (b ∷ bs) are =
     (first.0 ∷ others.0, λ i. first.1 i ∷ others.1 i)
 
 -- each operation can be answered
-some_answer : (op : Op) → (answer : Literal) × IsAnswerOf op answer
+pub some_answer : (op : Op) → (answer : Literal) × IsAnswerOf op answer
 some_answer operations.Print = (UnitLiteral, (refl, refl))
 some_answer operations.Say = (UnitLiteral, (refl, refl))
 some_answer operations.Read = (NumberLiteral (pos 0), (refl, refl))
@@ -50,16 +50,16 @@ some_answer operations.Write = (UnitLiteral, (refl, refl))
 some_answer operations.Tick = (NumberLiteral (pos 0), (refl, refl))
 
 -- some steps and one more, with its event
-record OneMore (count : ℕ) (start : Configuration) (event : Event) (next : Configuration) : Type 0 where
-  events : List Event
-  went : GoesOnTo (suc count) start events next
-  among : IsAmong event events
+pub record OneMore (count : ℕ) (start : Configuration) (event : Event) (next : Configuration) : Type 0 where
+  pub events : List Event
+  pub went : GoesOnTo (suc count) start events next
+  pub among : IsAmong event events
 
 later_among : (event : Option Event) (one : Event) (events : List Event) → IsAmong one events → IsAmong one (with_event event events)
 later_among None one events among = among
 later_among (Some first) one events among = inr among
 
-one_more : {count : ℕ} {start now : Configuration} {events : List Event} {event : Event} {next : Configuration} → GoesOnTo count start events now → GoesTo now (Some event) next
+pub one_more : {count : ℕ} {start now : Configuration} {events : List Event} {event : Event} {next : Configuration} → GoesOnTo count start events now → GoesTo now (Some event) next
     → OneMore count start event next
 one_more {event = event} answered.none goes = record { events = event ∷ []; went = answered.more goes answered.none; among = inl refl }
 one_more {event = one} (answered.more {event = event} first later) goes =

@@ -1,5 +1,5 @@
 -- A live run turn by turn: what was heard and told up to here, and what comes of each end.
-use Rattle.std.proofs.Common.{◌≡◌, ℕ, zero, suc, ◌+◌, ◌-◌, ◌<◌, ◌≤◌, Bool, true, false, List, [], ◌++◌, length, Option, Result, Ok, Err, refl, sym, ap, subst, ◌∙◌, arith, append_assoc, append-nil}
+use Rattle.std.proofs.Common.{◌≡◌, ℕ, zero, suc, ◌+◌, ◌-◌, ◌<◌, ◌≤◌, Bool, true, false, List, [], ◌∷◌, ◌++◌, length, Option, Result, Ok, Err, refl, sym, ap, subst, ◌∙◌, arith, append_assoc, append-nil}
 use Rattle.std.proofs.KnownBytes.{Appends-trans}
 use Rattle.std.specs.Io.KnownBytes.{Appends}
 use Rattle.cc_io.proofs.PassedPieces.{front_none, front_second, passed_nothing, passed_both, stopped_second}
@@ -9,7 +9,7 @@ use Rattle.cc_line_reading.specs.LineReading.{Held, Hears}
 use Rattle.cc_live.proofs.AlikeLives.{live-erased}
 use Rattle.cc_live.proofs.HeardLines.{hears_nothing, hears_both, listens_behind, no_memory_behind, counted_both}
 use Rattle.cc_live.proofs.LiveTexts.{both_behind}
-use Rattle.cc_live.specs.LiveEnds.{Listens, Tells, BeginsText, ComesTo, RunsLive}
+use Rattle.cc_live.specs.LiveEnds.{Listens, Tells, BeginsText, ComesTo, AreWithin, RunsLive}
 use Rattle.cc_live.specs.LiveRuns.{Live, Over, Waits, Breaks, Course, behind_text, is_cut_short, ended_live, live_on, live_from, live}
 use Rattle.cc_live.specs.LiveTurns.{turn_of, end_line, TurnsTo, TellsBehind, TakesTurn, StopsSo}
 use Rattle.cc_live.specs.declared.running.LiveError.{LiveError}
@@ -24,12 +24,18 @@ use Rattle.cc_words.specs.Lines.{Line}
 pub record StandsAt (names : List (List ℕ)) (fuel : ℕ) (start : Configuration) (old now : Held) (left later : Option (List ℕ)) (count counted : ℕ)
     (before after : Option (List ℕ)) (waiting : List ℕ) (steps : ℕ) (held : Configuration) : Type 0 where
   pub heard : List Line
+  pub short : AreWithin heard
   pub told : List ℕ
   pub hears : Hears old now left later heard
   pub counts : counted ≡ count + length heard
   pub passed : IsPassedOn before after [] waiting told
   pub comes : (rest : List Line) → live_from names 0 fuel start (heard ++ rest) ≡ behind_text told (live_from names steps (fuel - steps) held rest)
   pub within : steps ≤ fuel
+
+-- lines that are short are so together
+within_both : (first second : List Line) → AreWithin first → AreWithin second → AreWithin (first ++ second)
+within_both [] second a b = b
+within_both (line ∷ first) second a b = (a.0, within_both first second a.1 b)
 
 -- at the start
 pub stands_first : (names : List (List ℕ)) (fuel : ℕ) (start : Configuration) (now : Held) (left : Option (List ℕ)) (count : ℕ) (before : Option (List ℕ))
@@ -38,6 +44,7 @@ stands_first names fuel start now left count before =
     let all : fuel ≡ fuel - 0 = omega arith in
     record {
       heard = [];
+      short = tt;
       told = [];
       hears = hears_nothing now left;
       counts = omega arith;
@@ -86,6 +93,7 @@ module _ (names : List (List ℕ)) (fuel : ℕ) (start : Configuration) (old now
         → StandsAt names fuel start old new left last count total before finally waiting' (steps + 1) held'
     goes_further turn = record {
       heard = at.heard ++ turn.heard;
+      short = within_both at.heard turn.heard at.short turn.within;
       told = at.told ++ turn.text;
       hears = hears_both old now new left later last at.heard turn.heard at.hears turn.listens;
       counts = counted_both count counted total at.heard turn.heard at.counts turn.counts;
@@ -101,6 +109,7 @@ module _ (names : List (List ℕ)) (fuel : ℕ) (start : Configuration) (old now
         → RunsLive (live names fuel start) old new left last count total before finally (Err error)
     fails_so error turn = record {
       heard = at.heard ++ turn.heard;
+      within = within_both at.heard turn.heard at.short turn.within;
       text = at.told ++ turn.text;
       listens = listens_behind old now new left later last at.heard turn.heard (Err error) at.hears turn.listens;
       counts = counted_both count counted total at.heard turn.heard at.counts turn.counts;
@@ -146,6 +155,7 @@ module _ (names : List (List ℕ)) (fuel : ℕ) (start : Configuration) (old now
         → RunsLive (live names fuel start) old new left last count total before written result
     stops_so written result turn stops = record {
       heard = at.heard ++ turn.heard;
+      within = within_both at.heard turn.heard at.short turn.within;
       text = at.told ++ turn.text;
       listens = listens_so result stops;
       counts = counted_both count counted total at.heard turn.heard at.counts turn.counts;
@@ -216,6 +226,7 @@ module _ (names : List (List ℕ)) (fuel : ℕ) (start : Configuration) (old now
         → IsPassedOn after finally waiting [] (end_line names steps held) → RunsLive (live names fuel start) old now left later count counted before finally (Ok refused)
     ends_so finally refused is passed = record {
       heard = at.heard;
+      within = at.short;
       text = at.told ++ end_line names steps held;
       listens = at.hears;
       counts = at.counts;
@@ -235,6 +246,7 @@ module _ (names : List (List ℕ)) (fuel : ℕ) (start : Configuration) (old now
         → RunsLive (live names fuel start) old now left later count counted before finally (Err errors.NoMemory)
     ends_no_memory finally front = record {
       heard = at.heard;
+      within = at.short;
       text = at.told ++ end_line names steps held;
       listens = no_memory_behind old now left later at.heard at.hears;
       counts = at.counts;
@@ -246,6 +258,7 @@ module _ (names : List (List ℕ)) (fuel : ℕ) (start : Configuration) (old now
         → RunsLive (live names fuel start) old now left later count counted before finally (Err errors.WriteFault)
     ends_write_fault finally front = record {
       heard = at.heard;
+      within = at.short;
       text = at.told ++ end_line names steps held;
       listens = at.hears;
       counts = at.counts;
@@ -265,6 +278,7 @@ pub runs_never : (course : Course) (old : Held) (left : Option (List ℕ)) (coun
     → RunsLive course old old left left count count before before (Err errors.NoMemory)
 runs_never course old left count before = record {
   heard = [];
+  within = tt;
   text = [];
   listens = no_memory_behind old old left left [] (hears_nothing old left);
   counts = omega arith;

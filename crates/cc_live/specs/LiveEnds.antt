@@ -1,6 +1,7 @@
 -- What comes of a live run that reads the lines of the host from a source and tells to a sink.
 use Rattle.std.specs.Prelude.{◌≡◌, ℕ, ◌+◌, ◌<◌, Bool, List, [], ◌++◌, length, Option, Result, Ok, Err}
 use Rattle.std.specs.Io.KnownBytes.{Appends, IsAtEnd}
+use Rattle.std.specs.List.{AllByRecursion}
 use Rattle.cc_io.specs.Wholes.{AppendsFront}
 use Rattle.cc_io.specs.declared.whole.ReadAll.{ReadAll}
 use Rattle.cc_io.specs.declared.whole.ReadAll.TheVariants as read_errors
@@ -56,11 +57,16 @@ ComesTo it text (Err errors.WriteFault) = BeginsText text it
 ComesTo it text (Err errors.Ended) = it ≡ record { text = text; standing = Waits }
 ComesTo it text (Err errors.BadLine) = it ≡ record { text = text; standing = Breaks [] }
 
+-- each of the lines has at most 4,194,304 bytes with its line feed
+abbrev pub AreWithin : List Line → Type 0
+AreWithin lines = AllByRecursion (λ line. length line < 4194304) lines
+
 -- A live run as it was answered: the lines of the host that were taken from what was held and from the source, and are
 -- counted; and the text that was written to the sink.
 pub record RunsLive (course : Course) (old new : Held) (left later : Option (List ℕ)) (count counted : ℕ)
     (before after : Option (List ℕ)) (result : Result Bool LiveError) : Type 0 where
   pub heard : List Line
+  pub within : AreWithin heard
   pub text : List ℕ
   pub listens : Listens old new left later heard result
   pub counts : counted ≡ count + length heard

@@ -1,12 +1,12 @@
 -- One turn of a live run, as the code takes it: a step, and what is heard and told at it.
-use Rattle.std.specs.Prelude.{◌≡◌, ℕ, ◌+◌, Bool, true, false, List, [], ◌∷◌, ◌++◌, length, Option, Result, Ok, Err}
+use Rattle.std.specs.Prelude.{◌≡◌, ℕ, ◌+◌, ◌<◌, Bool, true, false, List, [], ◌∷◌, ◌++◌, length, Option, Result, Ok, Err}
 use Rattle.std.specs.Io.KnownBytes.{Appends, IsAtEnd}
 use Rattle.cc_io.specs.Pieces.{IsPassedOn}
 use Rattle.cc_io.specs.Wholes.{AppendsFront}
 use Rattle.cc_io.specs.declared.whole.ReadAll.{ReadAll}
 use Rattle.cc_io.specs.declared.whole.WriteAll.{WriteAll}
 use Rattle.cc_line_reading.specs.LineReading.{Held, Hears, HearsNext, IsOver}
-use Rattle.cc_live.specs.LiveEnds.{Listens, BeginsText}
+use Rattle.cc_live.specs.LiveEnds.{Listens, BeginsText, AreWithin}
 use Rattle.cc_live.specs.LiveRuns.{Over, Waits, Breaks, Course, told_line, asked_text, stopped_text, behind_text, live_on}
 use Rattle.cc_live.specs.declared.running.LiveError.{LiveError}
 use Rattle.cc_live.specs.declared.running.LiveError.TheVariants as errors
@@ -51,7 +51,7 @@ SaysOf names steps held question line next waiting waiting' said.Other =
 -- failed.
 abbrev pub HearsLine : Held → Held → Option (List ℕ) → Option (List ℕ) → ℕ → ℕ → Line → Result Bool ReadAll → Type 0
 HearsLine old new left later count counted line (Ok true) =
-    Hears old new left later (line ∷ []) × (counted ≡ count + 1)
+    Hears old new left later (line ∷ []) × (counted ≡ count + 1) × (length line < 4194304)
 HearsLine old new left later count counted line (Ok false) =
     Hears old new left later [] × IsOver new × IsAtEnd later × (counted ≡ count)
 HearsLine old new left later count counted line (Err error) =
@@ -94,6 +94,7 @@ TurnsTo turn next heard text (Err errors.BadLine) =
 pub record TakesTurn (turn : Turn) (next : Configuration) (old new : Held) (left later : Option (List ℕ)) (count counted : ℕ)
     (before after : Option (List ℕ)) (waiting waiting' : List ℕ) (result : Result Bool LiveError) : Type 0 where
   pub heard : List Line
+  pub within : AreWithin heard
   pub text : List ℕ
   pub listens : Listens old new left later heard result
   pub counts : counted ≡ count + length heard

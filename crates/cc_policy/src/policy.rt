@@ -40,6 +40,13 @@ impl Policy {
         Policy { rules }
     }
 
+    /// Its rules, in order.
+    pub fn rules(&self) -> &[Rule]
+        ensures { result.now ≡ self.now }
+    {
+        self.rules.as_slice()
+    }
+
     /// How many rules it has.
     pub fn len(&self) -> u32
         ensures { result ≡ length self.now }

@@ -1,0 +1,4 @@
+pub mod HostedRuns
+pub mod CourseLaws
+pub mod HostedLaws
+pub mod HostedExamples
