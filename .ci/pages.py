@@ -9,7 +9,8 @@
   docs/architecture.md under its layer.
 - In the tables of docs/developing.md each name of a file stands in its crate's folder.
 - In a row of docs/rules.md that has one link to a file, the names between backticks before it stand in that file.
-- docs/codes.md has a row for each code of the program, and no others, and names each message of both programs.
+- docs/codes.md has a row for each code of the programs, and no others, and names each message of `capc` and `certify`;
+  docs/conversation.md names each of `capi`.
 - Each clause and function that docs/proved.md and README.md name in a row stands in a file or crate that the row names.
 Usage: .ci/pages.py
 Prints a line for each place that is wrong, and ends with 1 where there is one.
@@ -200,12 +201,13 @@ def check_codes():
     page = "docs/codes.md"
     text = read(page)
     codes = re.findall(r"^    (E\d\d),$", read("crates/cc_base/src/code.rt"), re.M)
+    codes += re.findall(r" refused (E\d\d) ", read("crates/cc_hosting/src/texts.rt"))
     rows = re.findall(r"^\| (E\d\d) \| [^|]+ \|.* \| [^|]+ \|$", text, re.M)
     if sorted(rows) != sorted(codes):
-        fail(page, 1, f"its codes are not those of crates/cc_base/src/code.rt: {' '.join(sorted(set(rows) ^ set(codes)))}")
-    for crate in ("cc_program", "certify"):
+        fail(page, 1, f"its codes are not those of cc_base/src/code.rt and cc_hosting/src/texts.rt: {' '.join(sorted(set(rows) ^ set(codes)))}")
+    for crate, page in (("cc_program", page), ("certify", page), ("capi", "docs/conversation.md")):
         for message in re.findall(r'"(\w+: [^"{]*)', read(f"crates/{crate}/src/status.rt")):
-            if f"`{message}" not in text:
+            if f"`{message}" not in read(page):
                 fail(page, 1, f"no message {message}")
 
 

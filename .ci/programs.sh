@@ -1,25 +1,41 @@
 #!/usr/bin/env bash
 # Runs the built programs on the examples of the pages, and on what needs a shell: streams that are closed, that cannot be
 # read or that take nothing, or not all, or that do not wait, standard input that is not to be read, and the deepest types
-# and the highest certificates on a small stack. All other jobs, certificates and command lines stand in tests/.
+# and the highest certificates on a small stack, and the hosts of examples/conversation. All other jobs, certificates,
+# conversations and command lines stand in tests/.
 # It prints a line for each failure and a closing line where there is one, and nothing where all is as it must be.
-# Usage: .ci/programs.sh [PROGRAM ..]; with no program, those that `rt ci` leaves, and those that judge certificates.
+# Usage: .ci/programs.sh [PROGRAM ..]; with no program, those that `rt ci` leaves, those that judge certificates, and those
+# that have conversations. A program that is named has conversations where its name begins with capi.
 set -u
 top=$(cd "$(dirname "$0")/.." && pwd)
 built=$top/crates/capc/out/capc
 judge=$top/crates/certify/out/certify
+talker=$top/crates/capi/out/capi
+programs=()
 judges=()
+talkers=()
+for named; do
+    case $(basename "$named") in
+        capi*) talkers+=("$named") ;;
+        *) programs+=("$named") ;;
+    esac
+done
 if [ $# -eq 0 ]; then
     if [ ! -x "$built" ]; then
         (cd "$top/crates/capc" && rt run < stdin > /dev/null 2>&1)
     fi
-    set -- "$built"
-    [ -x "$built.by-rattle" ] && set -- "$built" "$built.by-rattle"
+    programs=("$built")
+    [ -x "$built.by-rattle" ] && programs=("$built" "$built.by-rattle")
     if [ ! -x "$judge" ]; then
         (cd "$top/crates/certify" && rt run < stdin > /dev/null 2>&1)
     fi
     judges=("$judge")
     [ -x "$judge.by-rattle" ] && judges=("$judge" "$judge.by-rattle")
+    if [ ! -x "$talker" ]; then
+        (cd "$top/crates/capi" && rt run < stdin > /dev/null 2>&1)
+    fi
+    talkers=("$talker")
+    [ -x "$talker.by-rattle" ] && talkers=("$talker" "$talker.by-rattle")
 fi
 
 # what is said of bad words
@@ -32,11 +48,16 @@ Options:
       --workload <N>  Carry out the job of a workload of N modules, 1 to 200, and write its summary
 '
 
-# and by the program that has no words
+# and by the programs that have no words
 no_words='certify: bad words
 Reads a certificate from standard input and says whether it is valid.
 
 Usage: certify
+'
+nothing_said='capi: bad words
+Answers what is said on standard input, command by command.
+
+Usage: capi
 '
 
 work=$(mktemp -d) || exit 1
@@ -108,8 +129,34 @@ low() {
     echo $? > "$work/status"
 }
 
+# hosted HOST: has the host run what guests have put on the program
+hosted() {
+    local command=("$1")
+    [[ $1 == *.py ]] && command=(python3 "$1")
+    timeout 120 "${command[@]}" "$program" "$work/guest" app.main > "$work/out" 2> "$work/err" < /dev/null
+    echo $? > "$work/status"
+}
+
+# leaving: runs it where a host closes its end of the output in the middle of a live run, and answers what it was asked last
+leaving() {
+    timeout 120 python3 -c '
+import subprocess, sys
+program, work = sys.argv[1:]
+text = "def main = fun (u: Unit) => val a = out.print(1); val b = out.print(2); out.print(3)"
+said = "capc 1\ndevice out console\nput m 1\n%s\npolicy 1\nallow m out\nlive m.main 100\n" % text
+with open(work + "/out", "wb") as out, open(work + "/err", "wb") as err:
+    run = subprocess.Popen([program], stdin=subprocess.PIPE, stdout=subprocess.PIPE, stderr=err, bufsize=0)
+    run.stdin.write(said.encode())
+    for line in iter(run.stdout.readline, b"  out print 1\n"):
+        out.write(line)
+    run.stdout.close()
+    run.stdin.write(b"ok\n")
+    print(run.wait())
+' "$program" "$work" > "$work/status"
+}
+
 jobs=$top/examples
-for program; do
+for program in ${programs[@]+"${programs[@]}"}; do
     if [ ! -x "$program" ]; then
         failed=$((failed + 1))
         echo "FAILED $program: there is no such program"
@@ -197,6 +244,63 @@ for program in ${judges[@]+"${judges[@]}"}; do
         fi
         low < "$work/deep"
         expect "$deep on a stack of 512 KB" "$(sed -n '$s/^status //p' "$work/answer")" "$(sed '$d' "$work/answer")\n" ''
+    done
+done
+
+talk=$jobs/conversation
+if [ ${#talkers[@]} -gt 0 ] && ! cc -std=c11 -o "$work/host" "$talk/host.c"; then
+    failed=$((failed + 1))
+    echo 'FAILED examples/conversation/host.c: cc does not take it'
+fi
+for program in ${talkers[@]+"${talkers[@]}"}; do
+    if [ ! -x "$program" ]; then
+        failed=$((failed + 1))
+        echo "FAILED $program: there is no such program"
+        continue
+    fi
+    run < "$talk/session.in"
+    expect 'the example session.in' 1 "$(cat "$talk/session.out")\n\n" ''
+    run session.in < /
+    expect 'a word beside what cannot be read' 6 '' "$nothing_said"
+    run < /
+    expect 'a read that fails' 3 '' 'capi: read fault\n'
+    run <&-
+    expect 'no standard input' 3 '' 'capi: read fault\n'
+    restless stdin < /dev/null
+    expect 'a standard input that does not wait' 3 '' 'capi: read fault\n'
+    restless stdout < "$talk/session.in"
+    expect 'a standard output that does not wait' 4 '' 'capi: write fault\n'
+    full < "$talk/session.in"
+    expect 'an answer that cannot be written' 4 '' 'capi: write fault\n'
+    closed < "$talk/session.in"
+    expect 'no standard output' 4 '' 'capi: write fault\n'
+    # A prefix of the answers that ends with an empty line: nothing but the status tells that it is one.
+    short < <(printf 'capc 1\n' && printf 'put abcdefghij 0\n%.0s' $(seq 65))
+    expect 'answers that are cut at an empty line' 4 "$(printf 'put abcdefghij\\n\\n%.0s' $(seq 64))" 'capi: write fault\n'
+    leaving
+    expect 'a host that leaves a live run' 4 'put m\n\npolicy 1\n\nlive m.main\n  authority {out}\n' 'capi: write fault\n'
+
+    # The two hosts, each of which runs a definition twice: what it keeps stays. A name that would be lines is not said.
+    verdicts='  app ok\n  greeting ok\n  visits ok\n'
+    for host in "$talk/host.py" "$work/host"; do
+        rm -rf "$work/guest"
+        cp -r "$talk/guest" "$work/guest"
+        for visit in 1 2; do
+            hosted "$host"
+            expect "$(basename "$host"), visit $visit" 0 "hello,\nguest\n42\n$visit\n" \
+                "$verdicts  authority {out, data, hits}\n  done unit after 31 steps\n"
+        done
+        printf '4\n38\n42\n42\n' | cmp -s - "$work/guest/numbers" || {
+            failed=$((failed + 1))
+            echo "FAILED $program: $(basename "$host"): other numbers are kept"
+        }
+        sed -i '/^allow visits/d' "$work/guest/rules"
+        hosted "$host"
+        expect "$(basename "$host"), with a rule less" 1 '' "${verdicts}live app.main refused E38 visits hits\n"
+        cp "$work/guest/app.cap" "$work/guest/"$'a 0\npolicy 1\nallow * *\nput b.cap'
+        hosted "$host"
+        grep -q 'no name' "$work/err" && : > "$work/err"
+        expect "$(basename "$host"), where a name has line feeds" 1 '' ''
     done
 done
 

@@ -3,12 +3,12 @@
 Each answer has to be the whole one, or want of memory: then status and message say so, and what is written is a front of
 the whole text. Words that are bad stay so, with or without the usage text, unless memory lacks for the words themselves.
 The programs that are run are the built ones; the refusals come from a library in C that is laid before the allocator
-(refusing.c), which gcc builds. The jobs and certificates are those that are named, or else the examples; workloads and bad
-words are tried besides. It prints a line for each wrong answer and then one for each run. Where the tests of calls are
-built (`rt test` in crates/cc_tests_calls), so is the test of a session there whose calls are made again where they found no
-memory: it has to pass, or to find no memory before the session is there.
+(refusing.c), which gcc builds. The jobs, certificates and conversations are those that are named, or else the examples;
+workloads and bad words are tried besides. It prints a line for each wrong answer and then one for each run. Where the tests
+of calls are built (`rt test` in crates/cc_tests_calls), so is the test of a session there whose calls are made again where
+they found no memory: it has to pass, or to find no memory before the session is there.
 
-Usage: python3 checks/refused_memory.py [--most N] [--capc PROGRAM] [--certify PROGRAM] [FILE ..]
+Usage: python3 checks/refused_memory.py [--most N] [--capc PROGRAM] [--certify PROGRAM] [--capi PROGRAM] [FILE ..]
 """
 import os
 import sys
@@ -26,7 +26,7 @@ def is_right(answer, whole, program):
     if answer[:3] == whole[:3]:
         return True
     if whole[0] == 6 and answer[0] == 6:
-        return answer[1:3] == (b'', b'capc: bad words\n')
+        return answer[1:3] == (b'', b'%s: bad words\n' % program.encode())
     return refusing.is_fault(answer, program, 'out of memory') and whole[1].startswith(answer[1])
 
 

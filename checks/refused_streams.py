@@ -1,16 +1,17 @@
 """Runs the programs again and again, and refuses them another read or write each time; and has them move few bytes a call.
 
-- Where a read is refused, status and message say so, nothing is written, and nothing is read behind it.
+- Where a read is refused, status and message say so, and nothing is read behind it. Nothing is written; of a conversation
+  a front of the whole text is, which is no shorter for each later read.
 - Where a write is refused, or takes nothing, status and message say so, nothing is written behind it, and what was written
   is a front of the whole text, which is longer for each later write.
 - Where a message is refused, status and text are the same, and only a piece of what is told is missing, or nothing.
 - Where each call moves one byte, or seven, the answer is the same.
 A read or a write is refused by an error of the device, and by a signal that interrupts it: none is tried again. The
 programs that are run are the built ones; the refusals come from a library in C that is laid before the C library
-(refusing.c), which gcc builds. The jobs and certificates are those that are named, or else the examples; workloads and bad
-words are tried besides. It prints a line for each wrong answer and then one for each run.
+(refusing.c), which gcc builds. The jobs, certificates and conversations are those that are named, or else the examples;
+workloads and bad words are tried besides. It prints a line for each wrong answer and then one for each run.
 
-Usage: python3 checks/refused_streams.py [--most N] [--capc PROGRAM] [--certify PROGRAM] [FILE ..]
+Usage: python3 checks/refused_streams.py [--most N] [--capc PROGRAM] [--certify PROGRAM] [--capi PROGRAM] [FILE ..]
 """
 import errno
 import os
@@ -29,7 +30,7 @@ def is_right(kind, program, number, answer, whole):
     if kind == 'message':
         same = len(os.path.commonprefix([answer[2], whole[2]]))
         return answer[:2] == whole[:2] and len(answer[2]) <= len(whole[2]) and whole[2].endswith(answer[2][same:])
-    front = b'' if kind == 'input' else whole[1][:len(answer[1])]
+    front = b'' if kind == 'input' and program != 'capi' else whole[1][:len(answer[1])]
     return refusing.is_fault(answer, program, FAULTS[kind]) and answer[1] == front and answer[3] == number
 
 
@@ -55,7 +56,8 @@ def tried(name, program, command, job, library, most):
             for number in refusing.numbers(plain[3], most):
                 answer = refusing.answered(command, job, library, refused=number, **settings)
                 refused += 1
-                if not is_right(kind, program, number, answer, whole) or kind == 'output' and len(answer[1]) <= written:
+                least = {'input': written, 'output': written + 1}.get(kind, 0)
+                if not is_right(kind, program, number, answer, whole) or len(answer[1]) < least:
                     wrong += failed('call %d of %s refused by error %d' % (number, kind, error), answer)
                 written = len(answer[1])
     print('%s: %d reads, %d writes, %d messages, %d times one of them or of their parts refused in turn, %d wrong answers'

@@ -6,8 +6,10 @@ import subprocess
 import sys
 import tempfile
 
-# the status of `capc` for each fault; that of `certify` is 2 for all of them
+# the status of `capc` and of `capi` for each fault; that of `certify` is 2 for all of them
 STATUSES = {'read fault': 3, 'write fault': 4, 'out of memory': 5}
+# the program that reads a file, by its ending; `capc` where it is another
+PROGRAMS = {'.cert': 'certify', '.in': 'capi', '.talk': 'capi'}
 TOP = os.path.join(os.path.dirname(os.path.abspath(__file__)), '..')
 
 
@@ -31,7 +33,7 @@ def answered(command, job, library, **settings):
 
 def is_fault(answer, program, fault):
     """Whether the answer's status and message are those of the fault."""
-    status = STATUSES[fault] if program == 'capc' else 2
+    status = 2 if program == 'certify' else STATUSES[fault]
     return answer[0] == status and answer[2] == ('%s: %s\n' % (program, fault)).encode()
 
 
@@ -44,21 +46,24 @@ def runs(given):
     """The runs that are tried, each with its name, its program, its command and what it reads: those of the files that are
     named, or else of the examples, and some with words of their own."""
     for path in given.files or sorted(glob.glob(os.path.join(TOP, 'examples/*.job'))
-                                      + glob.glob(os.path.join(TOP, 'examples/*.cert'))):
+                                      + glob.glob(os.path.join(TOP, 'examples/*.cert'))
+                                      + glob.glob(os.path.join(TOP, 'examples/conversation/*.in'))):
         with open(path, 'rb') as file:
-            program = 'certify' if path.endswith('.cert') else 'capc'
+            program = PROGRAMS.get(os.path.splitext(path)[1], 'capc')
             yield os.path.relpath(path, TOP), program, [getattr(given, program)], file.read()
     for words in (['--workload', '2'], ['--workload=200'], ['--frob']):
         yield ' '.join(words), 'capc', [given.capc] + words, b''
+    yield 'capi --frob', 'capi', [given.capi, '--frob'], b''
 
 
 def main(tried, beside=lambda library: 0):
     """Tries the runs of the command line, each by `tried`, which returns how many answers were wrong."""
     parser = argparse.ArgumentParser()
     parser.add_argument('--most', type=int, default=5000, help='how many calls of one run are refused at most')
-    for program in ('capc', 'certify'):
+    for program in ('capc', 'certify', 'capi'):
         parser.add_argument('--' + program, metavar='PROGRAM', default=os.path.join(TOP, 'crates', program, 'out', program))
-    parser.add_argument('files', nargs='*', metavar='FILE', help='jobs, and certificates (.cert); the examples where there is none')
+    parser.add_argument('files', nargs='*', metavar='FILE',
+                        help='jobs, certificates (.cert) and conversations (.in, .talk); the examples where there is none')
     given = parser.parse_args()
     with tempfile.TemporaryDirectory() as folder:
         library = built(folder)
