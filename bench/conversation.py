@@ -89,7 +89,7 @@ def edited():
     it.end()
     print('an edit of one of 200 modules with a check: %.2f ms; %.1f MB behind %d edits, %.1f MB behind %d'
           % (each, memory, few, most, edits))
-    bar('milliseconds of an edit', each, 2)
+    bar('milliseconds of an edit', each, 1.3)
     bar('MB behind the first edits', most - memory, 2)
 
 
@@ -119,7 +119,7 @@ def pieces(words, job_of, last_of):
         wanted(answer, last_of(size))
         took.append(seconds)
     print('%s of 4 MiB in pieces of 1 byte: %.1f s, %.1f s for half of it' % (words, took[1], took[0]))
-    bar('seconds', took[1], 30)
+    bar('seconds', took[1], 2)
     bar('times its half', took[1] / took[0], 2.6)
 
 
