@@ -1,5 +1,5 @@
 #!/usr/bin/env python3
-"""Which definitions the contracts of `capc` and `certify` rest on: what has to be believed, and nothing else.
+"""Which definitions the contracts of `capc`, `certify` and `capi` rest on: what has to be believed, and nothing else.
 
 From the clauses of the function (`capc` of crates/cc_program/src/run.rt) each name is followed to the item that it stands for, from
 this item each name again, and so on. What is reached are items of the files in specs/, and types and traits of the program
@@ -26,6 +26,7 @@ TOP = os.path.dirname(os.path.dirname(os.path.abspath(__file__)))
 PAGE = os.path.join(TOP, "docs", "reading.md")
 CAPC = ("crates/cc_program/src/run.rt", "capc")
 CERTIFY = ("crates/certify/src/run.rt", "certify")
+CAPI = ("crates/capi/src/run.rt", "capi")
 NAME = r"[^\s(){}\[\],;.]+"
 NAME_OF_PATH = r"[^\s(){}\[\],;.:]+"
 # functions of which a law says, of each value, that they give it exactly where a relation holds of it: the function, the law
@@ -544,13 +545,14 @@ def count_of_names(reading):
 
 
 def page():
-    """The readings of the two contracts and of the laws, and the text of the page."""
+    """The readings of the three contracts and of the laws, and the text of the page."""
     sound, call = of_clauses(*CAPC, {"sound"}), of_clauses(*CAPC, {"words", "call"})
-    capc, certify, laws = of_clauses(*CAPC), of_clauses(*CERTIFY), of_laws()
-    parts = {"sound": sound.specs(), "call": call.specs(), "certify": certify.specs()}
+    capc, certify, capi, laws = of_clauses(*CAPC), of_clauses(*CERTIFY), of_clauses(*CAPI), of_laws()
+    parts = {"sound": sound.specs(), "call": call.specs(), "certify": certify.specs(), "capi": capi.specs()}
     of_capc = capc.specs()
     of_certify = [path for path in certify.specs() if path not in of_capc]
-    others = [path for path in laws.specs() if path not in of_capc + of_certify]
+    of_capi = [path for path in capi.specs() if path not in of_capc + of_certify]
+    others = [path for path in laws.specs() if path not in of_capc + of_certify + of_capi]
     head = ["| File | Lines | Reached | For | What it has |", "|---|---|---|---|---|"]
 
     def row(reading):
@@ -561,10 +563,11 @@ def page():
 
         return of_file
 
-    both = Reading()
-    both.reached = {**certify.reached, **capc.reached}
-    types, library = both.types(), of_library((capc, certify))
-    count_of_types = {name: sum(map(len, reading.types().values())) for name, reading in (("capc", capc), ("certify", certify))}
+    every = Reading()
+    every.reached = {**capi.reached, **certify.reached, **capc.reached}
+    types, library = every.types(), of_library((capc, certify, capi))
+    programs = {"capc": capc, "certify": certify, "capi": capi}
+    count_of_types = {name: sum(map(len, reading.types().values())) for name, reading in programs.items()}
     out = [
         "# What has to be believed",
         "",
@@ -591,22 +594,28 @@ def page():
         "for it, and on " + ("this one." if len(of_certify) == 1 else "these."),
         *table(of_certify, row(certify), head),
         "",
+        "## The contract of `capi`",
+        "",
+        f"The program that converses (`{CAPI[0]}`) rests on {counted(capi, capi.specs())}: on those above that are for it, and on these.",
+        *table(of_capi, row(capi), head),
+        "",
         "## Types of the program",
         "",
         "These stand in the definitions above as what they are: a type with its variants and fields, or as its `impl Model` says, and a "
         f"trait with its clauses. The contract of `capc` rests on {count_of_types['capc']} of them, of {capc.lines_of_types()} lines "
         f"(its clause `sound` on {sum(map(len, sound.types().values()))}, of {sound.lines_of_types()} lines), that of `certify` on "
-        f"{count_of_types['certify']}, of {certify.lines_of_types()} lines. Blank lines are not counted.",
+        f"{count_of_types['certify']}, of {certify.lines_of_types()} lines, and that of `capi` on {count_of_types['capi']}, of "
+        f"{capi.lines_of_types()} lines. Blank lines are not counted.",
         "",
         "| File | Lines | Types and traits |",
         "|---|---|---|",
-        *(f"| `{path}` | {both.lines_reached(path)} | {', '.join(f'`{name}`' for name in types[path])} |" for path in sorted(types)),
+        *(f"| `{path}` | {every.lines_reached(path)} | {', '.join(f'`{name}`' for name in types[path])} |" for path in sorted(types)),
         "",
         "## Names of the library",
         "",
         "These are the kit's, of its standard library and of its crates, and are followed no further: `rt lemma` with the whole "
         f"name of one shows its definition. The contract of `capc` rests on {count_of_names(capc)} (its clause `sound` on {count_of_names(sound)}), that "
-        f"of `certify` on {count_of_names(certify)}. Modules with `::` are those of types and traits that the program's own ones name.",
+        f"of `certify` on {count_of_names(certify)}, that of `capi` on {count_of_names(capi)}. Modules with `::` are those of types and traits that the program's own ones name.",
         "",
         "| Module | Names | Which |",
         "|---|---|---|",
@@ -618,7 +627,7 @@ def page():
         f"{counted(laws, others)}, worked examples among them.",
         *table(others, row(laws), head),
     ]
-    return (capc, certify, laws), "\n".join(out) + "\n"
+    return (capc, certify, capi, laws), "\n".join(out) + "\n"
 
 
 def misplaced(contracts):
@@ -643,12 +652,12 @@ def main():
         with open(PAGE, "w", encoding="utf-8") as file:
             file.write(text)
     else:
-        for path in misplaced(readings[:2]):
+        for path in misplaced(readings[:3]):
             print(f"{path} has to be believed, and is a file of laws or examples, or one that serves the code or the proofs")
         is_written = os.path.exists(PAGE) and read("docs/reading.md") == text
         if not is_written:
             print("docs/reading.md is not what `.ci/reading.py --write` writes")
-        sys.exit(0 if is_written and not misplaced(readings[:2]) else 1)
+        sys.exit(0 if is_written and not misplaced(readings[:3]) else 1)
 
 
 if __name__ == "__main__":

@@ -13,6 +13,15 @@ from rows import put
 
 program, edits = sys.argv[1], int(sys.argv[2])
 failed = False
+folder = tempfile.TemporaryDirectory()
+
+
+def compiled(name):
+    """The program in C of the name, which stands beside this script."""
+    made = os.path.join(folder.name, name)
+    if not os.path.exists(made):
+        subprocess.run(['cc', '-O2', '-o', made, os.path.join(os.path.dirname(os.path.abspath(__file__)), name + '.c')], check=True)
+    return made
 
 
 def bar(words, found, most):
@@ -93,8 +102,9 @@ def edited():
     bar('MB behind the first edits', most - memory, 2)
 
 
-def in_pieces(job):
-    """The seconds of the processor's time for a job in pieces of 1 byte, and the last bytes of what is answered."""
+def in_pieces(reader, job):
+    """The seconds of the processor's time that a program takes for a job in pieces of 1 byte, in all and by itself, and the last
+    bytes of what is answered."""
     mine, theirs = socket.socketpair(socket.AF_UNIX, socket.SOCK_SEQPACKET)
     with tempfile.TemporaryFile() as out:
         child = os.fork()
@@ -102,25 +112,30 @@ def in_pieces(job):
             os.dup2(theirs.fileno(), 0)
             os.dup2(out.fileno(), 1)
             mine.close()
-            os.execv(program, [program])
+            os.execv(reader, [reader])
         theirs.close()
         for at in range(len(job)):
             mine.send(job[at:at + 1])
         mine.close()
         _, _, used = os.wait4(child, 0)
         out.seek(0)
-        return used.ru_utime + used.ru_stime, out.read()[-100:]
+        return used.ru_utime + used.ru_stime, used.ru_utime, out.read()[-100:]
 
 
 def pieces(words, job_of, last_of):
+    """Each piece is one read, which the system takes its time for: so a reader in C that does nothing else is measured, too, and
+    what the program takes beyond that counts."""
     took = []
     for size in (1 << 21, 1 << 22):
-        seconds, answer = in_pieces(job_of(size))
+        job = job_of(size)
+        bare, _, _ = in_pieces(compiled('reading'), job)
+        seconds, own, answer = in_pieces(program, job)
         wanted(answer, last_of(size))
-        took.append(seconds)
-    print('%s of 4 MiB in pieces of 1 byte: %.1f s, %.1f s for half of it' % (words, took[1], took[0]))
-    bar('seconds', took[1], 2)
-    bar('times its half', took[1] / took[0], 2.6)
+        took.append(seconds - bare)
+    print('%s of 4 MiB in pieces of 1 byte: %.1f s beyond the %.1f s of a reader in C, %.1f s of them by itself; %.1f s for half of it'
+          % (words, took[1], bare, own, took[0]))
+    bar('seconds beyond a reader', took[1], 2)
+    bar('seconds by itself', own, 2)
 
 
 def modules(size):
@@ -140,11 +155,7 @@ def answered():
     """A live run of 100,000 operations."""
     said = ('capc 1\ndevice out console\n' + put('m', ['def main = fun (u: Unit) =>',
             '  val f = fun (i: Int) => out.print(i); repeat(100000, f)']) + 'policy 1\nallow m out\nlive m.main 1000000\n')
-    with tempfile.TemporaryDirectory() as folder:
-        host = os.path.join(folder, 'answering')
-        code = os.path.join(os.path.dirname(os.path.abspath(__file__)), 'answering.c')
-        subprocess.run(['cc', '-O2', '-o', host, code], check=True)
-        told = subprocess.run([host, program], input=said.encode(), stdout=subprocess.PIPE, check=True).stdout
+    told = subprocess.run([compiled('answering'), program], input=said.encode(), stdout=subprocess.PIPE, check=True).stdout
     count, whole, used = map(int, told.split())
     if count != 100000:
         sys.exit('conversation.py: %d operations' % count)

@@ -10,8 +10,8 @@ use Rattle.cc_io.specs.Wholes.{AppendsFront, WritesWhole}
 use Rattle.cc_io.proofs.PassedPieces.{front_first, front_second}
 use Rattle.cc_job.specs.declared.job.Command.{Command}
 use Rattle.cc_job.specs.Jobs.{Item, Declares, Commands, first_line, item_lines, skipped}
-use Rattle.cc_words.specs.Lines.{Line}
-use Rattle.cc_line_reading.specs.LineReading.{Held, Hears, HearsPart, IsOver}
+use Rattle.cc_words.specs.Lines.{Line, AreWholeLines}
+use Rattle.cc_line_reading.specs.LineReading.{Held, Hears, HearsPart, IsOver, IsDrained}
 use Rattle.cc_hosting.proofs.SteadyCourses.{hosted_runs_are_steady}
 use Rattle.cc_hosting.specs.CourseLaws.{LinesAreUsed}
 use Rattle.cc_hosting.specs.HostedRuns.{IsHosted}
@@ -27,15 +27,16 @@ use Rattle.cc_item_reading.specs.ItemReading.{HearsNextItem, HearsLive, HasBegun
 use Rattle.cc_item_reading.specs.declared.reading.NotHeard.{NotHeard}
 use Rattle.cc_item_reading.specs.declared.reading.NotHeard.TheVariants as errors
 use Rattle.cc_item_reading.proofs.Hearing.{hears_both, hears_none}
+use Rattle.cc_line_reading.proofs.LineTurns.{consumed_both}
 use Rattle.cc_conversation.specs.declared.conversing.Ended.{Ended}
 use Rattle.cc_conversation.specs.declared.conversing.Ended.TheVariants as endings
 use Rattle.cc_conversation.specs.declared.conversing.Stopped.{Stopped}
 use Rattle.cc_conversation.specs.declared.conversing.Stopped.TheVariants as stops
-use Rattle.cc_conversation.specs.Conversations.{Moment, AreShort, IsOpen, IsRun, Standing, Rests, Begun, Asks, EndedAt, Overlong, StandsIn, Says, IsSpoken, beginning, under_way, with_part}
+use Rattle.cc_conversation.specs.Conversations.{Moment, AreShort, IsOpen, IsRun, Standing, Rests, Begun, Asks, EndedAt, Overlong, StandsIn, Says, IsSpoken, IsHeard, beginning, under_way, with_part}
 use Rattle.cc_conversation.specs.Conversations.Says.{rests, begins, ends as ends_at, exceeds, goes_on, runs as runs_to, stops as stops_at}
 use Rattle.cc_conversation.specs.Conversations.StandsIn.{asks, breaks, floods}
 use Rattle.cc_conversation.specs.Conversations.IsSpoken.{nothing, overlong, stranger, opened}
-use Rattle.cc_conversation.specs.Conversed.{Ends, fresh, HasHeard, HasHeardAll, HasHeardPart, HasHeardMore, HasNoFault, IsAnswered, IsAnsweredInPart, IsOverWith, HasBadLine, Conversed}
+use Rattle.cc_conversation.specs.Conversed.{Ends, fresh, HasHeard, HasHeardAll, HasHeardPart, HasHeardMore, HasNoFault, IsAnswered, IsAnsweredInPart, IsAnsweredSoFar, IsOverWith, HasBadLine, Conversed}
 use Rattle.cc_conversation.specs.Turns.{Talks, StopsHearing, HearsOrder, IsPlayed, StopsWriting, StopsPlaying, ComesToEnd, HearsFirst, StopCause, closed_as, closed_course, ending_of}
 use Rattle.cc_conversation.proofs.Progressing.{skipped_item, skipped_open, says_end, says_behind, or_false}
 use Rattle.cc_conversation.proofs.Turning.{answers_alike, hosted_alike, are_short}
@@ -110,6 +111,63 @@ in_part before after lines text refused standing spoken written = record {
   written = written;
 }
 
+-- nothing ends there
+abbrev NoBadLine : Standing → Type 0
+NoBadLine standing = (number : ℕ) → standing ≡ EndedAt number → ⊥
+
+no_bad_line : (front : List Line) → NoBadLine (standing_with front)
+unfolding standing_with
+no_bad_line [] number e = cc
+no_bad_line (line ∷ front) number e = cc
+
+no_bad_part : (standing : Standing) (part : ℕ) → NoBadLine standing → NoBadLine (with_part standing part)
+no_bad_part Rests part none number e = split (nat_lt part item_limit) e
+  where
+    split : (b : Bool) → cond b Rests Overlong ≡ EndedAt number → ⊥
+    split true e = cc
+    split false e = cc
+no_bad_part (Begun bytes) part none number e = split (nat_lt (bytes + part) item_limit) e
+  where
+    split : (b : Bool) → cond b (Begun bytes) Overlong ≡ EndedAt number → ⊥
+    split true e = cc
+    split false e = cc
+no_bad_part Asks part none number e = split (nat_lt part item_limit) e
+  where
+    split : (b : Bool) → cond b Asks Overlong ≡ EndedAt number → ⊥
+    split true e = cc
+    split false e = cc
+no_bad_part (EndedAt place) part none number e = none number e
+no_bad_part Overlong part none number e = cc
+
+-- Lines were taken, and then all that was read besides, a part of one more: so all that was read is answered.
+so_far : (before after : Ends) (between held : Held) (there : Option (List ℕ)) (lines : List Line) (part : List ℕ)
+    (refused : Bool) (standing : Standing) → Hears fresh between before.left there lines → HearsPart between held there after.left part
+    → IsDrained held → IsAnswered before after lines refused standing → NoBadLine standing → IsAnsweredSoFar before after
+so_far before after between held there lines part refused standing hears further drained answered none = record {
+  read = hears.takes.read ++ further.takes.read;
+  consumed = consumed_both before.left there after.left hears.takes.read further.takes.read hears.takes.consumed further.takes.consumed;
+  text = answered.text;
+  refused = refused;
+  standing = with_part standing (length part);
+  heard = record {
+    whole = hears.bytes;
+    part = part;
+    split = ap (λ it. it ++ further.takes.read) hears.takes.parts ∙ append_assoc hears.bytes between.bytes further.takes.read
+        ∙ ap (λ it. hears.bytes ++ it) (further.takes.parts ∙ ap (λ it. part ++ it) drained.0 ∙ append-nil part);
+    are_whole = are_whole hears.whole;
+    no_feed = further.no_feed;
+    before = standing;
+    spoken = subst (λ it. IsSpoken it answered.text refused standing) (sym hears.are) answered.spoken;
+    stands = refl;
+  };
+  no_bad_line = no_bad_part standing (length part) none;
+  written = answered.written;
+}
+  where
+    are_whole : AreWholeLines hears.bytes ⊎ IsOver between → AreWholeLines hears.bytes
+    are_whole (inl whole) = whole
+    are_whole (inr over) = let clash : IsTrue false = subst IsTrue drained.1 (further.stays over.0) in cc
+
 module _ (before after : Ends) (new : Held) (number : ℕ) where
   -- it came to the end
   over_ends : (refused : Bool) → ComesToEnd fresh new before.left after.left before.written after.written number (Ok refused)
@@ -179,9 +237,11 @@ module _ (before after : Ends) (new : Held) (number : ℕ) where
 
   fault_ends : (refused : Bool) → StopsHearing fresh new before.left after.left before.written after.written number refused errors.ReadFault
       → before.read_faults < after.read_faults → after.write_faults ≡ before.write_faults → Conversed before after endings.ReadFault
-  fault_ends refused (now, there, place, moment, talks, (front, part, stops)) rose none =
+  fault_ends refused (now, there, place, moment, talks, (front, part, stops, drained)) rose none =
       let both = part_of refused errors.ReadFault now new there place moment talks front part stops in
-      (first_line ∷ (talks.lines ++ front), part, refused, standing_with front, both.0, both.1, rose, none)
+      let hears = hears_both fresh now stops.between before.left there stops.there (first_line ∷ talks.lines) front talks.hears stops.hears in
+      (so_far before after stops.between new stops.there (first_line ∷ (talks.lines ++ front)) part refused (standing_with front) hears
+      stops.further drained both.1 (no_bad_line front), rose, none)
 
   cut_ends : (refused : Bool) → StopsHearing fresh new before.left after.left before.written after.written number refused errors.CutShort
       → HasNoFault before after → HasBadLine before after (number + 1)
@@ -405,12 +465,9 @@ playing_ends : (before after : Ends) (new : Held) (behind : ℕ) (error : LiveEr
 playing_ends before after new behind live_errors.ReadFault p cause =
     let runs = p.played.runs in
     let l = runs.listens in (
-      its_lines before after new behind p,
-      l.fails.0,
-      p.refused,
-      Asks,
-      record { between = l.between; there = l.rest; held = new; hears = its_hears before after new behind p l.between l.rest l.first; further = l.fails.1 },
-      its_waiting before after new behind p runs.comes runs.tells,
+      so_far before after l.between new l.rest (its_lines before after new behind p) l.fails.0 p.refused Asks
+          (its_hears before after new behind p l.between l.rest l.first) l.fails.1 l.fails.2
+          (its_waiting before after new behind p runs.comes runs.tells) (λ number e. cc),
       cause.0,
       cause.1,
     )
@@ -550,13 +607,9 @@ conversed_first before after new number errors.TooLong (part, rest, further, lon
       too_long [] (length part) (subst (λ it. item_limit ≤ it) same long),
       record { reads = cause.0; writes = cause.1 },
     )
-conversed_first before after new number errors.ReadFault (part, further) kept cause = (
-  [],
-  part,
-  false,
-  Rests,
-  record { between = fresh; there = before.left; held = new; hears = hears_none fresh before.left; further = further },
-  none_said before after kept,
+conversed_first before after new number errors.ReadFault (part, further, drained) kept cause = (
+  so_far before after fresh new before.left [] part false Rests (hears_none fresh before.left) further drained
+      (none_said before after kept) (λ number e. cc),
   cause.0,
   cause.1,
 )

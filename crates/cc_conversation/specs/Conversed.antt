@@ -6,7 +6,7 @@ use Rattle.cc_words.specs.Lines.{Line}
 use Rattle.cc_line_reading.specs.LineReading.{Held, Hears, HearsPart, IsOver}
 use Rattle.cc_conversation.specs.declared.conversing.Ended.{Ended}
 use Rattle.cc_conversation.specs.declared.conversing.Ended.TheVariants as endings
-use Rattle.cc_conversation.specs.Conversations.{Standing, Rests, Begun, Asks, EndedAt, Overlong, IsSpoken, with_part}
+use Rattle.cc_conversation.specs.Conversations.{Standing, Rests, Begun, Asks, EndedAt, Overlong, IsSpoken, IsHeard, with_part}
 
 -- the bytes that a source has left and those that a sink holds, where they tell them, and how often each failed
 pub record Ends : Type 0 where
@@ -74,6 +74,17 @@ pub record IsAnsweredInPart (before after : Ends) (lines : List Line) : Type 0 w
   pub spoken : IsSpoken front text refused standing
   pub written : AppendsFront before.written after.written text
 
+-- These bytes came from the source, in whatever pieces, no line of them is bad, and what belongs to them was written whole.
+pub record IsAnsweredSoFar (before after : Ends) : Type 0 where
+  pub read : List ℕ
+  pub consumed : Consumes before.left after.left read
+  pub text : List ℕ
+  pub refused : Bool
+  pub standing : Standing
+  pub heard : IsHeard read text refused standing
+  pub no_bad_line : (number : ℕ) → standing ≡ EndedAt number → ⊥
+  pub written : Appends before.written after.written text
+
 -- All lines were taken, and answered whole; nothing is open.
 pub record IsOverWith (before after : Ends) (refused : Bool) : Type 0 where
   pub lines : List Line
@@ -94,7 +105,8 @@ pub record HasBadLine (before after : Ends) (number : ℕ) : Type 0 where
       ⊎ IsAnswered before after lines refused Asks)))
   pub no_fault : HasNoFault before after
 
--- How a conversation ended, for each ending.
+-- How a conversation ended, for each ending. Each read of a source may fail, and none knows before whether it does: so what
+-- is said of a read fault tells how it stands before each read. All that belongs to the bytes that came is written then.
 abbrev pub Conversed : Ends → Ends → Ended → Type 0
 Conversed before after endings.Clean = IsOverWith before after false
 Conversed before after endings.Refusals = IsOverWith before after true
@@ -104,9 +116,7 @@ Conversed before after endings.TooLong =
     × HasHeardPart before after lines part × IsAnswered before after lines refused standing
     × (with_part standing (length part) ≡ Overlong) × HasNoFault before after
 Conversed before after endings.ReadFault =
-    (lines : List Line) × (part : List ℕ) × (refused : Bool) × (standing : Standing)
-    × HasHeardPart before after lines part × IsAnswered before after lines refused standing
-    × (before.read_faults < after.read_faults) × (after.write_faults ≡ before.write_faults)
+    IsAnsweredSoFar before after × (before.read_faults < after.read_faults) × (after.write_faults ≡ before.write_faults)
 Conversed before after endings.WriteFault =
     (lines : List Line) × HasHeard before after lines × IsAnsweredInPart before after lines
     × (after.read_faults ≡ before.read_faults) × (before.write_faults < after.write_faults)

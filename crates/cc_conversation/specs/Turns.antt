@@ -8,7 +8,7 @@ use Rattle.cc_io.specs.Wholes.{WritesWhole, WriteAllCause}
 use Rattle.cc_job.specs.declared.job.Command.{Command}
 use Rattle.cc_job.specs.Jobs.{Commands, first_line, item_lines}
 use Rattle.cc_words.specs.Lines.{Line}
-use Rattle.cc_line_reading.specs.LineReading.{Held, Hears, HearsPart, IsOver}
+use Rattle.cc_line_reading.specs.LineReading.{Held, Hears, HearsPart, IsOver, IsDrained}
 use Rattle.cc_hosting.specs.HostedRuns.{IsHosted}
 use Rattle.cc_item_reading.specs.Sayings.{Live, size, item_limit}
 use Rattle.cc_item_reading.specs.ItemReading.{HearsItem, HearsLive, HearsNextItem, ReadItemCause}
@@ -188,7 +188,7 @@ HearsFirst old new left later behind (Err errors.CutShort) =
     Hears old new left later [] × IsOver new × IsAtEnd later × (behind ≡ 0)
 HearsFirst old new left later behind (Err errors.TooLong) =
     (part : List ℕ) × (rest : Held) × HearsPart old rest left later part × (item_limit ≤ length part)
-HearsFirst old new left later behind (Err errors.ReadFault) = (part : List ℕ) × HearsPart old new left later part
+HearsFirst old new left later behind (Err errors.ReadFault) = (part : List ℕ) × HearsPart old new left later part × IsDrained new
 HearsFirst old new left later behind (Err errors.NoMemory) = (read : List ℕ) × Consumes left later read
 
 -- Faults are told exactly where a count of them rose: a read fault, or a write fault.

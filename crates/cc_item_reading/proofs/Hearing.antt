@@ -156,12 +156,13 @@ reads_failed old now new left later last done count room before behind next told
   reading.short,
   omega (arith, long, ap length reading.is),
 )
-reads_failed old now new left later last done count room before behind next told more errors.ReadFault reading (part, further) less = (
+reads_failed old now new left later last done count room before behind next told more errors.ReadFault reading (part, further, none) less = (
   reading.lines,
   part,
   record { between = now; there = later; hears = reading.hears; further = further },
   omega (arith, reading.many, less),
   reading.short,
+  none,
 )
 reads_failed old now new left later last done count room before behind next told more errors.NoMemory reading (read, consumed) less =
     (reading.hears.takes.read ++ read, consumed_both left later last reading.hears.takes.read read reading.hears.takes.consumed consumed)
@@ -327,13 +328,14 @@ rules_failed old now new left later last done count room before behind next told
       short,
       omega (arith, long, ap length reading.reading.is, ap size reading.lines),
     )
-rules_failed old now new left later last done count room before behind next told more rules errors.ReadFault reading (part, further) less =
+rules_failed old now new left later last done count room before behind next told more rules errors.ReadFault reading (part, further, none) less =
     let many : length rules ≡ done = sym (lines_length rules) ∙ ap length (sym reading.lines) ∙ reading.reading.many in (
       part,
       record { between = now; there = later; hears = subst (Hears old now left later) reading.lines reading.reading.hears; further = further },
       reading.are,
       omega (arith, many, less),
       subst (λ it. size it ≤ room) reading.lines reading.reading.short,
+      none,
     )
 rules_failed old now new left later last done count room before behind next told more rules errors.NoMemory reading (read, consumed) less = (
   reading.reading.hears.takes.read ++ read,

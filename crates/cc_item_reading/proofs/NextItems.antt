@@ -99,7 +99,7 @@ behind_failed_so head room old between new left there later before mid behind to
       long,
     )
 behind_failed_so head room old between new left there later before mid behind told rules errors.ReadFault (lines, hears, many, is, short, counted)
-    (part, stops, are, less, low) =
+    (part, stops, are, less, low, none) =
     let no_text = one_kind head (omega (arith, less)) in
     let empty = no_length lines (many ∙ no_text) in (
       map rule_line rules,
@@ -113,6 +113,7 @@ behind_failed_so head room old between new left there later before mid behind to
       },
       inr (rules, refl, are, no_text, less),
       low,
+      none,
     )
 behind_failed_so head room old between new left there later before mid behind told rules errors.NoMemory (lines, hears, many, is, short, counted)
     (read, consumed) =
@@ -151,10 +152,11 @@ first_failed devices begun old new left later before behind bytes none errors.To
   record { between = old; there = left; hears = hears_none old left; begins = inl refl; short = omega arith; further = further },
   omega (arith, long, ap length empty),
 )
-first_failed devices begun old new left later before behind bytes none errors.ReadFault empty (part, further) = (
+first_failed devices begun old new left later before behind bytes none errors.ReadFault empty (part, further, all) = (
   [],
   part,
   record { between = old; there = left; hears = hears_none old left; begins = inl refl; short = omega arith; further = further },
+  all,
 )
 first_failed devices begun old new left later before behind bytes none errors.NoMemory empty fails = fails
 
@@ -316,7 +318,7 @@ next_behind_so devices begun old now new left there later before mid behind byte
       omega (arith, first_size bytes line front first.bytes_are, long, first.short),
     )
 next_behind_so devices begun old now new left there later before mid behind bytes line head (Err errors.ReadFault) declared first says stands
-    (front, part, stops, is, low) = (
+    (front, part, stops, is, low, none) = (
       line ∷ front,
       part,
       record {
@@ -327,6 +329,7 @@ next_behind_so devices begun old now new left there later before mid behind byte
         short = omega (arith, first_size bytes line front first.bytes_are, low, first.short);
         further = stops.further;
       },
+      none,
     )
 next_behind_so devices begun old now new left there later before mid behind bytes line head (Err errors.NoMemory) declared first says stands
     (read, consumed) =

@@ -11,7 +11,7 @@ use Rattle.cc_job.specs.declared.head.Head.{Head}
 use Rattle.cc_job.specs.declared.head.Head.TheVariants as heads
 use Rattle.cc_job.specs.declared.job.Command.TheVariants.{Put, Verify, Policy, Replay}
 use Rattle.cc_words.specs.Lines.{Line}
-use Rattle.cc_line_reading.specs.LineReading.{Held, Hears, HearsPart, IsOver}
+use Rattle.cc_line_reading.specs.LineReading.{Held, Hears, HearsPart, IsOver, IsDrained}
 use Rattle.cc_item_reading.specs.declared.reading.Heard.{Heard}
 use Rattle.cc_item_reading.specs.declared.reading.Heard.TheVariants as heard
 use Rattle.cc_item_reading.specs.declared.reading.NotHeard.{NotHeard}
@@ -48,7 +48,8 @@ pub record HearsLive (old new : Held) (left later : Option (List ℕ)) (it : Liv
 
 -- What comes of reading the next item, where so many lines were taken before and behind it: nothing is left; an empty line; an
 -- item; that a definition is run on the devices of the host; a line with which no item goes on, nor says that, behind those of
--- an item that has begun; the end behind such lines; a line with which an item is too long; a read fault; or memory lacked.
+-- an item that has begun; the end behind such lines; a line with which an item is too long; a read fault, where nothing is
+-- held that was read before; or memory lacked.
 abbrev pub HearsNextItem : List DeviceDecl → Bool → Held → Held → Option (List ℕ) → Option (List ℕ) → ℕ → ℕ → Result Heard NotHeard → Type 0
 HearsNextItem devices begun old new left later before behind (Ok heard.End) =
     Hears old new left later [] × IsOver new × IsAtEnd later × (behind ≡ before)
@@ -73,7 +74,7 @@ HearsNextItem devices begun old new left later before behind (Err errors.TooLong
     (front : List Line) × (part : List ℕ) × (rest : Held) × StopsIn devices begun old rest left later front part
     × (item_limit ≤ size front + length part)
 HearsNextItem devices begun old new left later before behind (Err errors.ReadFault) =
-    (front : List Line) × (part : List ℕ) × StopsIn devices begun old new left later front part
+    (front : List Line) × (part : List ℕ) × StopsIn devices begun old new left later front part × IsDrained new
 HearsNextItem devices begun old new left later before behind (Err errors.NoMemory) =
     (read : List ℕ) × Consumes left later read
 
@@ -98,7 +99,7 @@ HearsText old new left later count room before behind told (Err errors.TooLong) 
     × (length lines < count) × (size lines ≤ room) × (room ≤ size lines + length part)
 HearsText old new left later count room before behind told (Err errors.ReadFault) =
     (lines : List Line) × (part : List ℕ) × StopsBehind old new left later lines part
-    × (length lines < count) × (size lines ≤ room)
+    × (length lines < count) × (size lines ≤ room) × IsDrained new
 HearsText old new left later count room before behind told (Err errors.NoMemory) =
     (read : List ℕ) × Consumes left later read
 
@@ -120,7 +121,7 @@ HearsRules old new left later count room before behind rules (Err errors.TooLong
     × (room ≤ size (map rule_line rules) + length part)
 HearsRules old new left later count room before behind rules (Err errors.ReadFault) =
     (part : List ℕ) × StopsBehind old new left later (map rule_line rules) part
-    × AllByRecursion IsRule rules × (length rules < count) × (size (map rule_line rules) ≤ room)
+    × AllByRecursion IsRule rules × (length rules < count) × (size (map rule_line rules) ≤ room) × IsDrained new
 HearsRules old new left later count room before behind rules (Err errors.NoMemory) =
     (read : List ℕ) × Consumes left later read
 
@@ -136,7 +137,7 @@ HearsLine old new left later room before behind bytes told (Err errors.CutShort)
 HearsLine old new left later room before behind bytes told (Err errors.TooLong) =
     (part : List ℕ) × (rest : Held) × HearsPart old rest left later part × (room ≤ length bytes + length part)
 HearsLine old new left later room before behind bytes told (Err errors.ReadFault) =
-    (part : List ℕ) × HearsPart old new left later part
+    (part : List ℕ) × HearsPart old new left later part × IsDrained new
 HearsLine old new left later room before behind bytes told (Err errors.NoMemory) =
     (read : List ℕ) × Consumes left later read
 
@@ -202,7 +203,7 @@ HearsBehind head room old new left later before behind (Err errors.TooLong) =
     × IsFrontBehind head front × (size front ≤ room) × (room ≤ size front + length part)
 HearsBehind head room old new left later before behind (Err errors.ReadFault) =
     (front : List Line) × (part : List ℕ) × StopsBehind old new left later front part
-    × IsFrontBehind head front × (size front ≤ room)
+    × IsFrontBehind head front × (size front ≤ room) × IsDrained new
 HearsBehind head room old new left later before behind (Err errors.NoMemory) =
     (read : List ℕ) × Consumes left later read
 

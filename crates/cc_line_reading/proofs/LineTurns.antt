@@ -8,7 +8,7 @@ use Rattle.cc_words.specs.Lines.{lines_of}
 use Rattle.cc_words.proofs.LineLists.{lines_of-append, lines_of-last, is_whole-append}
 use Rattle.cc_io.specs.declared.whole.ReadAll.{ReadAll}
 use Rattle.cc_io.specs.declared.whole.ReadAll.TheVariants as read_errors
-use Rattle.cc_line_reading.specs.LineReading.{Held, Takes, IsOver, HearsNext, PutsFront, HasMore, ReadsAsNeeded}
+use Rattle.cc_line_reading.specs.LineReading.{Held, Takes, IsOver, IsDrained, HearsNext, PutsFront, HasMore, ReadsAsNeeded}
 use Rattle.cc_line_reading.proofs.LineFronts.{cut_lacking}
 
 -- What was consumed in two parts.
@@ -190,7 +190,8 @@ more_failed old now new left later last before line limit error turning (inl hel
 more_failed old now new left later last before line limit read_errors.ReadFault turning (inr read) =
     let same = read_nothing old now left later last before line limit turning read.1.0 in
     let moved = subst (λ it. Turning old it left last before line limit) (sym read.1.1) same in
-    ((moved.part, record { takes = moved.takes; no_feed = moved.no_feed }), moved.needed)
+    let drained : IsDrained new = (ap (λ it. it.bytes) read.1.1 ∙ read.0, ap (λ it. it.ended) read.1.1 ∙ read.1.2) in
+    ((moved.part, record { takes = moved.takes; no_feed = moved.no_feed; stays = moved.stays }, drained), moved.needed)
 more_failed old now new left later last before line limit read_errors.TooLong turning (inr read) = absurd read.1
 more_failed old now new left later last before line limit read_errors.NoMemory turning (inr read) = (
   (turning.takes.read ++ read.1.0, consumed_both left later last turning.takes.read read.1.0 turning.takes.consumed read.1.1),
@@ -213,6 +214,7 @@ front_failed old now new left later before line put limit read_errors.TooLong tu
       quiet = turning.takes.quiet;
     };
     no_feed = no_feed_both turning.part front turning.no_feed feed;
+    stays = turning.stays;
   },
   omega (arith, ap length turning.put, length-append before turning.part, length-append turning.part front, over),
 )

@@ -35,17 +35,22 @@ pub record Hears (old new : Held) (left later : Option (List ℕ)) (lines : List
 pub record HearsPart (old new : Held) (left later : Option (List ℕ)) (part : List ℕ) : Type 0 where
   pub takes : Takes old new left later part
   pub no_feed : cut_at 10 part ≡ None
+  pub stays : IsTrue old.ended → IsTrue new.ended
+
+-- all that was read was taken, and the source has not come to its end
+abbrev pub IsDrained : Held → Type 0
+IsDrained held = (held.bytes ≡ []) × (held.ended ≡ false)
 
 -- What comes of asking for the next line, which is put behind bytes with its line feed: it is, and all has no more bytes
--- than the limit; or nothing is left; or a part of a line was taken, and a read failed, or all with its line feed has more
--- bytes than the limit; or memory lacked for what was read.
+-- than the limit; or nothing is left; or a part of a line was taken, all that had been read, and a further read failed; or a
+-- part of one was that has more bytes than the limit with its line feed; or memory lacked for what was read.
 abbrev pub HearsNext : Held → Held → Option (List ℕ) → Option (List ℕ) → List ℕ → List ℕ → ℕ → Result Bool ReadAll → Type 0
 HearsNext old new left later before behind limit (Ok true) =
     (line : Line) × Hears old new left later (line ∷ []) × (behind ≡ before ++ (line ++ 10 ∷ [])) × (length behind ≤ limit)
 HearsNext old new left later before behind limit (Ok false) =
     Hears old new left later [] × IsOver new × IsAtEnd later × (behind ≡ before)
 HearsNext old new left later before behind limit (Err read_errors.ReadFault) =
-    (part : List ℕ) × HearsPart old new left later part
+    (part : List ℕ) × HearsPart old new left later part × IsDrained new
 HearsNext old new left later before behind limit (Err read_errors.TooLong) =
     (part : List ℕ) × (rest : Held) × HearsPart old rest left later part × (limit ≤ length before + length part)
 HearsNext old new left later before behind limit (Err read_errors.NoMemory) =

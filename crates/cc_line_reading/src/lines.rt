@@ -13,22 +13,25 @@ const PIECE: usize = 4096;
 
 /// Reads a source line by line. It holds what was read and not taken yet, fewer than 4,097 bytes. Contracts see that, and
 /// whether the source has come to its end, behind which it is not read again.
+///
+/// All reads go into the same memory, and what is held stands in it from one place to another.
 #[derive(Drop)]
 pub struct LineReader {
-    held: Vec<u8>,
+    piece: Vec<u8>,
     from: usize,
+    to: usize,
     ended: bool,
 }
 
 impl Model for LineReader {
-    ghost use Rattle.std.specs.Prelude.{◌≤◌, drop, vec_len};
+    ghost use Rattle.std.specs.Prelude.{◌≤◌, ◌-◌, take, drop, vec_len};
     ghost use Rattle.cc_line_reading.specs.LineReading.{Held};
 
     ghost Value = { Held };
 
-    ghost view = { λ s. record { bytes = drop s.from s.held.items; ended = s.ended } };
+    ghost view = { λ s. record { bytes = take (s.to - s.from) (drop s.from s.piece.items); ended = s.ended } };
 
-    ghost invariant = { λ s. s.from ≤ vec_len s.held };
+    ghost invariant = { λ s. (s.from ≤ s.to) × (s.to ≤ vec_len s.piece) × (vec_len s.piece ≤ 4096) };
 }
 
 // Puts bytes behind the line, where there is room for them and a line feed within the limit.
@@ -56,14 +59,34 @@ fn put_feed(line: &mut Vec<u8>) -> Result<(), ReadAll>
     }
 }
 
+// Makes sure that there is memory to read into.
+fn make_room(alloc: Global, piece: &mut Vec<u8>) -> Result<(), ReadAll>
+    requires { length piece.old.items ≤ 4096 }
+    ensures small { length piece.new.items ≤ 4096 }
+    ensures some { OnOk result (0 < length piece.new.items) }
+    ensures none { OnErr result (result ≡ Err ReadAll.NoMemory) }
+{
+    if !piece.is_empty() {
+        return Ok(());
+    }
+    match Vec::from_elem(alloc, 0, PIECE) {
+        Ok(room) => {
+            *piece = room;
+            Ok(())
+        }
+        Err(AllocError) => Err(ReadAll::NoMemory),
+    }
+}
+
 impl LineReader {
     /// Nothing was read yet. It takes no memory.
     pub fn new(alloc: Global) -> LineReader
         ensures { result ≡ record { bytes = []; ended = false } }
     {
         LineReader {
-            held: Vec::new(alloc),
+            piece: Vec::new(alloc),
             from: 0,
+            to: 0,
             ended: false,
         }
     }
@@ -75,7 +98,7 @@ impl LineReader {
         ensures put { PutsFront self.old self.new line.old.items line.new.items limit result }
         ensures ended { self.new.ended ≡ self.old.ended }
     {
-        let rest = &self.held[self.from..];
+        let rest = &self.piece[self.from..self.to];
         match cut_at(rest, b'\n') {
             Some((front, _)) => {
                 let taken = front.len();
@@ -92,7 +115,7 @@ impl LineReader {
                 if let Err(error) = put_front(line, rest, limit) {
                     return Err(error);
                 }
-                self.from = self.held.len();
+                self.from = self.to;
                 Ok(false)
             }
         }
@@ -109,22 +132,21 @@ impl LineReader {
         if self.ended {
             return Ok(false);
         }
-        let mut piece = [0; PIECE];
-        let read = match source.read(&mut piece) {
-            Ok(read) => read,
-            Err(Failed) => return Err(ReadAll::ReadFault),
-        };
-        if read == 0 {
-            self.ended = true;
-            return Ok(false);
+        self.from = 0;
+        self.to = 0;
+        if let Err(error) = make_room(alloc, &mut self.piece) {
+            return Err(error);
         }
-        match Vec::from_slice(alloc, &piece[..read]) {
-            Ok(held) => {
-                self.held = held;
-                self.from = 0;
+        match source.read(&mut self.piece) {
+            Ok(0) => {
+                self.ended = true;
+                Ok(false)
+            }
+            Ok(read) => {
+                self.to = read;
                 Ok(true)
             }
-            Err(AllocError) => Err(ReadAll::NoMemory),
+            Err(Failed) => Err(ReadAll::ReadFault),
         }
     }
 
@@ -136,7 +158,7 @@ impl LineReader {
         ensures known { IsTrue self.new.ended → IsAtEnd (S.left source.new) }
         ensures cause { ReadAllCause (S.faults source.old) (S.faults source.new) result }
     {
-        if self.from < self.held.len() {
+        if self.from < self.to {
             return Ok(true);
         }
         self.refill(alloc, source)
