@@ -1,0 +1,6 @@
+mod LikeTokens
+mod LikeReaders
+mod LastTokens
+mod WantedKinds
+mod Pushed
+mod NameSamples

@@ -1,0 +1,4 @@
+pub mod KindTexts
+pub mod WantedTokens
+pub mod Trying
+pub mod Tries
