@@ -4,3 +4,4 @@ mod LastTokens
 mod WantedKinds
 mod Pushed
 mod NameSamples
+mod WorkedFronts

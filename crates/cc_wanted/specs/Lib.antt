@@ -2,3 +2,4 @@ pub mod KindTexts
 pub mod WantedTokens
 pub mod Trying
 pub mod Tries
+pub mod WantedExamples

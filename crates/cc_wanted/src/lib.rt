@@ -4,4 +4,5 @@
 pub mod kind;
 mod trying;
 pub mod wanted;
+pub mod wanted_examples;
 pub mod wanted_laws;
