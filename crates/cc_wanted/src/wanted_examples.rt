@@ -2,7 +2,7 @@
 
 ghost use Rattle.cc_wanted.specs.WantedExamples.{WorkedFronts};
 
-/// What is wanted behind twenty fronts, from no tokens at all to whole definitions.
+/// What is wanted behind fronts of modules, from no tokens at all to an expression that is as high as any may be.
 pub fn worked_fronts()
     ensures { WorkedFronts }
 {}
