@@ -1,7 +1,7 @@
 mod LikeTokens
 mod LikeReaders
 mod LastTokens
-mod WantedKinds
+pub mod WantedKinds
 mod Pushed
 mod NameSamples
 mod WorkedFronts

@@ -12,6 +12,7 @@ use Rattle.cc_parse.specs.Answers.{refusal_of}
 use Rattle.cc_wanted.specs.declared.kind.Kind.{Kind}
 use Rattle.cc_wanted.specs.declared.kind.Kind.TheVariants as kinds
 use Rattle.cc_wanted.specs.WantedTokens.{IsOfKind, GoesOnWith, every_kind, AreWanted, TokensWantOneListOfKinds}
+use Rattle.cc_wanted.specs.WantedLaws.{KindsFoundByTryingAreWanted}
 use Rattle.cc_wanted.specs.Trying.{end_tried, tried, passes, goes_on, samples, goes_on_with}
 use Rattle.cc_wanted.proofs.LikeTokens.{IsLike, like_name, like_number, like_text, like_word, like_symbol}
 use Rattle.cc_wanted.proofs.LastTokens.{LastIs, last_read, refused-like}
@@ -127,6 +128,9 @@ goes_on_with-is front kind low =
 -- the kinds with which it goes on are those that are wanted
 pub are-wanted : (front : List PlacedLexeme) (told : List Kind) → BeginsLow front → told ≡ filter (goes_on_with front) every_kind → AreWanted front told
 are-wanted front told low e = (goes_on_with front, e, λ kind. goes_on_with-is front kind low)
+
+pub kinds_found_by_trying_are_wanted : KindsFoundByTryingAreWanted
+kinds_found_by_trying_are_wanted front low = are-wanted front (filter (goes_on_with front) every_kind) low refl
 
 -- ONE LIST
 

@@ -2,4 +2,5 @@ pub mod KindTexts
 pub mod WantedTokens
 pub mod Trying
 pub mod Tries
+pub mod WantedLaws
 pub mod WantedExamples

@@ -24,8 +24,8 @@ end_tried = record { line = 0; col = 0 }
 abbrev pub tried : Lexeme → PlacedLexeme
 tried lexeme = record { lexeme = lexeme; at = place_tried }
 
--- A refusal is none of the last token: it stands at the end, where tokens are missing, or only modules that are too high
--- go on.
+-- The last token passes although all are refused so: at the end, where tokens are missing behind it, or since only modules
+-- that are too high go on with it.
 abbrev pub lets_pass : Code → Place → Bool
 lets_pass E03 at = at.line == 0
 lets_pass _ at = true

@@ -25,8 +25,8 @@ const PLACE_TRIED: Place = Place { line: 1, col: 1 };
 /// Where the tokens end that are tried: nowhere in a text, since lines count from 1.
 pub const END_TRIED: Place = Place { line: 0, col: 0 };
 
-// Whether the refusal is none of the last token: it stands at the end, where tokens are missing, or only modules that are
-// too high go on.
+// Whether the last token passes although all are refused so: at the end, where tokens are missing behind it, or since only
+// modules that are too high go on with it.
 fn lets_pass(refusal: Diag) -> bool
     ensures { result ≡ plain.lets_pass refusal.code refusal.place }
 {
