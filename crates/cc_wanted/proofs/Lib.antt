@@ -1,0 +1,7 @@
+mod LikeTokens
+mod LikeReaders
+mod LastTokens
+pub mod WantedKinds
+mod Pushed
+mod NameSamples
+mod WorkedFronts
