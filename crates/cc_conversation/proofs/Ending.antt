@@ -239,9 +239,12 @@ module _ (before after : Ends) (new : Held) (number : ℕ) where
       → before.read_faults < after.read_faults → after.write_faults ≡ before.write_faults → Conversed before after endings.ReadFault
   fault_ends refused (now, there, place, moment, talks, (front, part, stops, drained)) rose none =
       let both = part_of refused errors.ReadFault now new there place moment talks front part stops in
-      let hears = hears_both fresh now stops.between before.left there stops.there (first_line ∷ talks.lines) front talks.hears stops.hears in
-      (so_far before after stops.between new stops.there (first_line ∷ (talks.lines ++ front)) part refused (standing_with front) hears
-      stops.further drained both.1 (no_bad_line front), rose, none)
+      let hears = hears_both fresh now stops.between before.left there stops.there (first_line ∷ talks.lines) front talks.hears stops.hears in (
+        so_far before after stops.between new stops.there (first_line ∷ (talks.lines ++ front)) part refused (standing_with front) hears
+            stops.further drained both.1 (no_bad_line front),
+        rose,
+        none,
+      )
 
   cut_ends : (refused : Bool) → StopsHearing fresh new before.left after.left before.written after.written number refused errors.CutShort
       → HasNoFault before after → HasBadLine before after (number + 1)

@@ -87,30 +87,38 @@ module _ (devices : ℕ) (globals : Context) (definition : Definition) where
   told steps (Found found asked) reason at is (filling, least, inl (failing, fails, same, there)) = (
     plain.Found found (placed_of asked),
     (steps, sym is, λ e. cc),
-    (filling, least, inl (
-      code_of_reason reason,
-      at,
-      (
-        placed_of fails.before,
-        failing.placed,
-        placed_of fails.after,
-        ap placed_of fails.stands ∙ placed_parts fails.before failing fails.after,
-        fails.served,
-        fails.fails,
-        ap code_of_reason same ∙ failure_code filling failing,
-        there,
+    (
+      filling,
+      least,
+      inl (
+        code_of_reason reason,
+        at,
+        (
+          placed_of fails.before,
+          failing.placed,
+          placed_of fails.after,
+          ap placed_of fails.stands ∙ placed_parts fails.before failing fails.after,
+          fails.served,
+          fails.fails,
+          ap code_of_reason same ∙ failure_code filling failing,
+          there,
+        ),
+        refl,
       ),
-      refl,
-    )),
+    ),
   )
   told steps (Found found asked) reason at is (filling, least, inr (served, none, same, there)) = (
     plain.Found found (placed_of asked),
     (steps, sym is, λ e. cc),
-    (filling, least, inr (
-      served,
-      ap (λ it. IsRefused (code_of_reason it) at) same ∙ ap (λ it. IsRefused it at) (unsigned_code devices globals (filled_type filling found.type))
-          ∙ ap (IsRefused E17) there ∙ ap (signature_verdict filling definition found) (sym none),
-    )),
+    (
+      filling,
+      least,
+      inr (
+        served,
+        ap (λ it. IsRefused (code_of_reason it) at) same ∙ ap (λ it. IsRefused it at) (unsigned_code devices globals (filled_type filling found.type))
+            ∙ ap (IsRefused E17) there ∙ ap (signature_verdict filling definition found) (sym none),
+      ),
+    ),
   )
 
 pub reasons_are_of_refusals : ReasonsAreOfRefusals
@@ -171,18 +179,22 @@ module _ (devices : ℕ) (globals : Context) (definition : Definition) (code : C
       let found_parts = parted asked before one after stands in (
         unserved filling found_parts.failing.locals found_parts.failing.placed.asked,
         parts.0 ∙ coded ∙ ap (λ (it : Placed). code_of_failure it.asked) (sym found_parts.failing_is) ∙ sym (failure_code filling found_parts.failing),
-        (filling, least, inl (
-          found_parts.failing,
-          record {
-            before = found_parts.front;
-            after = found_parts.rest;
-            stands = found_parts.stands;
-            served = subst (AllServed filling) (sym found_parts.front_is) served;
-            fails = subst (λ (it : Placed). IsServed filling it.asked → ⊥) (sym found_parts.failing_is) fails;
-          },
-          refl,
-          parts.1 ∙ there ∙ ap (λ (it : Placed). it.at) (sym found_parts.failing_is),
-        )),
+        (
+          filling,
+          least,
+          inl (
+            found_parts.failing,
+            record {
+              before = found_parts.front;
+              after = found_parts.rest;
+              stands = found_parts.stands;
+              served = subst (AllServed filling) (sym found_parts.front_is) served;
+              fails = subst (λ (it : Placed). IsServed filling it.asked → ⊥) (sym found_parts.failing_is) fails;
+            },
+            refl,
+            parts.1 ∙ there ∙ ap (λ (it : Placed). it.at) (sym found_parts.failing_is),
+          ),
+        ),
       )
   reasoned (Found found asked) (filling, least, inr (served, same)) =
       unsigned filling found asked (signature_under filling devices globals found) refl least served same
@@ -192,5 +204,5 @@ refusals_have_a_reason devices globals definition names code at (outcome, (steps
     let same : outcome_of (explained_definition (limited steps) devices globals definition names) ≡ outcome =
     explained_definitions_are_checked (limited steps) devices globals definition names ∙ is in
     let found = reasoned devices globals definition code at (explained_definition (limited steps) devices globals definition names)
-        (subst (λ o. Deserves devices globals definition o (IsRefused code at)) (sym same) deserves) in
+    (subst (λ o. Deserves devices globals definition o (IsRefused code at)) (sym same) deserves) in
     (found.0, found.1, (steps, found.2))

@@ -1,4 +1,5 @@
 pub mod DefinitionOutcomes
 pub mod ExplainedOutcomes
+pub mod FoundMismatches
 pub mod OneReason
 pub mod RefusedModules

@@ -77,7 +77,7 @@ no_both : (devices : ℕ) (context : Context) (first : CoreDefinition) (names : 
     → HasReason devices context (to_be_checked first) names reason at → definitions.HasVerdict devices context (to_be_checked first) (definitions.IsAccepted accepted) → ⊥
 no_both devices context first names reason at accepted has verdict =
     let clash = one_verdict devices context (to_be_checked first) (definitions.IsRefused (code_of_reason reason) at) (definitions.IsAccepted accepted)
-        (reasons_are_of_refusals devices context (to_be_checked first) names reason at has) verdict in
+    (reasons_are_of_refusals devices context (to_be_checked first) names reason at has) verdict in
     cc
 
 same_first : (devices : ℕ) {context : Context} {names : List Name} {list : List CoreDefinition} {binders : List BinderNames} {one other : DefinitionReason} {at place : Place} {inside visible : List Name}

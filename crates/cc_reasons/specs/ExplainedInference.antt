@@ -173,22 +173,22 @@ explained ways root scene (Conditional Absent test positive negative) places nam
     Refused NothingThere (spots places).at
 explained ways root scene (Conditional (Written shape set) test positive negative) places names =
     explained_size ways places scene do
-  explained_operand ways (spots places).first scene test (BaseShape bases.Bool)
-  one ← explained_part_below ways (spots (first_part places)).at scene (type_in scene.context (capturing shape set))
-      (explained ways root scene positive (first_part places) (first_names names))
-  two ← explained_part_below ways (spots (second_part places)).at scene (type_in scene.context (capturing shape set))
-      (explained ways root scene negative (second_part places) (second_names names))
-  finds
-      (result (type_in scene.context (capturing shape set))
-      (Conditional (Written shape set) test one.completed two.completed))
+      explained_operand ways (spots places).first scene test (BaseShape bases.Bool)
+      one ← explained_part_below ways (spots (first_part places)).at scene (type_in scene.context (capturing shape set))
+          (explained ways root scene positive (first_part places) (first_names names))
+      two ← explained_part_below ways (spots (second_part places)).at scene (type_in scene.context (capturing shape set))
+          (explained ways root scene negative (second_part places) (second_names names))
+      finds
+          (result (type_in scene.context (capturing shape set))
+          (Conditional (Written shape set) test one.completed two.completed))
 explained ways root scene (Conditional (Own shape) test positive negative) places names =
     explained_size ways places scene do
-  explained_operand ways (spots places).first scene test (BaseShape bases.Bool)
-  one ← explained_part_against ways (spots (first_part places)).at scene (shape_in scene.context shape)
-      (explained ways root scene positive (first_part places) (first_names names))
-  two ← explained_part_against ways (spots (second_part places)).at scene (shape_in scene.context shape)
-      (explained ways root scene negative (second_part places) (second_names names))
-  finds (choice_found root scene.context shape test one two)
+      explained_operand ways (spots places).first scene test (BaseShape bases.Bool)
+      one ← explained_part_against ways (spots (first_part places)).at scene (shape_in scene.context shape)
+          (explained ways root scene positive (first_part places) (first_names names))
+      two ← explained_part_against ways (spots (second_part places)).at scene (shape_in scene.context shape)
+          (explained ways root scene negative (second_part places) (second_names names))
+      finds (choice_found root scene.context shape test one two)
 explained ways root scene (Repetition count function) places names = explained_size ways places scene do
   explained_operand ways (spots places).first scene count (BaseShape bases.Int)
   explained_operand ways (spots places).second scene function

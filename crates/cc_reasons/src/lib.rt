@@ -2,4 +2,5 @@
 #![tactic(auto)]
 
 pub mod cause_laws;
+pub mod mismatch_laws;
 pub mod refused_laws;
