@@ -1,7 +1,8 @@
 -- Conversations with live runs, by computation.
-use Rattle.std.proofs.Common.{◌≡◌, ◌≤◌, ℕ, suc, Bool, true, false, List, [], ◌∷◌, ◌++◌, Some, None, Ok, Err, map, length, refl, sym, ap, subst, ◌∙◌, arith}
+use Rattle.std.proofs.Common.{◌≡◌, ◌≤◌, ℕ, suc, Bool, true, false, List, [], ◌∷◌, ◌++◌, Some, Ok, Err, map, length, refl, sym, subst, arith}
 use Rattle.std.specs.Prelude.{codes, nat_le, filter, Result}
 use Rattle.std.specs.Fmt.{digits}
+use Rattle.std.specs.List.{IsDistinct}
 use Rattle.std.proofs.lemmas.Bool.Decides.{nat_tests}
 use lib.Utf8.{encode}
 use Rattle.unicode_ident.proofs.Computing.{unicode_ident}
@@ -13,9 +14,9 @@ use Rattle.cc_entry_laws.specs.PresentEntries.{CheckedModule, CheckedEntry, defi
 use Rattle.cc_entry_laws.specs.LinkOrders.{is_reached}
 use Rattle.cc_entry_laws.proofs.MadeEntries.{made_entry}
 use Rattle.cc_graph.specs.Graph.{ImportMap, IsOrder}
-use Rattle.cc_hosting.specs.HostedRuns.{hosted, refused_course, refusal_text, IsHostedAs, IsHosted}
+use Rattle.cc_hosting.specs.HostedRuns.{hosted, refused_course, refusal_text, IsHostedAs}
 use Rattle.cc_item_reading.specs.Sayings.{size, item_limit}
-use Rattle.cc_job.specs.Jobs.{Item, Declares, Commands, item_lines, text}
+use Rattle.cc_job.specs.Jobs.{Declares, Commands, item_lines, text}
 use Rattle.cc_job.specs.declared.job.Command.TheVariants.{Put, Drop, Policy}
 use Rattle.cc_job.specs.JobExamples.{rule}
 use Rattle.cc_live.specs.LiveRuns.{Course, Over, Waits, Breaks}
@@ -143,7 +144,7 @@ spoken : (allow : Bool) (said : List Line) (told : List ℕ) (refused : Bool) (s
     ∷ codes "def f: ((x: Int) -> Unit)^{out} = fun (x: Int) => out.print(x)" ∷ codes "def main = fun (u: Unit) => f(5)"
     ∷ codes "policy 1" ∷ policy_line allow ∷ codes "live tools.main 100" ∷ said))) (ready allow) (codes "live tools.main 100" ∷ said) told refused standing
     → IsSpoken (example.opened_with (policy_line allow) said) (text (example.answered_with []) ++ told) refused standing
-unfolding encode digits
+unfolding encode digits IsDistinct
 spoken true said told refused standing then =
     opened
     (goes_on {moment = beginning} (Declares out) _ [] _ false refused
