@@ -1,7 +1,7 @@
 -- A definition is refused exactly where it has a reason.
-use Rattle.std.proofs.Common.{◌≡◌, ◌⊎◌, inl, inr, ℕ, suc, Bool, true, false, cond, List, [], ◌∷◌, ◌++◌, map, length, Option, Some, None, refl, sym, ap, subst, ◌∙◌}
+use Rattle.std.proofs.Common.{◌≡◌, inl, inr, ℕ, suc, Bool, true, false, cond, List, [], ◌∷◌, ◌++◌, length, Option, Some, None, refl, sym, ap, subst, ◌∙◌}
 use Rattle.cc_base.specs.declared.code.Code.{Code}
-use Rattle.cc_base.specs.declared.code.Code.TheVariants.{E15, E16, E17}
+use Rattle.cc_base.specs.declared.code.Code.TheVariants.{E17}
 use Rattle.cc_base.specs.declared.place.Place.{Place}
 use Rattle.cc_core.specs.Shapes.{CapturingType, capturing}
 use Rattle.cc_core.specs.Terms.{Note, Absent, Written, Own}
@@ -9,14 +9,14 @@ use Rattle.cc_core.specs.Contexts.{Context, entry_of}
 use Rattle.cc_core.specs.Places.{spots}
 use Rattle.cc_core.specs.Substitution.{filled_type}
 use Rattle.cc_checking.specs.Avoidance.{Positive, avoided_type}
-use Rattle.cc_checking.specs.Fillings.{Filling, AllServed, IsServed, IsLeast, FailsFirst, code_of_failure}
+use Rattle.cc_checking.specs.Fillings.{Filling, AllServed, IsServed, IsLeast, code_of_failure}
 use Rattle.cc_checking.specs.Inference.{Ways, limited}
 use Rattle.cc_checking.specs.Outcomes as plain
 use Rattle.cc_checking.specs.Outcomes.{Outcome, Placed, Asked, IsBelow, IsCapless, found_or}
-use Rattle.cc_checking.specs.Verdicts.{Definition, Checking, declared_set, signature_of, plain_checked, recursion_checked, recursive_checked, checked, IsChecked, Verdict, IsAccepted, IsRefused, signature_under, signature_verdict, Deserves, HasVerdict}
+use Rattle.cc_checking.specs.Verdicts.{Definition, Checking, declared_set, signature_of, plain_checked, recursion_checked, recursive_checked, checked, IsRefused, signature_under, signature_verdict, Deserves, HasVerdict}
 use Rattle.cc_reasons.specs.CauseLaws.{ExplainedDefinitionsAreChecked, ReasonsAreOfRefusals, RefusalsHaveAReason}
 use Rattle.cc_reasons.specs.Causes.{Cause, code_of, Unavoidable, Located, Explained, NoAnswer, Refused, Found, outcome_of}
-use Rattle.cc_reasons.specs.DefinitionReasons.{outermost, none_or, unsigned_cause, explained_plain, explained_recursion, explained_recursive, explained_definition, DefinitionReason, OfStep, code_of_reason, unserved, placed_of, FailsFirstAs, Tells, HasReason}
+use Rattle.cc_reasons.specs.DefinitionReasons.{outermost, none_or, unsigned_cause, explained_plain, explained_recursion, explained_recursive, explained_definition, DefinitionReason, OfStep, code_of_reason, unserved, placed_of, Tells}
 use Rattle.cc_reasons.specs.ExplainedInference.{BinderNames}
 use Rattle.cc_reasons.proofs.ExplainedOutcomes.{IsRefusedBy, then_is, because_is, by_avoided, note_is, below_is, explained_is_inference}
 

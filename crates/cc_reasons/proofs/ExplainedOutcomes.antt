@@ -1,5 +1,5 @@
 -- Inference that tells why comes to the outcome of inference.
-use Rattle.std.proofs.Common.{◌≡◌, ℕ, Bool, true, false, cond, List, [], ◌∷◌, ◌++◌, map, Option, Some, None, refl, sym, ap, subst, ◌∙◌}
+use Rattle.std.proofs.Common.{◌≡◌, ℕ, Bool, true, false, cond, List, [], ◌∷◌, ◌++◌, map, Option, Some, None, refl, ap, ◌∙◌}
 use Rattle.cc_base.specs.declared.code.Code.{Code}
 use Rattle.cc_base.specs.declared.code.Code.TheVariants.{E13, E14, E17, E18}
 use Rattle.cc_base.specs.declared.literal.Base.{Base}
@@ -7,20 +7,19 @@ use Rattle.cc_base.specs.declared.place.Place.{Place}
 use Rattle.cc_capture.specs.declared.var.Var.{Var}
 use Rattle.cc_capture.specs.declared.var.Var.TheVariants.{Bound, Free}
 use Rattle.cc_capture.specs.Sets.{Set}
-use Rattle.cc_core.specs.Shapes.{Shape, BaseShape, AnyShape, TypeVariable, FunctionShape, TypeFunctionShape, BoxShape, ExitShape, CapturingType, capturing}
+use Rattle.cc_core.specs.Shapes.{Shape, BaseShape, AnyShape, TypeVariable, FunctionShape, TypeFunctionShape, BoxShape, ExitShape, CapturingType}
 use Rattle.cc_core.specs.Terms.{Note, Absent, Written, Own, Term, VariableTerm, LiteralTerm, FunctionTerm, TypeFunctionTerm, BoxTerm, Application, TypeApplication, Unboxing, Let, Primitive, Conditional, Repetition, Operation, Boundary, Leave}
 use Rattle.cc_core.specs.Contexts.{Bind, TermEntry, TypeEntry, Context, lookup}
 use Rattle.cc_core.specs.Equality.{same_shape}
 use Rattle.cc_core.specs.Places.{Places, spots, first_part, second_part}
 use Rattle.cc_core.specs.Typing.{base_operated}
 use Rattle.cc_checking.specs.Exposing.{exposed}
-use Rattle.cc_checking.specs.Avoidance.{Positive, avoided_type}
 use Rattle.cc_checking.specs.Comparison.{Comparison, Unfinished, Mismatch, Matches, types_compared}
 use Rattle.cc_checking.specs.Outcomes as plain
 use Rattle.cc_checking.specs.Outcomes.{Outcome, Placed, found_or}
-use Rattle.cc_checking.specs.Inference.{Result, Ways, entry_type, variable_type, in_context, function_head, type_function_head, box_head, exit_head, device_head, compared_at, below, against, operand, operation_argument, opening_set, capless, noted, left_behind, part_below, part_against, tested, sized, inferred}
+use Rattle.cc_checking.specs.Inference.{Result, Ways, entry_type, variable_type, in_context, function_head, type_function_head, box_head, exit_head, device_head, compared_at, below, against, operand, operation_argument, opening_set, noted, left_behind, part_below, part_against, sized, inferred}
 use Rattle.cc_reasons.specs.CauseLaws.{ExplainedInferenceIsInference}
-use Rattle.cc_reasons.specs.Causes.{Local, Scene, Cause, code_of, WrongHead, WrongType, WrongShape, NothingThere, Unavoidable, TooLarge, Head, Located, located, Explained, NoAnswer, Refused, Found, outcome_of, asked_before, ◌>>=◌, because, unrefused}
+use Rattle.cc_reasons.specs.Causes.{Local, Scene, Cause, code_of, WrongType, WrongShape, Unavoidable, TooLarge, Located, located, Explained, NoAnswer, Refused, Found, outcome_of, asked_before, ◌>>=◌, because, unrefused}
 use Rattle.cc_reasons.specs.ExplainedInference.{BinderNames, explained, explained_below, explained_against, typed, explained_operand, explained_argument, explained_note, explained_leaving, explained_part_below, explained_part_against, explained_size, first_names, second_names}
 
 placed_both : (one other : List Located) → map (λ it. it.placed) (one ++ other) ≡ map (λ it. it.placed) one ++ map (λ it. it.placed) other

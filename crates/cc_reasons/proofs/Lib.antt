@@ -3,3 +3,4 @@ pub mod ExplainedOutcomes
 pub mod FoundMismatches
 pub mod OneReason
 pub mod RefusedModules
+pub mod ShortestChains

@@ -1,5 +1,5 @@
 -- A definition has one reason to be refused.
-use Rattle.std.proofs.Common.{◌≡◌, ◌⊎◌, inl, inr, ℕ, suc, ◌+◌, ◌≤◌, Bool, true, false, cond, List, [], ◌∷◌, ◌++◌, map, length, Option, Some, None, refl, sym, ap, subst, ◌∙◌, arith}
+use Rattle.std.proofs.Common.{◌≡◌, ◌⊎◌, inl, inr, ℕ, suc, ◌+◌, ◌≤◌, Bool, true, false, cond, List, [], ◌∷◌, ◌++◌, length, Option, Some, None, refl, sym, ap, subst, ◌∙◌, arith}
 use Rattle.cc_base.specs.declared.literal.Base.{Base}
 use Rattle.cc_base.specs.declared.place.Place.{Place}
 use Rattle.cc_capture.specs.declared.var.Var.{Var}
@@ -9,10 +9,9 @@ use Rattle.cc_core.specs.Contexts.{Context, entry_of}
 use Rattle.cc_core.specs.Places.{Places, first_part, second_part, spots}
 use Rattle.cc_core.specs.Substitution.{filled_type}
 use Rattle.cc_checking.specs.Comparison.{Comparison, Comparing, comparison}
-use Rattle.cc_checking.specs.Fillings.{Filling, AllServed, IsServed, IsLeast}
+use Rattle.cc_checking.specs.Fillings.{Filling, AllServed, IsServed}
 use Rattle.cc_checking.specs.Inference.{Result, compared_at, limited}
-use Rattle.cc_checking.specs.Outcomes as plain
-use Rattle.cc_checking.specs.Outcomes.{Outcome, Placed}
+use Rattle.cc_checking.specs.Outcomes.{Outcome}
 use Rattle.cc_checking.specs.Verdicts.{Definition, Checking, signature_under}
 use Rattle.cc_typing_laws.proofs.ComparisonLemmas.{Keeps, comparison_keeps}
 use Rattle.cc_checking_laws.proofs.LeastFillings.{least_alike}
@@ -20,8 +19,8 @@ use Rattle.cc_checking_laws.proofs.OneOutcome as inference
 use Rattle.cc_checking_laws.proofs.OneOutcome.{KeepAnswers, by, stays_below}
 use Rattle.cc_reasons.specs.CauseLaws.{ReasonsAreUnique}
 use Rattle.cc_reasons.specs.Causes.{Local, Scene, Cause, WrongType, WrongShape, Located, Explained, NoAnswer, Refused, Found, asked_before, ◌>>=◌, because}
-use Rattle.cc_reasons.specs.DefinitionReasons.{outermost, explained_plain, explained_recursion, explained_recursive, explained_definition, DefinitionReason, OfStep, unserved, unsigned_cause, placed_of, FailsFirstAs, Tells, HasReason}
-use Rattle.cc_reasons.specs.ExplainedInference.{BinderNames, explained, explained_below, explained_against, explained_operand, explained_argument, explained_note, explained_part_below, explained_part_against, explained_size, typed, first_names, second_names}
+use Rattle.cc_reasons.specs.DefinitionReasons.{outermost, explained_plain, explained_recursion, explained_recursive, explained_definition, DefinitionReason, OfStep, unserved, unsigned_cause, placed_of, FailsFirstAs, Tells}
+use Rattle.cc_reasons.specs.ExplainedInference.{BinderNames, explained, explained_below, explained_against, explained_operand, explained_argument, explained_note, explained_part_below, explained_part_against, explained_size, first_names, second_names}
 
 -- the second outcome is the first one, where there is an answer
 abbrev Stays : {A : Type 0} → Explained A → Explained A → Type 0

@@ -1,7 +1,6 @@
 -- The reasons of definitions belong to the verdicts of modules.
-use Rattle.std.proofs.Common.{◌≡◌, ℕ, List, [], ◌∷◌, ◌++◌, length, None, refl, sym, ap, subst, ◌∙◌}
+use Rattle.std.proofs.Common.{◌≡◌, ℕ, List, [], ◌∷◌, ◌++◌, length, refl, sym, ap, subst, ◌∙◌}
 use Rattle.cc_base.specs.declared.code.Code.{Code}
-use Rattle.cc_base.specs.declared.device.DeviceDecl.{DeviceDecl}
 use Rattle.cc_base.specs.declared.place.Place.{Place}
 use Rattle.cc_core.specs.Contexts.{Context, entry_of}
 use Rattle.cc_checking.specs.Verdicts as definitions
@@ -13,15 +12,15 @@ use Rattle.cc_mnf.specs.ElaboratedModules as elaborated
 use Rattle.cc_mnf.specs.Scopes.{Name}
 use Rattle.cc_reasons.specs.DefinitionReasons.{DefinitionReason, code_of_reason, HasReason}
 use Rattle.cc_reasons.specs.ExplainedInference.{BinderNames}
-use Rattle.cc_reasons.specs.RefusedDefinitions.{names_of_binders, names_inside, first_binders, other_binders, IsRefusedFirst, IsOfDefinition}
+use Rattle.cc_reasons.specs.RefusedDefinitions.{names_of_binders, names_inside, first_binders, other_binders, IsRefusedFirst}
 use Rattle.cc_reasons.specs.RefusedDefinitions.IsRefusedFirst.{refused_first, accepted_first}
 use Rattle.cc_reasons.specs.RefusedLaws.{ReasonsOfDefinitionsAreOfRefusals, RefusedDefinitionsHaveAReason, ReasonsOfDefinitionsAreUnique}
 use Rattle.cc_reasons.proofs.DefinitionOutcomes.{reasons_are_of_refusals, refusals_have_a_reason}
 use Rattle.cc_reasons.proofs.OneReason.{reasons_are_unique}
-use Rattle.cc_verdicts.specs.ModuleVerdicts.{Finding, ModuleVerdict, IsAccepted, IsRefused, AreJudged, HasModuleVerdict, first_missing, with_findings, declared_context, to_be_checked, checked_as, after_definition}
+use Rattle.cc_verdicts.specs.ModuleVerdicts.{ModuleVerdict, IsAccepted, IsRefused, AreJudged, with_findings, declared_context, to_be_checked, checked_as, after_definition}
 use Rattle.cc_verdicts.specs.ModuleVerdicts.AreJudged.{no_more, refused_first as judged_refused, accepted_first as judged_accepted}
 use Rattle.cc_verdicts.specs.ModuleVerdicts.HasModuleVerdict.{is_judged}
-use Rattle.cc_verdicts.specs.Readings.{TextReading, HasReading, IsTree}
+use Rattle.cc_verdicts.specs.Readings.{IsTree}
 use Rattle.cc_verdicts.proofs.ReadingLaws.{text_has_one_reading}
 
 judged_so : (devices : ℕ) {context : Context} {names : List Name} {list : List CoreDefinition} {binders : List BinderNames} {reason : DefinitionReason} {at : Place} {inside : List Name}

@@ -1,6 +1,6 @@
 -- Why a step of inference is refused: what was found there and what was wanted. A cause stands beside the code and the place,
 -- and its code is that of the refusal.
-use Rattle.std.specs.Prelude.{◌≡◌, ℕ, List, [], ◌∷◌, ◌++◌, map, Option}
+use Rattle.std.specs.Prelude.{ℕ, List, [], ◌∷◌, ◌++◌, map, Option}
 use Rattle.cc_base.specs.declared.code.Code.{Code}
 use Rattle.cc_base.specs.declared.code.Code.TheVariants.{E13, E14, E17, E18}
 use Rattle.cc_base.specs.declared.literal.Base.{Base}

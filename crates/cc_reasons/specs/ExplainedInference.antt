@@ -1,5 +1,5 @@
 -- Inference that tells why it refuses, and where what it asks is asked: step by step as inference is.
-use Rattle.std.specs.Prelude.{◌≡◌, ℕ, suc, nat_lt, [], ◌∷◌, List, length, Option, Some, None, if◌then◌else◌}
+use Rattle.std.specs.Prelude.{ℕ, length, Option, Some, None}
 use Rattle.cc_base.specs.declared.literal.Base.{Base}
 use Rattle.cc_base.specs.declared.literal.Base.TheVariants as bases
 use Rattle.cc_base.specs.declared.place.Place.{Place}
@@ -9,7 +9,7 @@ use Rattle.cc_core.specs.Shapes.{Shape, BaseShape, FunctionShape, BoxShape, Capt
 use Rattle.cc_core.specs.Terms.{Note, Absent, Written, Own, Term, VariableTerm, LiteralTerm, FunctionTerm}
 use Rattle.cc_core.specs.Terms.{TypeFunctionTerm, BoxTerm, Application, TypeApplication, Unboxing, Let, Primitive}
 use Rattle.cc_core.specs.Terms.{Conditional, Repetition, Operation, Boundary, Leave}
-use Rattle.cc_core.specs.Contexts.{TypeEntry, Context, entry_of}
+use Rattle.cc_core.specs.Contexts.{TypeEntry, entry_of}
 use Rattle.cc_core.specs.Substitution.{replaced_type, replaced_type_by_shape}
 use Rattle.cc_core.specs.Typing.{base_of, base_given, base_operated, base_taken, base_answered}
 use Rattle.cc_core.specs.Places.{Places, spots, first_part, second_part}
@@ -20,7 +20,7 @@ use Rattle.cc_checking.specs.Inference.{function_head, type_function_head, box_h
 use Rattle.cc_checking.specs.Inference.{opening_set, completed_set, capless, tested, function_found, type_function_found}
 use Rattle.cc_checking.specs.Inference.{choice_found, exit_entry, written_in}
 use Rattle.cc_mnf.specs.Scopes.{Name}
-use Rattle.cc_reasons.specs.Causes.{Local, Scene, under, Head, AFunction, ATypeFunction, ABox, AnExit, ABase, Cause}
+use Rattle.cc_reasons.specs.Causes.{Local, Scene, under, AFunction, ATypeFunction, ABox, AnExit, ABase}
 use Rattle.cc_reasons.specs.Causes.{WrongHead, WrongType, WrongShape, NothingThere, Unavoidable, TooLarge, Explained}
 use Rattle.cc_reasons.specs.Causes.{Refused, finds, ◌>>=◌, ◌>>◌, because, unrefused}
 

@@ -7,3 +7,4 @@ pub mod NamedBinders
 pub mod ReasonTexts
 pub mod RefusedDefinitions
 pub mod RefusedLaws
+pub mod ShortestChains

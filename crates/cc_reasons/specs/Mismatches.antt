@@ -1,5 +1,5 @@
 -- Where two shapes do not match: the first two parts of theirs that do not, in the order in which they are compared.
-use Rattle.std.specs.Prelude.{◌≡◌, ℕ, zero, suc, List, [], ◌∷◌, length, Option, Some, None, IsTrue, if◌then◌else◌}
+use Rattle.std.specs.Prelude.{◌≡◌, ℕ, zero, suc, ◌∷◌, length, Option, Some, None, IsTrue, if◌then◌else◌}
 use Rattle.std.specs.Option.{is_some}
 use Rattle.cc_core.specs.Shapes.{Shape, BaseShape, AnyShape, TypeVariable, FunctionShape, TypeFunctionShape, BoxShape}
 use Rattle.cc_core.specs.Shapes.{ExitShape, CapturingType, capturing}

@@ -1,5 +1,5 @@
 -- How the reason of a definition is told, line by line, with the names that its author knows.
-use Rattle.std.specs.Prelude.{◌≡◌, ℕ, ◌-◌, ◌≤◌, nat_lt, Bool, true, false, List, [], ◌∷◌, ◌++◌, length}
+use Rattle.std.specs.Prelude.{◌≡◌, ℕ, ◌-◌, nat_lt, Bool, true, false, List, [], ◌∷◌, ◌++◌, length}
 use Rattle.std.specs.Prelude.{codes, encode_utf8_all, Option, Some, None, IsTrue, slice_index_or, if◌then◌else◌}
 use Rattle.std.specs.Fmt.{decimal}
 use Rattle.std.specs.List.{flat_map}
@@ -16,13 +16,13 @@ use Rattle.cc_core.specs.Sizes.{type_size}
 use Rattle.cc_core.specs.Subcapturing.{Subcaptures}
 use Rattle.cc_checking.specs.Comparison.{Mismatch, comparison}
 use Rattle.cc_checking.specs.Inference.{greatest_size}
-use Rattle.cc_explain.specs.Chains.{IsChain, ComesBefore}
 use Rattle.cc_mnf.specs.Scopes.{Name}
 use Rattle.cc_print.specs.TypeTexts.{base_text, element_text, set_text, shape_text, type_text}
-use Rattle.cc_reasons.specs.Causes.{Local, Scene, Head, AFunction, ATypeFunction, ABox, AnExit, ABase, Cause, WrongHead}
+use Rattle.cc_reasons.specs.Causes.{Local, Head, AFunction, ATypeFunction, ABox, AnExit, ABase, Cause, WrongHead}
 use Rattle.cc_reasons.specs.Causes.{WrongType, WrongShape, NothingThere, Unavoidable, TooLarge}
 use Rattle.cc_reasons.specs.DefinitionReasons.{DefinitionReason, OfStep, NotBelow, WithCap}
 use Rattle.cc_reasons.specs.Mismatches.{Pair, mismatch}
+use Rattle.cc_reasons.specs.ShortestChains.{IsFirstShortestToEnd}
 
 -- A local variable is told by the name of its binder, and the place of that, since names may hide each other. An operand
 -- that was named for the text has no name.
@@ -136,17 +136,6 @@ members_behind devices context (Hole number) = []
 abbrev pub LeadsOn : ℕ → Context → Set → (Elem → List Elem) → Type 0
 LeadsOn devices context right entry = (e : Elem) → AreBeyond context right (members_behind devices context e) (entry e)
 
--- The first of the shortest chains from an element to an end: none to any end is shorter, and none of its length comes before
--- it.
-pub record IsShortestToEnd (devices : ℕ) (entry : Elem → List Elem) (from : Elem) (chain : List Elem) : Type 0 where
-  pub to : Elem
-  pub ends : IsTrue (is_end devices to)
-  pub leads : IsChain entry from to chain
-  pub shortest : (other : List Elem) (end : Elem) → IsTrue (is_end devices end) → IsChain entry from end other
-      → length chain ≤ length other
-  pub first : (other : List Elem) (end : Elem) → IsTrue (is_end devices end) → IsChain entry from end other
-      → length other ≡ length chain → ComesBefore entry other chain → ⊥
-
 -- elements, each behind a space
 abbrev pub spaced : List Name → Context → List Elem → List ℕ
 spaced names context elements = flat_map (λ e. codes " " ++ element_there names context e) elements
@@ -159,7 +148,7 @@ pub data AreChainLines (devices : ℕ) (names : List Name) (context : Context) (
       → AreChainLines devices names context entry rest lines
       → AreChainLines devices names context entry (e ∷ rest) lines
   leading : {e : Elem} {rest : List Elem} {lines : List (List ℕ)} (behind : List Elem) → is_end devices e ≡ false
-      → IsShortestToEnd devices entry e (e ∷ behind)
+      → IsFirstShortestToEnd entry (is_end devices) e (e ∷ behind)
       → AreChainLines devices names context entry rest lines
       → AreChainLines devices names context entry (e ∷ rest)
       ((element_there names context e ++ codes ":" ++ spaced names context behind) ∷ lines)

@@ -1,5 +1,5 @@
 -- The reasons of definitions belong to the verdicts of modules.
-use Rattle.std.specs.Prelude.{◌≡◌, ◌↔◌, ℕ, List, length, None}
+use Rattle.std.specs.Prelude.{◌≡◌, ℕ, List, length, None}
 use Rattle.cc_base.specs.declared.code.Code.{Code}
 use Rattle.cc_base.specs.declared.device.DeviceDecl.{DeviceDecl}
 use Rattle.cc_base.specs.declared.place.Place.{Place}
