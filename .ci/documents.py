@@ -1,5 +1,5 @@
 #!/usr/bin/env python3
-"""Checks the examples of docs/language.md and of docs/codes.md with the built program.
+"""Checks the examples of docs/language.md, docs/codes.md and docs/from_scala.md with the built program.
 
 Each block of indented lines that begins with `def` or `import` is a module that has to be accepted; each row of a table
 `| CODE | .. | `TEXT` .. | LINE:COL |`, or with one more cell, is a module that has to be refused so; and each row
@@ -16,7 +16,7 @@ import sys
 
 TOP = os.path.dirname(os.path.dirname(os.path.abspath(__file__)))
 DEVICES = b"device out console\ndevice in file 1 2\ndevice hits counter\n"
-PAGES = ("docs/language.md", "docs/codes.md")
+PAGES = ("docs/language.md", "docs/codes.md", "docs/from_scala.md")
 ROW = re.compile(r"^\| (E\d\d |)\|.*?\| `([^`]+)`(.*?) \| (\d+:\d+) \|(?: [^|]* \|)?$")
 COMMAND = re.compile(r"^\| (E3\d) \| .*? \| `([a-z]+ [^`]+)`([^|]*) \| [^|]* \|$")
 
