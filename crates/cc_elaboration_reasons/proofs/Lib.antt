@@ -1,0 +1,4 @@
+pub mod CausesInside
+pub mod FirstRefusals
+pub mod TextRefusals
+pub mod ToldContents
