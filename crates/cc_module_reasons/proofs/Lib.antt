@@ -1,0 +1,4 @@
+pub mod Breaks
+pub mod MissingImports
+pub mod OneModuleReason
+pub mod RefusedTexts

@@ -1,0 +1,5 @@
+pub mod ImportReasonLaws
+pub mod ImportReasons
+pub mod ModuleReasons
+pub mod TextReasonLaws
+pub mod TextReasons
