@@ -15,7 +15,7 @@ use Rattle.cc_lex.specs.Lexical.{is_white, EndsTheLine, IsBlank, white_space, a_
 use Rattle.cc_module_reasons.specs.TextReasons.{IsLongestStart, Break, AtCharacter, AtEnd, BreaksAt, at_character, at_end}
 
 -- what stands at the front, or the end
-abbrev after : List ℕ → Break
+abbrev pub after : List ℕ → Break
 after [] = AtEnd
 after (c ∷ cs) = AtCharacter c
 
@@ -91,7 +91,7 @@ line_end (c ∷ cs) = by (line_end cs) (c == 10) refl
         (c ∷ body, behind, ap (λ t. c ∷ t) same, subst (λ b. IsTrue (not b && list_all (λ c. not (c == 10)) body)) (sym is) all, ends)
 
 -- characters of a string, at most so many, up to one that is none
-pub text_front : (n : ℕ) (cs : List ℕ) → (text : List ℕ) × (behind : List ℕ) × (cs ≡ text ++ behind) × IsTrue (list_all stands_in_string text)
+unfoldable pub text_front : (n : ℕ) (cs : List ℕ) → (text : List ℕ) × (behind : List ℕ) × (cs ≡ text ++ behind) × IsTrue (list_all stands_in_string text)
     × (length text ≤ n) × ((length text ≡ n) ⊎ (first_passes stands_in_string behind ≡ false))
 text_front zero cs = ([], cs, refl, refl, omega arith, inl refl)
 text_front (suc n) [] = ([], [], refl, refl, omega arith, inr refl)

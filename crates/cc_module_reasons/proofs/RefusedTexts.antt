@@ -1,5 +1,5 @@
 -- Texts that are no modules have one reason, with the code and the place of the refusal.
-use Rattle.std.proofs.Common.{◌≡◌, ◌⊎◌, inl, inr, ℕ, suc, ◌+◌, ◌<◌, ◌≤◌, ◌==◌, Bool, true, false, List, [], ◌∷◌, ◌++◌, length, IsTrue, refl, sym, ap, subst, ◌∙◌, append_assoc, arith}
+use Rattle.std.proofs.Common.{◌≡◌, ◌⊎◌, inl, inr, ℕ, suc, ◌+◌, ◌<◌, ◌≤◌, ◌==◌, Bool, true, false, cond, List, [], ◌∷◌, ◌++◌, length, IsTrue, refl, sym, ap, subst, ◌∙◌, append_assoc, arith}
 use Rattle.std.specs.Prelude.{if◌then◌else◌}
 use Rattle.std.specs.List.{list_all}
 use Rattle.std.specs.Str.{chars}
@@ -19,9 +19,9 @@ use Rattle.cc_lex.specs.Forms.{IsForm, IsString, stands_in_string}
 use Rattle.cc_lex.specs.Lexemes.{PlacedLexeme}
 use Rattle.cc_lex.specs.Lexical as lexical
 use Rattle.cc_lex.specs.Lexical.{is_white, EndsTheLine, IsBlank, white_space, a_comment, BeginsNothing, BeginsTooGreat, place_after, place_past, start, SpannedLexeme, without_spans, Extent, UpTo, IsCut, at_nothing, at_too_great, past_blank, past_token, StopsAt, HasTokens, IsRefusedAs, IsRefused}
-use Rattle.cc_module_reasons.proofs.Breaks.{breaks_behind, form_first, blank_first, line_end, text_front, string_goes_on}
+use Rattle.cc_module_reasons.proofs.Breaks.{after, breaks_behind, form_first, blank_first, line_end, text_front, string_goes_on}
 use Rattle.cc_module_reasons.specs.TextReasonLaws.{TextReasonsAreOfRefusals, RefusedTextsHaveAReason, TextReasonsAreUnique}
-use Rattle.cc_module_reasons.specs.TextReasons.{MayBegin, IsLongestStart, Break, AtCharacter, TooGreat, BreaksAt, at_character, at_end, too_great, TextReason, NotUtf8, Broken, Unwanted, TooHigh, text_code, first_of, HasTextReason, is_not_utf8, is_broken, is_unwanted, is_too_high}
+use Rattle.cc_module_reasons.specs.TextReasons.{MayBegin, IsLongestStart, Break, AtCharacter, TooGreat, BreaksAt, at_character, at_end, too_great, TextReason, NotUtf8, Broken, Unwanted, TooHigh, text_code, first_of, HasTextReason, is_not_utf8, is_broken, is_unwanted, is_too_high, AtEnd}
 use Rattle.cc_verdicts.proofs.ReadingLaws.{text_has_one_reading}
 use Rattle.cc_verdicts.specs.Readings.{TextReading, IsNoModule, HasReading, has_no_tokens, has_tokens, of_tokens}
 use Rattle.cc_wanted.proofs.WantedKinds.{kinds_found_by_trying_are_wanted, tokens_want_one_list_of_kinds}
@@ -105,13 +105,16 @@ slash_longest cs nothing =
             let here : 47 ∷ cs ≡ 47 ∷ 47 ∷ (body ++ behind) = ap (λ t. 47 ∷ t) (is ∙ (λ i. second i ∷ ends i)) in
             nothing.no_blank (47 ∷ 47 ∷ body) behind here (a_comment (record { body = body; begins = refl; in_line = all; whole = whole }))
 
-quote_breaks : (cs : List ℕ) → BeginsNothing (34 ∷ cs) → (break : Break) × BreaksAt (34 ∷ cs) break
+-- what a text breaks at where nothing begins, computed
+unfoldable pub told : List ℕ → Break
+told [] = AtEnd
+told (c ∷ cs) = cond (c == 34) (after (text_front 200 cs).1) (cond (c == 47) (after cs) (AtCharacter c))
+
+quote_breaks : (cs : List ℕ) → BeginsNothing (34 ∷ cs) → BreaksAt (34 ∷ cs) (after (text_front 200 cs).1)
 quote_breaks cs nothing =
-    let (text, behind, same, all, short, ends) = text_front 200 cs in (
-      _,
-      breaks_behind (34 ∷ cs) (34 ∷ text) behind nothing (ap (λ t. 34 ∷ t) same)
-          (record { begins = (34 ∷ [], inl (forms.Text, (text, (refl, all, short)))); longest = longest text behind same all short ends }),
-    )
+    let it = text_front 200 cs in
+    breaks_behind (34 ∷ cs) (34 ∷ it.0) it.1 nothing (ap (λ t. 34 ∷ t) it.2)
+    (record { begins = (34 ∷ [], inl (forms.Text, (it.0, (refl, it.3, it.4)))); longest = longest it.0 it.1 it.2 it.3 it.4 it.5 })
   where
     not_stands : (d : ℕ) → first_passes stands_in_string (d ∷ []) ≡ false → IsTrue (stands_in_string d) → ⊥
     not_stands d e is = cc
@@ -152,33 +155,26 @@ quote_breaks cs nothing =
         by (inl one) = no_one 34 cs nothing one
         by (inr (same, (t, it))) = ends_differ t it
 
-breaks : (text : List ℕ) → BeginsNothing text → (break : Break) × BreaksAt text break
+pub breaks : (text : List ℕ) → BeginsNothing text → BreaksAt text (told text)
+unfolding told
 breaks [] nothing = absurd (omega (arith, nothing.some))
-breaks (c ∷ cs) nothing =
-    elim (cases_Bool (c == 34)) [
-      | inl quote ↦
-          let is : 34 ≡ c = sym (eqb-true c 34 quote) in
-          subst (λ k. (break : Break) × BreaksAt (k ∷ cs) break) is (quote_breaks cs (subst (λ k. BeginsNothing (k ∷ cs)) (sym is) nothing))
-      | inr other ↦
-          elim (cases_Bool (c == 47)) [
-            | inl slash ↦
-                let is : 47 ≡ c = sym (eqb-true c 47 slash) in
-                subst (λ k. (break : Break) × BreaksAt (k ∷ cs) break) is
-                (let it = subst (λ k. BeginsNothing (k ∷ cs)) (sym is) nothing in
-                (_, breaks_behind (47 ∷ cs) (47 ∷ []) cs it refl (slash_longest cs it)))
-            | inr another ↦ (
-              _,
-              breaks_behind (c ∷ cs) [] (c ∷ cs) nothing refl
-                  (other_longest c cs nothing (differs c 34 other) (differs c 47 another)),
-            )
-          ]
-    ]
+breaks (c ∷ cs) nothing = by (c == 34) (c == 47) refl refl
   where
     itself : (n : ℕ) → (n == n) ≡ true
     itself n = eq-eqb n n refl
-
     differs : (c d : ℕ) → (c == d) ≡ false → c ≡ d → ⊥
     differs c d not same = let is : (d == d) ≡ false = subst (λ k. (k == d) ≡ false) same not in let it = itself d in cc
+    by : (quote slash : Bool) → (c == 34) ≡ quote → (c == 47) ≡ slash
+        → BreaksAt (c ∷ cs) (cond quote (after (text_front 200 cs).1) (cond slash (after cs) (AtCharacter c)))
+    by true slash quote other =
+        let is : c ≡ 34 = eqb-true c 34 quote in
+        subst (λ k. BreaksAt (k ∷ cs) (after (text_front 200 cs).1)) (sym is) (quote_breaks cs (subst (λ k. BeginsNothing (k ∷ cs)) is nothing))
+    by false true other slash =
+        let is : c ≡ 47 = eqb-true c 47 slash in
+        subst (λ k. BreaksAt (k ∷ cs) (after cs)) (sym is)
+        (let it = subst (λ k. BeginsNothing (k ∷ cs)) is nothing in breaks_behind (47 ∷ cs) (47 ∷ []) cs it refl (slash_longest cs it))
+    by false false other another =
+        breaks_behind (c ∷ cs) [] (c ∷ cs) nothing refl (other_longest c cs nothing (differs c 34 other) (differs c 47 another))
 
 -- and one thing
 
@@ -197,7 +193,7 @@ one_front text front behind front' behind' is other start start' =
 not_both : {B : Type 0} (text : List ℕ) → BeginsNothing text → BeginsTooGreat text → B
 not_both text nothing great = absurd (nothing.no_form great.cs great.after great.front great.longest.form)
 
-one_break : (text : List ℕ) (one other : Break) → BreaksAt text one → BreaksAt text other → one ≡ other
+pub one_break : (text : List ℕ) (one other : Break) → BreaksAt text one → BreaksAt text other → one ≡ other
 one_break text one other (at_character front c behind nothing is it) (at_character front' c' behind' nothing' is' it') =
     same (one_front text front (c ∷ behind) front' (c' ∷ behind') is is' it it')
   where
@@ -251,7 +247,7 @@ stays p (c ∷ cs) e = absurd (by (rises (c ∷ cs) p))
     by (inl low) = let same = ap (λ q. q.line) e in omega (arith, low, same)
     by (inr (line, col)) = let same = ap (λ q. q.col) e in omega (arith, col, same)
 
-one_place : (text before rest before' rest' : List ℕ) → text ≡ before ++ rest → text ≡ before' ++ rest'
+pub one_place : (text before rest before' rest' : List ℕ) → text ≡ before ++ rest → text ≡ before' ++ rest'
     → place_past start before ≡ place_past start before' → rest ≡ rest'
 one_place text before rest before' rest' is other same =
     elim (cut_twice before rest before' rest' (sym is ∙ other)) [
@@ -291,7 +287,7 @@ stop_of p o text tokens extent place e (past_blank cs after is blank more) = sto
 stop_of p o text tokens extent place e (past_token cs after is longest spells more) = stop_behind p text cs after place is (stop_of _ _ after _ _ place e more)
 
 rest_breaks : (rest : List ℕ) → BeginsNothing rest ⊎ BeginsTooGreat rest → (break : Break) × BreaksAt rest break
-rest_breaks rest (inl nothing) = breaks rest nothing
+rest_breaks rest (inl nothing) = (told rest, breaks rest nothing)
 rest_breaks rest (inr great) = (TooGreat, too_great great)
 
 -- the reasons

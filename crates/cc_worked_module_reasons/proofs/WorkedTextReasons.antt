@@ -1,0 +1,76 @@
+-- Worked reasons of texts, by computation.
+use Rattle.std.proofs.Common.{◌≡◌, ◌⊎◌, inl, inr, ℕ, Bool, true, false, List, [], ◌∷◌, ◌++◌, refl, sym, ap, subst, ◌∙◌}
+use Rattle.std.specs.Char.{is_ascii_digit}
+use Rattle.std.specs.Str.{chars}
+use Rattle.std.specs.Prelude.{codes, replicate}
+use Rattle.cc_base.specs.Names.{first_passes}
+use Rattle.cc_base.specs.declared.code.Code.{Code}
+use Rattle.cc_base.specs.declared.code.Code.TheVariants.{E01, E02, E03, E04}
+use Rattle.cc_base.specs.declared.place.Place.{Place}
+use Rattle.cc_lex.specs.Lexical.{start, place_past, BeginsTooGreat}
+use Rattle.cc_module_reasons.proofs.Breaks.{text_front}
+use Rattle.cc_module_reasons.proofs.RefusedTexts.{told, breaks, one_break, one_place, refused_texts_have_a_reason}
+use Rattle.cc_module_reasons.specs.TextReasons.{Break, BreaksAt, at_character, at_end, too_great, TextReason, NotUtf8, Broken, Unwanted, TooHigh, text_code, HasTextReason, is_not_utf8, is_broken, is_unwanted, is_too_high}
+use Rattle.cc_verdicts.proofs.ReadingLaws.{text_has_one_reading}
+use Rattle.cc_verdicts.specs.Readings.{TextReading, IsNoModule, HasReading}
+use Rattle.cc_worked_module_reasons.specs.TextReasonRows as example
+use Rattle.cc_worked_texts.proofs.ComputedModules.{letters_computing}
+use Rattle.cc_worked_texts.proofs.QuickTokens.{quick_reading, same_reading}
+
+no_digit : (rest : List ℕ) → first_passes is_ascii_digit rest ≡ false → BeginsTooGreat rest → ⊥
+no_digit rest e it = by it.cs it.too_great.0.0 it.front
+  where
+    by : (cs : List ℕ) → first_passes is_ascii_digit cs ≡ true → rest ≡ cs ++ it.after → ⊥
+    by [] h is = cc
+    by (c ∷ cs) h is = let same : first_passes is_ascii_digit (c ∷ (cs ++ it.after)) ≡ false = subst (λ r. first_passes is_ascii_digit r ≡ false) is e in cc
+
+told_is : (rest : List ℕ) (break : Break) → first_passes is_ascii_digit rest ≡ false → BreaksAt rest break → break ≡ told rest
+told_is rest break e (at_character front c behind nothing is it) = one_break rest _ (told rest) (at_character front c behind nothing is it) (breaks rest nothing)
+told_is rest break e (at_end nothing it) = one_break rest _ (told rest) (at_end nothing it) (breaks rest nothing)
+told_is rest break e (too_great great) = absurd (no_digit rest e great)
+
+of_broken : (text before rest : List ℕ) (reason : TextReason) (at : Place) → E02 ≡ text_code reason → chars text ≡ before ++ rest
+    → at ≡ place_past start before → first_passes is_ascii_digit rest ≡ false → HasTextReason text reason at → HasTextReason text (Broken (told rest)) at
+of_broken text before rest reason at code is there e (is_not_utf8 not) = cc
+of_broken text before rest reason at code is there e (is_broken before' rest' break utf8 is' stops it) =
+    let same : rest' ≡ rest = one_place (chars text) before' rest' before rest is' is there in
+    let told_so : break ≡ told rest = told_is rest break e (subst (λ r. BreaksAt r break) same it) in
+    subst (λ b. HasTextReason text (Broken b) (place_past start before')) told_so (is_broken before' rest' break utf8 is' stops it)
+of_broken text before rest reason at code is there e (is_unwanted tokens front more wanted has is' low none wants) = cc
+of_broken text before rest reason at code is there e (is_too_high tokens front more has is' low high) = cc
+
+-- a text that is refused where this rest begins, which is of no number
+broken : (text before rest : List ℕ) (at : Place) → quick_reading text ≡ IsNoModule E02 at → chars text ≡ before ++ rest
+    → at ≡ place_past start before → first_passes is_ascii_digit rest ≡ false → HasTextReason text (Broken (told rest)) at
+broken text before rest at reads is there e =
+    let (reason, code, it) = refused_texts_have_a_reason text E02 at ((text_has_one_reading text (IsNoModule E02 at)).1 (sym reads ∙ sym (same_reading text))) in
+    of_broken text before rest reason at code is there e it
+
+-- the same behind the front of a definition
+breaks_behind : (rest : List ℕ) → quick_reading (codes "def a = " ++ rest) ≡ IsNoModule E02 (record { line = 1; col = 9 })
+    → chars (codes "def a = " ++ rest) ≡ codes "def a = " ++ rest → first_passes is_ascii_digit rest ≡ false → example.Breaks rest (told rest)
+breaks_behind rest reads is e = broken (codes "def a = " ++ rest) (codes "def a = ") rest (record { line = 1; col = 9 }) reads is refl e
+
+pub broken_tokens : example.BrokenTokens
+unfolding letters_computing told text_front
+broken_tokens = record {
+  alone = breaks_behind (codes "@") refl refl refl;
+  before_a_name = breaks_behind (codes "@a") refl refl refl;
+  mark = breaks_behind (codes "!") refl refl refl;
+  one_slash = breaks_behind (codes "/") refl refl refl;
+  slash_and_space = breaks_behind (codes "/ 1") refl refl refl;
+  slash_and_star = breaks_behind (codes "/* 1 */") refl refl refl;
+  open_string = breaks_behind (34 ∷ codes "ab") refl refl refl;
+  open_in_its_line = breaks_behind (34 ∷ codes "ab" ++ 10 ∷ 34 ∷ []) refl refl refl;
+  lone_quote = breaks_behind (34 ∷ []) refl refl refl;
+  backslash = breaks_behind (34 ∷ codes "a" ++ 92 ∷ 34 ∷ []) refl refl refl;
+  tab = breaks_behind (34 ∷ 9 ∷ 34 ∷ []) refl refl refl;
+  too_long = breaks_behind (34 ∷ replicate 200 97 ++ 98 ∷ 34 ∷ []) refl refl refl;
+}
+
+pub broken_places : example.BrokenPlaces
+unfolding letters_computing told text_front
+broken_places = record {
+  in_the_second_line = broken (codes "def a = 1" ++ 10 ∷ codes "@ " ++ 34 ∷ []) (codes "def a = 1" ++ 10 ∷ []) (codes "@ " ++ 34 ∷ []) _ refl refl refl refl;
+  behind_a_comment = broken (codes "// " ++ 34 ∷ 10 ∷ codes "def a = /") (codes "// " ++ 34 ∷ 10 ∷ codes "def a = ") (codes "/") _ refl refl refl refl;
+}

@@ -1,0 +1,4 @@
+//! Worked reasons: why modules are refused. The functions do nothing.
+#![tactic(auto)]
+
+pub mod text_reason_rows;
