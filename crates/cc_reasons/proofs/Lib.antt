@@ -1,0 +1,3 @@
+pub mod DefinitionOutcomes
+pub mod ExplainedOutcomes
+pub mod OneReason

@@ -1,0 +1,4 @@
+//! Why a module is refused, beside the code and the place, as definitions and laws. The functions do nothing.
+#![tactic(auto)]
+
+pub mod cause_laws;
