@@ -1,3 +1,4 @@
 pub mod DefinitionOutcomes
 pub mod ExplainedOutcomes
 pub mod OneReason
+pub mod RefusedModules

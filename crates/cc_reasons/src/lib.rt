@@ -2,3 +2,4 @@
 #![tactic(auto)]
 
 pub mod cause_laws;
+pub mod refused_laws;
