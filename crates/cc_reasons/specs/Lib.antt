@@ -2,6 +2,8 @@ pub mod CauseLaws
 pub mod Causes
 pub mod DefinitionReasons
 pub mod ExplainedInference
+pub mod Mismatches
 pub mod NamedBinders
+pub mod ReasonTexts
 pub mod RefusedDefinitions
 pub mod RefusedLaws

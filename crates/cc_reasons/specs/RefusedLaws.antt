@@ -6,6 +6,7 @@ use Rattle.cc_base.specs.declared.place.Place.{Place}
 use Rattle.cc_grammar.specs.Syntax.{ModuleSyntax}
 use Rattle.cc_mnf.specs.ElaboratedModules.{CoreModule, elaboration, device_names}
 use Rattle.cc_mnf.specs.ElaboratedModules as elaborated
+use Rattle.cc_mnf.specs.Scopes.{Name}
 use Rattle.cc_reasons.specs.DefinitionReasons.{DefinitionReason, code_of_reason}
 use Rattle.cc_reasons.specs.RefusedDefinitions.{IsOfDefinition}
 use Rattle.cc_verdicts.specs.ModuleVerdicts.{Finding, HasModuleVerdict, IsRefused, AreJudged, first_missing, with_findings}
@@ -16,7 +17,8 @@ use Rattle.cc_verdicts.specs.Readings.{HasReading, IsTree}
 abbrev pub ReasonsOfDefinitionsAreOfRefusals : Type 0
 ReasonsOfDefinitionsAreOfRefusals =
     (devices : List DeviceDecl) (text : List ℕ) (findings : List Finding) (reason : DefinitionReason) (at : Place)
-    → IsOfDefinition devices text findings reason at
+    (names : List Name)
+    → IsOfDefinition devices text findings reason at names
     → HasModuleVerdict devices text findings (IsRefused (code_of_reason reason) at)
 
 -- A module that is refused for one of its definitions has such a reason, with that code at that place.
@@ -27,11 +29,13 @@ RefusedDefinitionsHaveAReason =
     → HasReading text (IsTree tree) → first_missing tree.imports findings ≡ None
     → elaboration (device_names devices) tree ≡ elaborated.IsElaborated core
     → AreJudged (length devices) (with_findings (declared_context devices) findings) core.definitions (IsRefused code at)
-    → (reason : DefinitionReason) × (code ≡ code_of_reason reason) × IsOfDefinition devices text findings reason at
+    → (reason : DefinitionReason) × (names : List Name) × (code ≡ code_of_reason reason)
+    × IsOfDefinition devices text findings reason at names
 
 -- and it has one alone
 abbrev pub ReasonsOfDefinitionsAreUnique : Type 0
 ReasonsOfDefinitionsAreUnique =
     (devices : List DeviceDecl) (text : List ℕ) (findings : List Finding) (one other : DefinitionReason) (at place : Place)
-    → IsOfDefinition devices text findings one at → IsOfDefinition devices text findings other place
-    → (one ≡ other) × (at ≡ place)
+    (names visible : List Name)
+    → IsOfDefinition devices text findings one at names → IsOfDefinition devices text findings other place visible
+    → (one ≡ other) × (at ≡ place) × (names ≡ visible)
