@@ -1,5 +1,5 @@
 -- How the reason of a definition is told, line by line, with the names that its author knows.
-use Rattle.std.specs.Prelude.{◌≡◌, ◌↔◌, ℕ, ◌-◌, ◌≤◌, nat_lt, Bool, true, false, not, List, [], ◌∷◌, ◌++◌, filter, length}
+use Rattle.std.specs.Prelude.{◌≡◌, ℕ, ◌-◌, ◌≤◌, nat_lt, Bool, true, false, List, [], ◌∷◌, ◌++◌, length}
 use Rattle.std.specs.Prelude.{codes, encode_utf8_all, Option, Some, None, IsTrue, slice_index_or, if◌then◌else◌}
 use Rattle.std.specs.Fmt.{decimal}
 use Rattle.std.specs.List.{flat_map}
@@ -103,13 +103,13 @@ IsCompared steps NothingThere = Unit {0}
 IsCompared steps (Unavoidable scene position type) = Unit {0}
 IsCompared steps (TooLarge scene type) = Unit {0}
 
--- this tells of each element whether it is below the set in the context
-abbrev pub TellsBelow : Context → Set → (Elem → Bool) → Type 0
-TellsBelow context right is_below = (e : Elem) → IsTrue (is_below e) ↔ Subcaptures context e right
-
--- the elements that are not below
-abbrev pub beyond : (Elem → Bool) → List Elem → List Elem
-beyond is_below elements = filter (λ e. not (is_below e)) elements
+-- of elements in order, these are the ones that are not below the set in the context
+pub data AreBeyond (context : Context) (right : Set) : List Elem → List Elem → Type 0 where
+  none : AreBeyond context right [] []
+  is_below : {e : Elem} {rest told : List Elem} → Subcaptures context e right → AreBeyond context right rest told
+      → AreBeyond context right (e ∷ rest) told
+  is_beyond : {e : Elem} {rest told : List Elem} → (Subcaptures context e right → ⊥)
+      → AreBeyond context right rest told → AreBeyond context right (e ∷ rest) (e ∷ told)
 
 -- an element that no declared set says more of: the universal capability, or one of the devices, of which there are so many
 abbrev pub is_end : ℕ → Elem → Bool
@@ -124,13 +124,17 @@ declared_members (Some (TermEntry shape declared)) = declared.list
 declared_members (Some (TypeEntry bound)) = []
 declared_members None = []
 
--- where an element that is not below leads on to: what its declared set has that is not below either
-abbrev pub leads_on : ℕ → Context → (Elem → Bool) → Elem → List Elem
-leads_on devices context is_below (Variable (Free position)) =
-    if nat_lt position devices then [] else beyond is_below (declared_members (lookup context position))
-leads_on devices context is_below (Variable (Bound index)) = []
-leads_on devices context is_below Cap = []
-leads_on devices context is_below (Hole number) = []
+-- what the declared set of an element has; of an end it says no more
+abbrev pub members_behind : ℕ → Context → Elem → List Elem
+members_behind devices context (Variable (Free position)) =
+    if nat_lt position devices then [] else declared_members (lookup context position)
+members_behind devices context (Variable (Bound index)) = []
+members_behind devices context Cap = []
+members_behind devices context (Hole number) = []
+
+-- each element leads on to what its declared set has that is not below either
+abbrev pub LeadsOn : ℕ → Context → Set → (Elem → List Elem) → Type 0
+LeadsOn devices context right entry = (e : Elem) → AreBeyond context right (members_behind devices context e) (entry e)
 
 -- The first of the shortest chains from an element to an end: none to any end is shorter, and none of its length comes before
 -- it.
@@ -148,16 +152,16 @@ abbrev pub spaced : List Name → Context → List Elem → List ℕ
 spaced names context elements = flat_map (λ e. codes " " ++ element_there names context e) elements
 
 -- a line for an element that leads on, with what its chain goes through behind it; none for an end
-pub data AreChainLines (devices : ℕ) (names : List Name) (context : Context) (is_below : Elem → Bool) :
+pub data AreChainLines (devices : ℕ) (names : List Name) (context : Context) (entry : Elem → List Elem) :
     List Elem → List (List ℕ) → Type 0 where
-  no_more : AreChainLines devices names context is_below [] []
+  no_more : AreChainLines devices names context entry [] []
   at_end : {e : Elem} {rest : List Elem} {lines : List (List ℕ)} → IsTrue (is_end devices e)
-      → AreChainLines devices names context is_below rest lines
-      → AreChainLines devices names context is_below (e ∷ rest) lines
+      → AreChainLines devices names context entry rest lines
+      → AreChainLines devices names context entry (e ∷ rest) lines
   leading : {e : Elem} {rest : List Elem} {lines : List (List ℕ)} (behind : List Elem) → is_end devices e ≡ false
-      → IsShortestToEnd devices (leads_on devices context is_below) e (e ∷ behind)
-      → AreChainLines devices names context is_below rest lines
-      → AreChainLines devices names context is_below (e ∷ rest)
+      → IsShortestToEnd devices entry e (e ∷ behind)
+      → AreChainLines devices names context entry rest lines
+      → AreChainLines devices names context entry (e ∷ rest)
       ((element_there names context e ++ codes ":" ++ spaced names context behind) ∷ lines)
 
 -- These are the lines of a reason, where the first positions have these names, of which so many are those of devices.
@@ -165,9 +169,10 @@ abbrev pub AreLines : ℕ → List Name → DefinitionReason → List (List ℕ)
 AreLines devices names (OfStep cause) lines =
     (steps : ℕ) × IsCompared steps cause × (lines ≡ cause_lines steps names cause)
 AreLines devices names (NotBelow scene left right) lines =
-    (is_below : Elem → Bool) × (chains : List (List ℕ)) × TellsBelow scene.context right is_below
-    × AreChainLines devices (with_locals names scene.locals) scene.context is_below (beyond is_below left.list) chains
-    × (lines ≡ (codes "captured" ++ spaced (with_locals names scene.locals) scene.context (beyond is_below left.list))
+    (captured : List Elem) × (entry : Elem → List Elem) × (chains : List (List ℕ))
+    × AreBeyond scene.context right left.list captured × LeadsOn devices scene.context right entry
+    × AreChainLines devices (with_locals names scene.locals) scene.context entry captured chains
+    × (lines ≡ (codes "captured" ++ spaced (with_locals names scene.locals) scene.context captured)
     ∷ (codes "allowed " ++ set_there (with_locals names scene.locals) scene.context right) ∷ chains)
 AreLines devices names (WithCap locals set) lines =
     lines ≡ (codes "set " ++ set_text (with_locals names locals) 0 set) ∷ []

@@ -1,0 +1,2 @@
+pub mod ComputedReasons
+pub mod WorkedDefinitions
