@@ -1,0 +1,3 @@
+pub mod ExplainedLogs
+pub mod LocatedLogs
+pub mod Views
