@@ -1,2 +1,3 @@
 pub mod LocatedSteps
 pub mod ExplainedLogs
+pub mod LeafCauses

@@ -1,3 +1,4 @@
 pub mod ExplainedLogs
+pub mod LeafReasons
 pub mod LocatedLogs
 pub mod Views

@@ -8,7 +8,7 @@ use std::alloc::AllocError;
 use std::rc::Rc;
 
 // This checks the lemmas.
-#[tactic(auto, using(crate::proofs::ExplainedLogs::explained_logs))]
+#[tactic(auto, using(crate::proofs::LeafCauses::variable_large))]
 fn nothing() -> bool
     ensures { length (replicate 0 result) ≡ 0 }
 {
