@@ -30,16 +30,16 @@ use Rattle.cc_reasons.specs.Causes.{AFunction, ATypeFunction, ABox, AnExit, ABas
 use Rattle.cc_reasons.specs.Causes.{Found, finds, outcome_of, asked_before, ◌>>=◌, because, unrefused}
 use Rattle.cc_reasons.specs.ExplainedInference.{BinderNames, typed, explained_below, explained_against, explained_operand}
 use Rattle.cc_reasons.specs.ExplainedInference.{explained_argument, explained_size, explained}
-use Rattle.cc_reasoning.specs.LeafReasons.{IsCauseIn, IsMatch, opened_under}
+use Rattle.cc_reasoning.specs.LeafReasons.{IsCauseIn, opened_under, IsMisplaced}
 
 -- what is true of a cause, where steps are refused, and of their value, where they are not
-abbrev Comes : {A : Type 0} → (Cause → Type 0) → (A → Type 0) → Explained A → Type 0
+abbrev pub Comes : {A : Type 0} → (Cause → Type 0) → (A → Type 0) → Explained A → Type 0
 Comes P Q NoAnswer = Unit {0}
 Comes P Q (Refused cause at) = P cause
 Comes P Q (Found value asked) = Q value
 
 -- nothing is said
-abbrev Any : {A : Type 0} → A → Type 0
+abbrev pub Any : {A : Type 0} → A → Type 0
 Any value = Unit {0}
 
 before_comes : {A : Type 0} (P : Cause → Type 0) (Q : A → Type 0) (asked : List Located) (o : Explained A)
@@ -48,7 +48,7 @@ before_comes P Q asked NoAnswer h = tt
 before_comes P Q asked (Refused cause at) h = h
 before_comes P Q asked (Found value more) h = h
 
-then_comes : {A B : Type 0} (P : Cause → Type 0) (Q : A → Type 0) (R : B → Type 0) (o : Explained A)
+pub then_comes : {A B : Type 0} (P : Cause → Type 0) (Q : A → Type 0) (R : B → Type 0) (o : Explained A)
     (f : A → Explained B)
     → Comes P Q o → ((v : A) → Q v → Comes P R (f v)) → Comes P R (◌>>=◌ o f)
 unfolding ◌>>=◌
@@ -56,7 +56,7 @@ then_comes P Q R NoAnswer f h k = tt
 then_comes P Q R (Refused cause at) f h k = h
 then_comes P Q R (Found value asked) f h k = before_comes P R asked (f value) (k value h)
 
-because_comes : {A : Type 0} (P : Cause → Type 0) (cause : Cause) (locals : List Local) (o : Outcome A) → P cause
+pub because_comes : {A : Type 0} (P : Cause → Type 0) (cause : Cause) (locals : List Local) (o : Outcome A) → P cause
     → Comes P Any (because cause locals o)
 because_comes P cause locals plain.NoAnswer h = tt
 because_comes P cause locals (plain.Refused code at) h = h
@@ -122,13 +122,6 @@ pub exit_anywhere : (s : Shape) (at place : Place) (head : Shape) → exit_head 
 exit_anywhere (ExitShape t) at place head is = is
 exit_anywhere _ at place head is = absurd (cc)
 
--- the argument is there where none is taken, or is not where one is
-abbrev pub IsMisplaced : Option Base → Option Var → Type 0
-IsMisplaced (Some base) (Some variable) = ⊥
-IsMisplaced (Some base) None = Unit {0}
-IsMisplaced None (Some variable) = Unit {0}
-IsMisplaced None None = Unit {0}
-
 -- what is compared where shapes match
 compared_found : (at : Place) (c : Comparison) (demands : List Demand) → c ≡ Matches demands
     → (P : Cause → Type 0) (cause : Cause) (locals : List Local) → Comes P Any (because cause locals (compared_at at c))
@@ -155,37 +148,37 @@ module _ (scene : Scene) where
   pub variable_large : (code : Code) (v : Var) (s : CapturingType)
       → variable_type scene.context (in_context scene.context v) ≡ plain.finds s
       → IsCauseIn code scene (VariableTerm v) (TooLarge scene s)
-  variable_large code v s e root places names at refused =
+  variable_large code v s e = record { told = λ root places names at refused.
       let P : Cause → Type 0 = IsOnly code (TooLarge scene s) in
       told code (TooLarge scene s) _ at
       (size_comes P (λ r. r.type ≡ s) places scene _
       (then_comes P (λ t. t ≡ s) (λ r. r.type ≡ s) (typed scene v) _ (typed_comes P v s e) (λ t is. is))
-      (λ r is c. ap (TooLarge scene) is)) refused
+      (λ r is c. ap (TooLarge scene) is)) refused }
 
   pub literal_large : (code : Code) (l : Literal)
       → IsCauseIn code scene (LiteralTerm l) (TooLarge scene (base_type (base_of l)))
-  literal_large code l root places names at refused =
+  literal_large code l = record { told = λ root places names at refused.
       let type : CapturingType = base_type (base_of l) in
       told code (TooLarge scene type) _ at
       (size_comes (IsOnly code (TooLarge scene type)) (λ r. r.type ≡ type) places scene (finds (result type (LiteralTerm l)))
-      refl (λ r is c. ap (TooLarge scene) is)) refused
+      refl (λ r is c. ap (TooLarge scene) is)) refused }
 
   pub box_large : (code : Code) (v : Var) (s : CapturingType)
       → variable_type scene.context (in_context scene.context v) ≡ plain.finds s
       → IsCauseIn code scene (BoxTerm v) (TooLarge scene (capturing (BoxShape s.shape s.set) empty))
-  box_large code v s e root places names at refused =
+  box_large code v s e = record { told = λ root places names at refused.
       let type : CapturingType → CapturingType = λ t. capturing (BoxShape t.shape t.set) empty in
       let P : Cause → Type 0 = IsOnly code (TooLarge scene (type s)) in
       told code (TooLarge scene (type s)) _ at
       (size_comes P (λ r. r.type ≡ type s) places scene _
       (then_comes P (λ t. t ≡ s) (λ r. r.type ≡ type s) (typed scene v) _ (typed_comes P v s e) (λ t is. ap type is))
-      (λ r is c. ap (TooLarge scene) is)) refused
+      (λ r is c. ap (TooLarge scene) is)) refused }
 
   -- applications
   module _ (f a : Var) (s : CapturingType)
       (found : variable_type scene.context (in_context scene.context f) ≡ plain.finds s) where
     pub application_head : IsCauseIn E13 scene (Application f a) (WrongHead scene (exposed scene.context s.shape) AFunction)
-    application_head root places names at refused =
+    application_head = record { told = λ root places names at refused.
         let cause : CapturingType → Cause = λ t. WrongHead scene (exposed scene.context t.shape) AFunction in
         let P : Cause → Type 0 = IsOnly E13 (cause s) in
         told E13 (cause s) _ at
@@ -196,14 +189,14 @@ module _ (scene : Scene) where
         (λ given g. then_comes P Any Any _ _
         (because_comes P (WrongType scene given head.takes) scene.locals _
         (other_code E13 (cause s) (WrongType scene given head.takes) mismatch_is_no_head)) (λ u q. tt)))))
-        (λ r q. other_code E13 (cause s) (TooLarge scene r.type) size_is_no_head)) refused
+        (λ r q. other_code E13 (cause s) (TooLarge scene r.type) size_is_no_head)) refused }
 
     module _ (head : Function)
         (known : (at : Place) → function_head at (exposed scene.context s.shape) ≡ plain.finds head) where
       pub application_mismatch : (t : CapturingType)
           → variable_type scene.context (in_context scene.context a) ≡ plain.finds t
           → IsCauseIn E14 scene (Application f a) (WrongType scene t head.takes)
-      application_mismatch t given root places names at refused =
+      application_mismatch t given = record { told = λ root places names at refused.
           let cause : Cause = WrongType scene t head.takes in
           let P : Cause → Type 0 = IsOnly E14 cause in
           let heads : CapturingType → Outcome Function =
@@ -218,12 +211,12 @@ module _ (scene : Scene) where
           (because_comes P (WrongType scene x h.takes) scene.locals _
           (λ c. ap (λ y. WrongType scene y h.takes) here ∙ ap (λ (y : Function). WrongType scene t y.takes) same))
           (λ u q. tt)))))
-          (λ r q. other_code E14 cause (TooLarge scene r.type) size_is_no_mismatch)) refused
+          (λ r q. other_code E14 cause (TooLarge scene r.type) size_is_no_mismatch)) refused }
 
       pub application_large : (code : Code) → (E13 ≡ code → ⊥) → (E14 ≡ code → ⊥)
           → IsCauseIn code scene (Application f a)
           (TooLarge scene (replaced_type (in_context scene.context a) head.gives))
-      application_large code no_head no_mismatch root places names at refused =
+      application_large code no_head no_mismatch = record { told = λ root places names at refused.
           let type : Function → CapturingType = λ h. replaced_type (in_context scene.context a) h.gives in
           let cause : Cause = TooLarge scene (type head) in
           let P : Cause → Type 0 = IsOnly code cause in
@@ -240,7 +233,7 @@ module _ (scene : Scene) where
           (because_comes P (WrongType scene x h.takes) scene.locals _
           (other_code code cause (WrongType scene x h.takes) no_mismatch))
           (λ u q. ap type same)))))
-          (λ r is c. ap (TooLarge scene) is)) refused
+          (λ r is c. ap (TooLarge scene) is)) refused }
 
   -- operands
   operand_comes : (P : Cause → Type 0) (at : Place) (v : Var) (s : CapturingType) (shape : Shape)
@@ -281,7 +274,7 @@ module _ (scene : Scene) where
       (found : variable_type scene.context (in_context scene.context f) ≡ plain.finds s) where
     pub type_application_head :
         IsCauseIn E13 scene (TypeApplication f argument) (WrongHead scene (exposed scene.context s.shape) ATypeFunction)
-    type_application_head root places names at refused =
+    type_application_head = record { told = λ root places names at refused.
         let cause : CapturingType → Cause = λ t. WrongHead scene (exposed scene.context t.shape) ATypeFunction in
         let P : Cause → Type 0 = IsOnly E13 (cause s) in
         told E13 (cause s) _ at
@@ -292,14 +285,14 @@ module _ (scene : Scene) where
         (because_comes P (WrongShape scene (shape_in scene.context argument) head.bound) scene.locals _
         (other_code E13 (cause s) (WrongShape scene (shape_in scene.context argument) head.bound) mismatch_is_no_head))
         (λ u q. tt))))
-        (λ r q. other_code E13 (cause s) (TooLarge scene r.type) size_is_no_head)) refused
+        (λ r q. other_code E13 (cause s) (TooLarge scene r.type) size_is_no_head)) refused }
 
     module _ (head : TypeFunction)
         (known : (at : Place) → type_function_head at (exposed scene.context s.shape) ≡ plain.finds head) where
       pub type_application_mismatch :
           IsCauseIn E14 scene (TypeApplication f argument)
           (WrongShape scene (shape_in scene.context argument) head.bound)
-      type_application_mismatch root places names at refused =
+      type_application_mismatch = record { told = λ root places names at refused.
           let cause : TypeFunction → Cause = λ h. WrongShape scene (shape_in scene.context argument) h.bound in
           let P : Cause → Type 0 = IsOnly E14 (cause head) in
           let heads : CapturingType → Outcome TypeFunction =
@@ -311,12 +304,12 @@ module _ (scene : Scene) where
           (known_comes P _ scene.locals (heads applied) head (ap heads is ∙ known (spots places).first))
           (λ h same. then_comes P Any Any _ _ (because_comes P (cause h) scene.locals _ (λ c. ap cause same))
           (λ u q. tt))))
-          (λ r q. other_code E14 (cause head) (TooLarge scene r.type) size_is_no_mismatch)) refused
+          (λ r q. other_code E14 (cause head) (TooLarge scene r.type) size_is_no_mismatch)) refused }
 
       pub type_application_large : (code : Code) → (E13 ≡ code → ⊥) → (E14 ≡ code → ⊥)
           → IsCauseIn code scene (TypeApplication f argument)
           (TooLarge scene (replaced_type_by_shape (shape_in scene.context argument) head.gives))
-      type_application_large code no_head no_mismatch root places names at refused =
+      type_application_large code no_head no_mismatch = record { told = λ root places names at refused.
           let type : TypeFunction → CapturingType =
               λ h. replaced_type_by_shape (shape_in scene.context argument) h.gives in
           let cause : Cause = TooLarge scene (type head) in
@@ -332,7 +325,7 @@ module _ (scene : Scene) where
           (because_comes P (WrongShape scene (shape_in scene.context argument) h.bound) scene.locals _
           (other_code code cause (WrongShape scene (shape_in scene.context argument) h.bound) no_mismatch))
           (λ u q. ap type same))))
-          (λ r is c. ap (TooLarge scene) is)) refused
+          (λ r is c. ap (TooLarge scene) is)) refused }
 
   -- boxes that are opened
   opening_comes : (P : Cause → Type 0) (at : Place) (content : Set) (set : Option Set)
@@ -344,7 +337,7 @@ module _ (scene : Scene) where
   module _ (set : Option Set) (b : Var) (s : CapturingType)
       (found : variable_type scene.context (in_context scene.context b) ≡ plain.finds s) where
     pub unboxing_head : IsCauseIn E13 scene (Unboxing set b) (WrongHead scene (exposed scene.context s.shape) ABox)
-    unboxing_head root places names at refused =
+    unboxing_head = record { told = λ root places names at refused.
         let cause : CapturingType → Cause = λ t. WrongHead scene (exposed scene.context t.shape) ABox in
         let P : Cause → Type 0 = IsOnly E13 (cause s) in
         told E13 (cause s) _ at
@@ -354,14 +347,14 @@ module _ (scene : Scene) where
         (λ content h. then_comes P _ Any _ _ (opening_comes P (spots places).first content.set set)
         (λ inside g. then_comes P Any Any (unrefused scene.locals (capless (spots places).second inside)) _ tt
         (λ u q. tt)))))
-        (λ r q. other_code E13 (cause s) (TooLarge scene r.type) size_is_no_head)) refused
+        (λ r q. other_code E13 (cause s) (TooLarge scene r.type) size_is_no_head)) refused }
 
     pub unboxing_large : (content : CapturingType)
         → ((at : Place) → box_head at (exposed scene.context s.shape) ≡ plain.finds content)
         → (code : Code) → (E13 ≡ code → ⊥)
         → IsCauseIn code scene (Unboxing set b)
         (TooLarge scene (capturing content.shape (opened_under scene.context content.set set)))
-    unboxing_large content known code no_head root places names at refused =
+    unboxing_large content known code no_head = record { told = λ root places names at refused.
         let type : CapturingType → CapturingType =
             λ c. capturing c.shape (opened_under scene.context c.set set) in
         let cause : Cause = TooLarge scene (type content) in
@@ -377,7 +370,7 @@ module _ (scene : Scene) where
         (λ inside g. then_comes P Any (λ r. r.type ≡ type content)
         (unrefused scene.locals (capless (spots places).second inside)) _ tt
         (λ u q. ap (capturing h.shape) g ∙ ap type same)))))
-        (λ r is c. ap (TooLarge scene) is)) refused
+        (λ r is c. ap (TooLarge scene) is)) refused }
 
   -- two operands, and a type that is always found
   module _ (v w : Var) (one two : Shape) (whole : Result) where
@@ -430,32 +423,28 @@ module _ (scene : Scene) where
         (λ r is c. ap (λ (x : Result). TooLarge scene x.type) is)) refused
 
   -- operators and repetitions
-  abbrev pub IsLeftMismatch : Var → Shape → Type 0
-  IsLeftMismatch v one = (s : CapturingType) × (variable_type scene.context (in_context scene.context v) ≡ plain.finds s)
-      × (comparing scene.context s.shape one ≡ Mismatch)
-
   pub primitive_left : (operator : Operator) (v w : Var) (s : CapturingType)
       → variable_type scene.context (in_context scene.context v) ≡ plain.finds s
       → comparing scene.context s.shape (BaseShape bases.Int) ≡ Mismatch
       → IsCauseIn E14 scene (Primitive operator v w) (WrongShape scene s.shape (BaseShape bases.Int))
-  primitive_left operator v w s found apart root places names at refused =
+  primitive_left operator v w s found apart = record { told = λ root places names at refused.
       both_left v w (BaseShape bases.Int) (BaseShape bases.Int)
-      (result (base_type (base_given operator)) (Primitive operator v w)) places at s found apart refused
+      (result (base_type (base_given operator)) (Primitive operator v w)) places at s found apart refused }
 
   pub primitive_right : (operator : Operator) (v w : Var) (s t : CapturingType) (demands : List Demand)
       → variable_type scene.context (in_context scene.context v) ≡ plain.finds s
       → comparing scene.context s.shape (BaseShape bases.Int) ≡ Matches demands
       → variable_type scene.context (in_context scene.context w) ≡ plain.finds t
       → IsCauseIn E14 scene (Primitive operator v w) (WrongShape scene t.shape (BaseShape bases.Int))
-  primitive_right operator v w s t demands found match other root places names at refused =
+  primitive_right operator v w s t demands found match other = record { told = λ root places names at refused.
       both_right v w (BaseShape bases.Int) (BaseShape bases.Int)
-      (result (base_type (base_given operator)) (Primitive operator v w)) places at s t demands found match other refused
+      (result (base_type (base_given operator)) (Primitive operator v w)) places at s t demands found match other refused }
 
   pub primitive_large : (operator : Operator) (v w : Var) (code : Code) → (E14 ≡ code → ⊥)
       → IsCauseIn code scene (Primitive operator v w) (TooLarge scene (base_type (base_given operator)))
-  primitive_large operator v w code no_mismatch root places names at refused =
+  primitive_large operator v w code no_mismatch = record { told = λ root places names at refused.
       both_large v w (BaseShape bases.Int) (BaseShape bases.Int)
-      (result (base_type (base_given operator)) (Primitive operator v w)) places at code no_mismatch refused
+      (result (base_type (base_given operator)) (Primitive operator v w)) places at code no_mismatch refused }
 
   abbrev pub repeated : Shape
   repeated = FunctionShape (BaseShape bases.Int) empty (BaseShape bases.Unit) empty
@@ -464,24 +453,24 @@ module _ (scene : Scene) where
       → variable_type scene.context (in_context scene.context v) ≡ plain.finds s
       → comparing scene.context s.shape (BaseShape bases.Int) ≡ Mismatch
       → IsCauseIn E14 scene (Repetition v w) (WrongShape scene s.shape (BaseShape bases.Int))
-  repetition_left v w s found apart root places names at refused =
+  repetition_left v w s found apart = record { told = λ root places names at refused.
       both_left v w (BaseShape bases.Int) repeated (result (base_type bases.Unit) (Repetition v w)) places at s found
-      apart refused
+      apart refused }
 
   pub repetition_right : (v w : Var) (s t : CapturingType) (demands : List Demand)
       → variable_type scene.context (in_context scene.context v) ≡ plain.finds s
       → comparing scene.context s.shape (BaseShape bases.Int) ≡ Matches demands
       → variable_type scene.context (in_context scene.context w) ≡ plain.finds t
       → IsCauseIn E14 scene (Repetition v w) (WrongShape scene t.shape repeated)
-  repetition_right v w s t demands found match other root places names at refused =
+  repetition_right v w s t demands found match other = record { told = λ root places names at refused.
       both_right v w (BaseShape bases.Int) repeated (result (base_type bases.Unit) (Repetition v w)) places at s t
-      demands found match other refused
+      demands found match other refused }
 
   pub repetition_large : (v w : Var) (code : Code) → (E14 ≡ code → ⊥)
       → IsCauseIn code scene (Repetition v w) (TooLarge scene (base_type bases.Unit))
-  repetition_large v w code no_mismatch root places names at refused =
+  repetition_large v w code no_mismatch = record { told = λ root places names at refused.
       both_large v w (BaseShape bases.Int) repeated (result (base_type bases.Unit) (Repetition v w)) places at code
-      no_mismatch refused
+      no_mismatch refused }
 
   -- operations of devices
   misplaced_comes : (P : Cause → Type 0) (at : Place) (taken : Option Base) (argument : Option Var)
@@ -522,7 +511,7 @@ module _ (scene : Scene) where
     pub operation_head :
         IsCauseIn E13 scene (Operation operation receiver argument)
         (WrongHead scene (exposed scene.context s.shape) (ABase (base_operated operation)))
-    operation_head root places names at refused =
+    operation_head = record { told = λ root places names at refused.
         let cause : Cause = WrongHead scene (exposed scene.context s.shape) (ABase (base_operated operation)) in
         let P : Cause → Type 0 = IsOnly E13 cause in
         told E13 cause _ at
@@ -530,23 +519,23 @@ module _ (scene : Scene) where
         (any_argument P (spots places).second (base_taken operation) argument
         (other_code E13 cause NothingThere mismatch_is_no_head)
         (λ x y. other_code E13 cause (WrongShape scene x y) mismatch_is_no_head)) tt
-        (λ r q. other_code E13 cause (TooLarge scene r.type) size_is_no_head) root names) refused
+        (λ r q. other_code E13 cause (TooLarge scene r.type) size_is_no_head) root names) refused }
 
     pub operation_misplaced : IsMisplaced (base_taken operation) argument
         → IsCauseIn E14 scene (Operation operation receiver argument) NothingThere
-    operation_misplaced misplaced root places names at refused =
+    operation_misplaced misplaced = record { told = λ root places names at refused.
         let P : Cause → Type 0 = IsOnly E14 NothingThere in
         let head : Cause = WrongHead scene (exposed scene.context s.shape) (ABase (base_operated operation)) in
         told E14 NothingThere _ at
         (operation_steps P Any places (other_code E14 NothingThere head head_is_no_mismatch)
         (misplaced_comes P (spots places).second (base_taken operation) argument misplaced (λ c. refl)) tt
-        (λ r q. other_code E14 NothingThere (TooLarge scene r.type) size_is_no_mismatch) root names) refused
+        (λ r q. other_code E14 NothingThere (TooLarge scene r.type) size_is_no_mismatch) root names) refused }
 
     pub operation_mismatch : (base : Base) (v : Var) (t : CapturingType)
         → base_taken operation ≡ Some base → argument ≡ Some v
         → variable_type scene.context (in_context scene.context v) ≡ plain.finds t
         → IsCauseIn E14 scene (Operation operation receiver argument) (WrongShape scene t.shape (BaseShape base))
-    operation_mismatch base v t taken there given root places names at refused =
+    operation_mismatch base v t taken there given = record { told = λ root places names at refused.
         let cause : Cause = WrongShape scene t.shape (BaseShape base) in
         let P : Cause → Type 0 = IsOnly E14 cause in
         let head : Cause = WrongHead scene (exposed scene.context s.shape) (ABase (base_operated operation)) in
@@ -557,12 +546,12 @@ module _ (scene : Scene) where
         (subst (λ x. Comes P Any (explained_argument ways (spots places).second scene (base_taken operation) x))
         (sym there)
         (subst (λ x. Comes P Any (explained_argument ways (spots places).second scene x (Some v))) (sym taken) step)) tt
-        (λ r q. other_code E14 cause (TooLarge scene r.type) size_is_no_mismatch) root names) refused
+        (λ r q. other_code E14 cause (TooLarge scene r.type) size_is_no_mismatch) root names) refused }
 
     pub operation_large : (code : Code) → (E13 ≡ code → ⊥) → (E14 ≡ code → ⊥)
         → IsCauseIn code scene (Operation operation receiver argument)
         (TooLarge scene (base_type (base_answered operation)))
-    operation_large code no_head no_mismatch root places names at refused =
+    operation_large code no_head no_mismatch = record { told = λ root places names at refused.
         let cause : Cause = TooLarge scene (base_type (base_answered operation)) in
         let P : Cause → Type 0 = IsOnly code cause in
         let head : Cause = WrongHead scene (exposed scene.context s.shape) (ABase (base_operated operation)) in
@@ -572,13 +561,13 @@ module _ (scene : Scene) where
         (any_argument P (spots places).second (base_taken operation) argument
         (other_code code cause NothingThere no_mismatch)
         (λ x y. other_code code cause (WrongShape scene x y) no_mismatch)) refl
-        (λ r is c. ap (TooLarge scene) is) root names) refused
+        (λ r is c. ap (TooLarge scene) is) root names) refused }
 
   -- exits
   module _ (gives : Shape) (c : Set) (exit value : Var) (s : CapturingType)
       (found : variable_type scene.context (in_context scene.context exit) ≡ plain.finds s) where
     pub leave_head : IsCauseIn E13 scene (Leave gives c exit value) (WrongHead scene (exposed scene.context s.shape) AnExit)
-    leave_head root places names at refused =
+    leave_head = record { told = λ root places names at refused.
         let cause : CapturingType → Cause = λ t. WrongHead scene (exposed scene.context t.shape) AnExit in
         let P : Cause → Type 0 = IsOnly E13 (cause s) in
         told E13 (cause s) _ at
@@ -589,13 +578,13 @@ module _ (scene : Scene) where
         (λ given g. then_comes P Any Any _ _
         (because_comes P (WrongType scene given (capturing takes empty)) scene.locals _
         (other_code E13 (cause s) (WrongType scene given (capturing takes empty)) mismatch_is_no_head)) (λ u q. tt)))))
-        (λ r q. other_code E13 (cause s) (TooLarge scene r.type) size_is_no_head)) refused
+        (λ r q. other_code E13 (cause s) (TooLarge scene r.type) size_is_no_head)) refused }
 
     pub leave_mismatch : (takes : Shape) (t : CapturingType)
         → ((at : Place) → exit_head at (exposed scene.context s.shape) ≡ plain.finds takes)
         → variable_type scene.context (in_context scene.context value) ≡ plain.finds t
         → IsCauseIn E14 scene (Leave gives c exit value) (WrongType scene t (capturing takes empty))
-    leave_mismatch takes t known given root places names at refused =
+    leave_mismatch takes t known given = record { told = λ root places names at refused.
         let cause : Cause = WrongType scene t (capturing takes empty) in
         let P : Cause → Type 0 = IsOnly E14 cause in
         let heads : CapturingType → Outcome Shape =
@@ -611,11 +600,11 @@ module _ (scene : Scene) where
         (λ e. ap (λ y. WrongType scene y (capturing h empty)) here
         ∙ ap (λ y. WrongType scene t (capturing y empty)) same))
         (λ u q. tt)))))
-        (λ r q. other_code E14 cause (TooLarge scene r.type) size_is_no_mismatch)) refused
+        (λ r q. other_code E14 cause (TooLarge scene r.type) size_is_no_mismatch)) refused }
 
     pub leave_large : (code : Code) → (E13 ≡ code → ⊥) → (E14 ≡ code → ⊥)
         → IsCauseIn code scene (Leave gives c exit value) (TooLarge scene (type_in scene.context (capturing gives c)))
-    leave_large code no_head no_mismatch root places names at refused =
+    leave_large code no_head no_mismatch = record { told = λ root places names at refused.
         let type : CapturingType = type_in scene.context (capturing gives c) in
         let cause : Cause = TooLarge scene type in
         let P : Cause → Type 0 = IsOnly code cause in
@@ -631,4 +620,4 @@ module _ (scene : Scene) where
         (because_comes P (WrongType scene x (capturing h empty)) scene.locals _
         (other_code code cause (WrongType scene x (capturing h empty)) no_mismatch))
         (λ u q. refl)))))
-        (λ r is e. ap (TooLarge scene) is)) refused
+        (λ r is e. ap (TooLarge scene) is)) refused }

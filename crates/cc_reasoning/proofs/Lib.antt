@@ -1,3 +1,6 @@
 pub mod LocatedSteps
 pub mod ExplainedLogs
 pub mod LeafCauses
+pub mod MatchedOperands
+pub mod LeafAnswers
+pub mod ExplainedSteps

@@ -14,7 +14,7 @@ use Rattle.cc_core.specs.Places.{Spots, Places, spots, first_part, second_part}
 use Rattle.cc_checking.specs.Inference.{Result, result, shape_in, type_in, Named, tested, function_found}
 use Rattle.cc_checking.specs.Inference.{type_function_found, choice_found, exit_entry}
 use Rattle.cc_type.specs.Rows.{ways}
-use Rattle.cc_reasons.specs.Causes.{Located, Scene, under, NothingThere, TooLarge, Explained, NoAnswer, Refused, finds, because}
+use Rattle.cc_reasons.specs.Causes.{Located, Scene, under, Cause, WrongType, WrongShape, NothingThere, TooLarge, Explained, NoAnswer, Refused, finds, because}
 use Rattle.cc_reasons.specs.ExplainedInference.{BinderNames, first_names, second_names, bound_at, explained_below}
 use Rattle.cc_reasons.specs.ExplainedInference.{explained_against, explained_operand, explained_note, explained_leaving}
 use Rattle.cc_reasons.specs.ExplainedInference.{explained}
@@ -37,6 +37,12 @@ abbrev pub branch : Place → Scene → Note → CapturingType → Explained (Un
 branch at scene Absent type = NoAnswer
 branch at scene (Written shape set) type = explained_below ways at scene type (type_in scene.context (capturing shape set))
 branch at scene (Own shape) type = explained_against ways at scene type.shape (shape_in scene.context shape)
+
+-- why a type does not match what is written for it
+abbrev pub note_cause : Scene → Note → CapturingType → Cause
+note_cause scene Absent type = NothingThere
+note_cause scene (Written shape set) type = WrongType scene type (type_in scene.context (capturing shape set))
+note_cause scene (Own shape) type = WrongShape scene type.shape (shape_in scene.context shape)
 
 -- the first steps of a choice
 abbrev pub test : Spots → Scene → Note → Var → Explained (Unit {0})

@@ -7,14 +7,6 @@ use crate::reason::Locals;
 use std::alloc::AllocError;
 use std::rc::Rc;
 
-// This checks the lemmas.
-#[tactic(auto, using(crate::proofs::LeafCauses::variable_large))]
-fn nothing() -> bool
-    ensures { length (replicate 0 result) ≡ 0 }
-{
-    true
-}
-
 /// Puts these local variables behind the others, until there are so many.
 pub(crate) fn fill(
     known: &mut Vec<Rc<Locals>>,
