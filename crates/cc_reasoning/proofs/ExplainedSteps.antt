@@ -1,9 +1,10 @@
 -- Each step of explained inference by the step of inference: what it finds is what that finds, and where that is refused
 -- the cause is known.
-use Rattle.std.proofs.Common.{◌≡◌, ℕ, suc, ◌+◌, ◌-◌, ◌≤◌, Bool, true, false, cond, List, [], ◌∷◌, ◌++◌, map, length}
+use Rattle.std.proofs.Common.{◌≡◌, ℕ, zero, suc, ◌+◌, ◌-◌, ◌≤◌, Bool, true, false, cond, List, [], ◌∷◌, ◌++◌, map, length}
 use Rattle.std.proofs.Common.{replicate, Option, Some, None, refl, sym, ap, subst, ◌∙◌, arith, length-append}
 use Rattle.std.proofs.lemmas.List.{length-map}
 use Rattle.cc_base.specs.declared.code.Code.{Code}
+use Rattle.cc_base.specs.declared.code.Code.TheVariants.{E14}
 use Rattle.cc_base.specs.declared.literal.Base.{Base}
 use Rattle.cc_base.specs.declared.place.Place.{Place}
 use Rattle.cc_capture.specs.declared.var.Var.{Var}
@@ -12,21 +13,22 @@ use Rattle.cc_core.specs.Shapes.{Shape, BaseShape, CapturingType, capturing}
 use Rattle.cc_core.specs.Terms.{Note, Absent, Written, Own, Term, VariableTerm, LiteralTerm, FunctionTerm}
 use Rattle.cc_core.specs.Terms.{TypeFunctionTerm, BoxTerm, Application, TypeApplication, Unboxing, Let, Primitive}
 use Rattle.cc_core.specs.Terms.{Conditional, Repetition, Operation, Boundary, Leave}
-use Rattle.cc_core.specs.Places.{Places}
+use Rattle.cc_core.specs.Places.{Places, spots}
+use Rattle.cc_checking.specs.Comparison.{Comparison, Unfinished, Mismatch, Matches}
 use Rattle.cc_checking.specs.Outcomes as plain
 use Rattle.cc_checking.specs.Outcomes.{Outcome, Placed}
-use Rattle.cc_checking.specs.Inference.{Result}
+use Rattle.cc_checking.specs.Inference.{Result, against, compared_at, capless}
 use Rattle.cc_subty.specs.declared.demands.Demand.{Demand as DeclaredDemand}
 use Rattle.cc_subty.specs.Demands.{demand_of, asked_of}
 use Rattle.cc_known.specs.Keeping as kept
 use Rattle.cc_known.specs.Keeping.{is_needless}
 use Rattle.cc_known.specs.Logs as logs
-use Rattle.cc_type.specs.Rows.{ways}
+use Rattle.cc_type.specs.Rows.{comparing, ways, branch_log}
 use Rattle.cc_reasons.specs.Causes.{Local, Scene, Cause, code_of, WrongType, WrongShape, NothingThere, Explained, NoAnswer}
 use Rattle.cc_reasons.specs.Causes.{Refused, Found, finds, outcome_of, ◌>>=◌, because}
 use Rattle.cc_reasons.specs.ExplainedInference.{BinderNames, typed, explained_below, explained_against, explained_operand}
 use Rattle.cc_reasons.specs.ExplainedInference.{explained_argument, explained_note, explained_size, explained}
-use Rattle.cc_reasons.proofs.ExplainedOutcomes.{explained_is_inference}
+use Rattle.cc_reasons.proofs.ExplainedOutcomes.{below_is, because_is, IsRefusedBy}
 use Rattle.cc_reasoning.specs.LocatedLogs.{Got, Stopped, after, beside}
 use Rattle.cc_reasoning.specs.ExplainedLogs.{branch, test, note_cause}
 use Rattle.cc_reasoning.specs.LeafReasons.{IsCauseIn, IsLeaf}
@@ -171,7 +173,8 @@ leaf_at root scene (Unboxing o v) places names leaf =
     size_at places scene _ (then_at scene.locals _ _ (typed_at scene v)
     (λ a. then_at scene.locals _ _ (because_at _ scene.locals _)
     (λ c. then_at scene.locals _ _ (because_at NothingThere scene.locals _)
-    (λ u. then_at scene.locals _ _ (because_at NothingThere scene.locals _) (λ u. refl)))))
+    (λ u. then_at scene.locals _ _
+    (because_at {A = Unit {0}} NothingThere scene.locals (capless (spots places).second u)) (λ x. refl)))))
 leaf_at root scene (Let n t u) places names leaf = absurd leaf
 leaf_at root scene (Primitive o v w) places names leaf =
     size_at places scene _ (then_at scene.locals _ _ (operand_at _ scene v _)
@@ -230,3 +233,20 @@ pub below_told : (at place : Place) (code : Code) (scene : Scene) (left right : 
 below_told at place code scene left right =
     told_by code (WrongType scene left right) (explained_below ways at scene left right) place
     (because_comes (λ x. x ≡ WrongType scene left right) (WrongType scene left right) scene.locals _ refl)
+
+by_compared : (at : Place) (c : Comparison) → IsRefusedBy E14 (compared_at at c)
+by_compared at Unfinished = tt
+by_compared at Mismatch = refl
+by_compared at (Matches demands) = tt
+
+against_is : (at : Place) (scene : Scene) (left right : Shape)
+    → outcome_of (explained_against ways at scene left right) ≡ against comparing at scene.context left right
+against_is at scene left right =
+    because_is (WrongShape scene left right) scene.locals _ (by_compared at (comparing scene.context left right))
+
+-- the branch of a choice, as inference over a log has it
+pub branch_logs : (at : Place) (scene : Scene) (n : Note) (t : CapturingType) (log : List Placed)
+    → branch_log at scene.context n t log ≡ logs.after log (outcome_of (branch at scene n t))
+branch_logs at scene Absent t log = refl
+branch_logs at scene (Written s c) t log = ap (logs.after log) (sym (below_is ways at scene t _))
+branch_logs at scene (Own s) t log = ap (logs.after log) (sym (against_is at scene t.shape _))

@@ -5,5 +5,6 @@ mod bases;
 mod causes;
 mod heads;
 mod leaf_causes;
+mod steps;
 pub mod located;
 pub mod reason;

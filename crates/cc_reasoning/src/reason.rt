@@ -8,7 +8,7 @@ use cc_base::literal::Base;
 use cc_base::name::Name;
 use cc_base::place::Place;
 use cc_core::{Ctx, Shape, Ty};
-use std::alloc::{AllocError, Global};
+use std::alloc::{AllocError, AllocFailed, Global};
 use std::rc::Rc;
 
 /// A local variable: the name of its binder, if the text has one, and the place of that.
@@ -112,6 +112,17 @@ impl From<AllocError> for Halt {
     ghost from_gives = { λ _ halt. halt ≡ NoMemory };
 
     fn from(_error: AllocError) -> Halt {
+        Halt::NoMemory
+    }
+}
+
+impl<T: Drop> From<AllocFailed<T>> for Halt {
+    ghost use Rattle.std.specs.Prelude.{◌≡◌};
+    ghost use Rattle.cc_reasoning.specs.declared.reason.Halt.TheVariants.{NoMemory};
+
+    ghost from_gives = { λ _ halt. halt ≡ NoMemory };
+
+    fn from(_error: AllocFailed<T>) -> Halt {
         Halt::NoMemory
     }
 }
