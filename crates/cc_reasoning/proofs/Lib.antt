@@ -4,3 +4,4 @@ pub mod LeafCauses
 pub mod MatchedOperands
 pub mod LeafAnswers
 pub mod ExplainedSteps
+pub mod LastSteps

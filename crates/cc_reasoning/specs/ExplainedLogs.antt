@@ -1,20 +1,22 @@
 -- Inference that tells why it refuses, as the program goes through it, where a step that asks something goes on from the
 -- log of those before. What stands here is explained inference again, and serves proofs alone.
-use Rattle.std.specs.Prelude.{ℕ, List, ◌∷◌}
+use Rattle.std.specs.Prelude.{ℕ, List, ◌∷◌, length, Option, Some, None}
+use Rattle.cc_base.specs.declared.code.Code.{Code}
+use Rattle.cc_base.specs.declared.code.Code.TheVariants.{E14}
 use Rattle.cc_base.specs.declared.literal.Base.TheVariants as bases
 use Rattle.cc_base.specs.declared.place.Place.{Place}
 use Rattle.cc_capture.specs.declared.var.Var.{Var}
-use Rattle.cc_capture.specs.Sets.{empty}
-use Rattle.cc_core.specs.Shapes.{BaseShape, CapturingType, capturing}
+use Rattle.cc_capture.specs.Sets.{Set, empty, union}
+use Rattle.cc_core.specs.Shapes.{BaseShape, AnyShape, CapturingType, capturing}
 use Rattle.cc_core.specs.Terms.{Note, Absent, Written, Own, Term, VariableTerm, LiteralTerm, FunctionTerm}
 use Rattle.cc_core.specs.Terms.{TypeFunctionTerm, BoxTerm, Application, TypeApplication, Unboxing, Let, Primitive}
 use Rattle.cc_core.specs.Terms.{Conditional, Repetition, Operation, Boundary, Leave}
-use Rattle.cc_core.specs.Contexts.{TypeEntry, entry_of}
+use Rattle.cc_core.specs.Contexts.{TypeEntry, Context, entry_of}
 use Rattle.cc_core.specs.Places.{Spots, Places, spots, first_part, second_part}
 use Rattle.cc_checking.specs.Inference.{Result, result, shape_in, type_in, Named, tested, function_found}
 use Rattle.cc_checking.specs.Inference.{type_function_found, choice_found, exit_entry}
 use Rattle.cc_type.specs.Rows.{ways}
-use Rattle.cc_reasons.specs.Causes.{Located, Scene, under, Cause, WrongType, WrongShape, NothingThere, TooLarge, Explained, NoAnswer, Refused, finds, because}
+use Rattle.cc_reasons.specs.Causes.{Located, Scene, under, Cause, WrongType, WrongShape, NothingThere, TooLarge, Unavoidable, Explained, NoAnswer, Refused, finds, because}
 use Rattle.cc_reasons.specs.ExplainedInference.{BinderNames, first_names, second_names, bound_at, explained_below}
 use Rattle.cc_reasons.specs.ExplainedInference.{explained_against, explained_operand, explained_note, explained_leaving}
 use Rattle.cc_reasons.specs.ExplainedInference.{explained}
@@ -60,6 +62,29 @@ choice_end root scene at (Written shape set) variable one two =
 choice_end root scene at (Own shape) variable one two =
     sized scene at (choice_found root scene.context shape variable one two)
 
+-- the same with the comparison of the second branch before it
+abbrev pub choice_log :
+    ℕ → Scene → Place → Note → Var → Result → Result → Place → List Located → Reached Result
+choice_log root scene at note variable one two part_at log =
+    followed (after log (branch part_at scene note two.type)) λ done log.
+    ends (choice_end root scene at note variable one two) log
+
+-- why a let is refused at its end, by what is left of the type where the variable is avoided
+abbrev pub let_cause : Option CapturingType → Scene → Scene → CapturingType → Cause
+let_cause (Some left) scene inner type = TooLarge scene left
+let_cause None scene inner type = Unavoidable inner (length scene.context) type
+
+-- the type of a choice, by what is written for it and by the sets of its branches
+abbrev pub choice_type : Context → Note → Set → Set → CapturingType
+choice_type context Absent one two = capturing AnyShape one
+choice_type context (Written shape set) one two = type_in context (capturing shape set)
+choice_type context (Own shape) one two = capturing (shape_in context shape) (union one two)
+
+-- why a choice is refused at its end, by the code
+abbrev pub choice_cause : Code → Scene → Note → Set → CapturingType → Cause
+choice_cause E14 scene note one type = note_cause scene note type
+choice_cause _ scene note one type = TooLarge scene (choice_type scene.context note one type.set)
+
 -- inference of a term at a place of the scene, where this is in the log before
 abbrev pub explained_log : ℕ → Scene → Term → Places → BinderNames → List Located → Reached Result
 explained_log root scene (VariableTerm variable) places names log =
@@ -103,8 +128,7 @@ explained_log root scene (Conditional note variable positive negative) places na
     followed (explained_log root scene positive (first_part places) (first_names names) log) λ one log.
     followed (after log (branch (spots (first_part places)).at scene note one.type)) λ done log.
     followed (explained_log root scene negative (second_part places) (second_names names) log) λ two log.
-    followed (after log (branch (spots (second_part places)).at scene note two.type)) λ done log.
-    ends (choice_end root scene (spots places).at note variable one two) log
+    choice_log root scene (spots places).at note variable one two (spots (second_part places)).at log
 explained_log root scene (Repetition count function) places names log =
     after log (explained ways root scene (Repetition count function) places names)
 explained_log root scene (Operation operation receiver argument) places names log =

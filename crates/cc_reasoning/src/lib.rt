@@ -4,7 +4,9 @@
 mod bases;
 mod causes;
 mod heads;
+mod lasts;
 mod leaf_causes;
+mod scenes;
 mod steps;
 pub mod located;
 pub mod reason;

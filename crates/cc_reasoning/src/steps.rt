@@ -3,7 +3,8 @@
 
 ghost use Rattle.std.specs.Prelude.{◌≡◌, length, map, true, IfOk};
 ghost use Rattle.cc_core.specs.Places.{spots_at, places_of};
-ghost use Rattle.cc_core.specs.Shapes.{capturing};
+ghost use Rattle.cc_base.specs.declared.literal.Base.TheVariants as bases;
+ghost use Rattle.cc_core.specs.Shapes.{BaseShape};
 ghost use Rattle.cc_core.specs.TermViews.{shape_of, type_of, note_of, term_of, context_of};
 ghost use Rattle.cc_core.specs.WellFormed.{IsWellFormedContext, IsWellFormedType};
 ghost use Rattle.cc_subty.specs.Demands.{asked_of};
@@ -12,18 +13,22 @@ ghost use Rattle.cc_known.specs.Measures.{AreMeasuresOf};
 ghost use Rattle.cc_known.specs.Parts.{found_of, named_of};
 ghost use Rattle.cc_type.specs.Rows.{ways, branch_log};
 ghost use Rattle.cc_type.specs.Standing.{NoteReadsWell, StandsWell};
-ghost use Rattle.cc_reasons.specs.ExplainedInference.{explained, explained_below, explained_note};
+ghost use Rattle.cc_reasons.specs.ExplainedInference.{explained, explained_below, explained_note, explained_operand};
 ghost use Rattle.cc_reasoning.specs.ExplainedLogs as logs;
 ghost use Rattle.cc_reasoning.specs.ExplainedLogs.{note_cause};
 ghost use Rattle.cc_reasoning.specs.LeafReasons.{IsLeaf};
 ghost use Rattle.cc_reasoning.specs.LocatedLogs.{Meets, after, beside};
 ghost use Rattle.cc_reasoning.specs.Views.{locals_of, scene_of, binder_names_of, cause_of};
 
+use crate::bases::base_shape;
 use crate::causes::{wrong_shape, wrong_type};
+use crate::heads::shape_of_variable;
 use crate::leaf_causes::leaf_cause;
 use crate::located::fill;
 use crate::reason::{Binders, Cause, Halt, Locals, Scene};
+use cc_base::literal::Base;
 use cc_base::place::Place;
+use cc_capture::Var;
 use cc_core::reading::{read_shape, read_type};
 use cc_core::{Ctx, Node, Note, Ty};
 use cc_infer::infer_known;
@@ -33,7 +38,7 @@ use cc_known::steps::entries;
 use cc_known::stop::Stop;
 use cc_type::Log;
 use cc_type::comparing::below;
-use cc_type::operands::{branch, noted};
+use cc_type::operands::{base_operand, branch, noted};
 use std::alloc::{AllocError, Global};
 use std::rc::Rc;
 
@@ -75,8 +80,8 @@ pub(crate) fn leaf(
     }
 }
 
-// Why a type does not match what is written for it.
-fn cause_of_note(alloc: Global, scene: &Scene, note: &Note, ty: &Ty) -> Result<Cause, AllocError>
+/// Why a type does not match what is written for it.
+pub(crate) fn cause_of_note(alloc: Global, scene: &Scene, note: &Note, ty: &Ty) -> Result<Cause, AllocError>
     ensures { IfOk result (λ c. cause_of c ≡ note_cause (scene_of scene.now) (note_of note.now) (type_of ty.now)) }
 {
     match note {
@@ -181,6 +186,66 @@ pub(crate) fn branch_below(
             Err(Halt::Refused(cause, diag.place))
         }
         Err(Stop::NoMemory) => Err(Halt::NoMemory),
+    }
+}
+
+/// The operand has to be a truth value.
+pub(crate) fn bool_operand(
+    alloc: Global,
+    scene: &Scene,
+    variable: Var,
+    at: Place,
+    log: &mut Log,
+    known: &mut Vec<Rc<Locals>>,
+) -> Result<(), Halt>
+    requires context { IsWellFormedContext (context_of scene.now.ctx) }
+    requires even { length known.old.items ≡ length log.old.demands }
+    ensures is { Meets (λ u. u) result (beside (asked_of log.new.demands) (map (λ l. locals_of l.value) known.new.items))
+        (after (beside (asked_of log.old.demands) (map (λ l. locals_of l.value) known.old.items))
+        (explained_operand ways at (scene_of scene.now) variable (BaseShape bases.Bool))) }
+    ensures even { IfOk result (λ _. length known.new.items ≡ length log.new.demands) }
+{
+    match base_operand(alloc, &scene.ctx, variable, Base::Bool, at, log) {
+        Ok(()) => {
+            let count = log.demands().len();
+            fill(known, &scene.locals, count)?;
+            Ok(())
+        }
+        Err(Stop::Refused(diag)) => {
+            let found = shape_of_variable(alloc, &scene.ctx, variable)?;
+            let wanted = base_shape(alloc, Base::Bool)?;
+            let cause = wrong_shape(scene, found, wanted)?;
+            let cause = Rc::new(alloc, cause)?;
+            Err(Halt::Refused(cause, diag.place))
+        }
+        Err(Stop::NoMemory) => Err(Halt::NoMemory),
+    }
+}
+
+/// The first steps of a choice, for which something has to be written.
+pub(crate) fn test(
+    alloc: Global,
+    scene: &Scene,
+    node: &Node,
+    note: &Note,
+    variable: Var,
+    log: &mut Log,
+    known: &mut Vec<Rc<Locals>>,
+) -> Result<(), Halt>
+    requires context { IsWellFormedContext (context_of scene.now.ctx) }
+    requires even { length known.old.items ≡ length log.old.demands }
+    ensures is { Meets (λ u. u) result (beside (asked_of log.new.demands) (map (λ l. locals_of l.value) known.new.items))
+        (after (beside (asked_of log.old.demands) (map (λ l. locals_of l.value) known.old.items))
+        (logs.test (spots_at node.now.at node.now.first node.now.second) (scene_of scene.now) (note_of note.now) variable)) }
+    ensures even { IfOk result (λ _. length known.new.items ≡ length log.new.demands) }
+{
+    match note {
+        Note::Absent => {
+            let cause = Rc::new(alloc, Cause::NothingThere)?;
+            Err(Halt::Refused(cause, node.at))
+        }
+        Note::Written(_) => bool_operand(alloc, scene, variable, node.first, log, known),
+        Note::Own(_) => bool_operand(alloc, scene, variable, node.first, log, known),
     }
 }
 
