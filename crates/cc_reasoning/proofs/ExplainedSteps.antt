@@ -8,24 +8,26 @@ use Rattle.cc_base.specs.declared.code.Code.TheVariants.{E14}
 use Rattle.cc_base.specs.declared.literal.Base.{Base}
 use Rattle.cc_base.specs.declared.place.Place.{Place}
 use Rattle.cc_capture.specs.declared.var.Var.{Var}
+use Rattle.cc_capture.specs.declared.var.Var.TheVariants.{Bound, Free}
 use Rattle.cc_capture.specs.Sets.{Set}
 use Rattle.cc_core.specs.Shapes.{Shape, BaseShape, CapturingType, capturing}
 use Rattle.cc_core.specs.Terms.{Note, Absent, Written, Own, Term, VariableTerm, LiteralTerm, FunctionTerm}
 use Rattle.cc_core.specs.Terms.{TypeFunctionTerm, BoxTerm, Application, TypeApplication, Unboxing, Let, Primitive}
 use Rattle.cc_core.specs.Terms.{Conditional, Repetition, Operation, Boundary, Leave}
+use Rattle.cc_core.specs.Contexts.{Bind, TermEntry, TypeEntry, Context, lookup}
 use Rattle.cc_core.specs.Places.{Places, spots}
 use Rattle.cc_checking.specs.Comparison.{Comparison, Unfinished, Mismatch, Matches}
 use Rattle.cc_checking.specs.Outcomes as plain
 use Rattle.cc_checking.specs.Outcomes.{Outcome, Placed}
-use Rattle.cc_checking.specs.Inference.{Result, against, compared_at, capless}
+use Rattle.cc_checking.specs.Inference.{Result, against, compared_at, capless, entry_type, variable_type, in_context}
 use Rattle.cc_subty.specs.declared.demands.Demand.{Demand as DeclaredDemand}
 use Rattle.cc_subty.specs.Demands.{demand_of, asked_of}
 use Rattle.cc_known.specs.Keeping as kept
 use Rattle.cc_known.specs.Keeping.{is_needless}
 use Rattle.cc_known.specs.Logs as logs
-use Rattle.cc_type.specs.Rows.{comparing, ways, branch_log}
+use Rattle.cc_type.specs.Rows.{comparing, ways, branch_log, operand_log}
 use Rattle.cc_reasons.specs.Causes.{Local, Scene, Cause, code_of, WrongType, WrongShape, NothingThere, Explained, NoAnswer}
-use Rattle.cc_reasons.specs.Causes.{Refused, Found, finds, outcome_of, ◌>>=◌, because}
+use Rattle.cc_reasons.specs.Causes.{Refused, Found, finds, outcome_of, asked_before, ◌>>=◌, because, located}
 use Rattle.cc_reasons.specs.ExplainedInference.{BinderNames, typed, explained_below, explained_against, explained_operand}
 use Rattle.cc_reasons.specs.ExplainedInference.{explained_argument, explained_note, explained_size, explained}
 use Rattle.cc_reasons.proofs.ExplainedOutcomes.{below_is, because_is, IsRefusedBy}
@@ -33,7 +35,7 @@ use Rattle.cc_reasoning.specs.LocatedLogs.{Got, Stopped, after, beside}
 use Rattle.cc_reasoning.specs.ExplainedLogs.{branch, test, note_cause}
 use Rattle.cc_reasoning.specs.LeafReasons.{IsCauseIn, IsLeaf}
 use Rattle.cc_reasoning.proofs.LocatedSteps.{IsAskedAt, then_at, because_at, found_step, refused_step}
-use Rattle.cc_reasoning.proofs.LeafCauses.{Comes, Any, then_comes, because_comes}
+use Rattle.cc_reasoning.proofs.LeafCauses.{Comes, Any, then_comes, because_comes, operand_comes}
 
 -- a log only grows
 keeping_longer : (asked list : List Placed) → length list ≤ length (kept.keeping list asked)
@@ -120,7 +122,7 @@ pub against_at : (at : Place) (scene : Scene) (left right : Shape)
     → IsAskedAt scene.locals (explained_against ways at scene left right)
 against_at at scene left right = because_at (WrongShape scene left right) scene.locals _
 
-operand_at : (at : Place) (scene : Scene) (v : Var) (shape : Shape)
+pub operand_at : (at : Place) (scene : Scene) (v : Var) (shape : Shape)
     → IsAskedAt scene.locals (explained_operand ways at scene v shape)
 operand_at at scene v shape =
     then_at scene.locals (typed scene v) _ (typed_at scene v) (λ t. against_at at scene t.shape shape)
@@ -250,3 +252,52 @@ pub branch_logs : (at : Place) (scene : Scene) (n : Note) (t : CapturingType) (l
 branch_logs at scene Absent t log = refl
 branch_logs at scene (Written s c) t log = ap (logs.after log) (sym (below_is ways at scene t _))
 branch_logs at scene (Own s) t log = ap (logs.after log) (sym (against_is at scene t.shape _))
+
+nothing_before : {A : Type 0} (o : Explained A) → asked_before [] o ≡ o
+nothing_before NoAnswer = refl
+nothing_before (Refused cause at) = refl
+nothing_before (Found value asked) = refl
+
+-- it is not refused, and asks nothing
+abbrev IsQuiet : {A : Type 0} → Outcome A → Type 0
+IsQuiet plain.NoAnswer = Unit {0}
+IsQuiet (plain.Refused code at) = ⊥
+IsQuiet (plain.Found value asked) = asked ≡ []
+
+entry_quiet : (v : Var) (o : Option Bind) → IsQuiet (entry_type v o)
+entry_quiet v (Some (TermEntry s c)) = refl
+entry_quiet v (Some (TypeEntry b)) = tt
+entry_quiet v None = tt
+
+variable_quiet : (g : Context) (v : Var) → IsQuiet (variable_type g v)
+variable_quiet g (Free p) = entry_quiet (Free p) (lookup g p)
+variable_quiet g (Bound i) = tt
+
+quiet_logs : (at : Place) (scene : Scene) (shape : Shape) (log : List Placed) (o : Outcome CapturingType) → IsQuiet o
+    → logs.plainly o (λ t. logs.after log (against comparing at scene.context t.shape shape))
+    ≡ logs.after log
+    (outcome_of (◌>>=◌ (because NothingThere scene.locals o) (λ t. explained_against ways at scene t.shape shape)))
+unfolding ◌>>=◌
+quiet_logs at scene shape log plain.NoAnswer quiet = refl
+quiet_logs at scene shape log (plain.Refused code place) quiet = absurd quiet
+quiet_logs at scene shape log (plain.Found t asked) quiet =
+    let step : Explained (Unit {0}) = explained_against ways at scene t.shape shape in
+    sym (ap (λ a. logs.after log (outcome_of (asked_before (map (located scene.locals) a) step))) quiet
+    ∙ ap (λ x. logs.after log (outcome_of x)) (nothing_before step)
+    ∙ ap (logs.after log) (against_is at scene t.shape shape))
+
+-- an operand, as inference over a log has it
+pub operand_logs : (at : Place) (scene : Scene) (v : Var) (shape : Shape) (log : List Placed)
+    → operand_log at scene.context v shape log
+    ≡ logs.after log (outcome_of (explained_operand ways at scene v shape))
+operand_logs at scene v shape log =
+    quiet_logs at scene shape log (variable_type scene.context (in_context scene.context v))
+    (variable_quiet scene.context (in_context scene.context v))
+
+pub operand_told : (at place : Place) (code : Code) (scene : Scene) (v : Var) (s : CapturingType) (shape : Shape)
+    → variable_type scene.context (in_context scene.context v) ≡ plain.finds s
+    → outcome_of (explained_operand ways at scene v shape) ≡ plain.Refused code place
+    → explained_operand ways at scene v shape ≡ Refused (WrongShape scene s.shape shape) place
+operand_told at place code scene v s shape found =
+    told_by code (WrongShape scene s.shape shape) (explained_operand ways at scene v shape) place
+    (operand_comes scene (λ x. x ≡ WrongShape scene s.shape shape) at v s shape found refl)

@@ -236,7 +236,7 @@ module _ (scene : Scene) where
           (λ r is c. ap (TooLarge scene) is)) refused }
 
   -- operands
-  operand_comes : (P : Cause → Type 0) (at : Place) (v : Var) (s : CapturingType) (shape : Shape)
+  pub operand_comes : (P : Cause → Type 0) (at : Place) (v : Var) (s : CapturingType) (shape : Shape)
       → variable_type scene.context (in_context scene.context v) ≡ plain.finds s → P (WrongShape scene s.shape shape)
       → Comes P Any (explained_operand ways at scene v shape)
   operand_comes P at v s shape e h =
