@@ -5,3 +5,4 @@ pub mod MatchedOperands
 pub mod LeafAnswers
 pub mod ExplainedSteps
 pub mod LastSteps
+pub mod ExplainedRuns
