@@ -6,3 +6,4 @@ pub mod LeafAnswers
 pub mod ExplainedSteps
 pub mod LastSteps
 pub mod ExplainedRuns
+pub mod ExplainedRows

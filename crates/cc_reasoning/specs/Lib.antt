@@ -1,3 +1,4 @@
+pub mod ExplainedDefinitions
 pub mod ExplainedLogs
 pub mod LeafReasons
 pub mod LocatedLogs

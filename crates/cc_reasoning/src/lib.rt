@@ -3,6 +3,7 @@
 
 mod bases;
 mod causes;
+pub mod definitions;
 pub mod explain;
 mod heads;
 mod lasts;

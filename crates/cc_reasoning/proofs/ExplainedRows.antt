@@ -1,0 +1,29 @@
+-- The rows of a definition that is explained are what explains it.
+use Rattle.std.proofs.Common.{◌≡◌, List, length, None, refl, ap, sym, ◌∙◌, subst}
+use Rattle.cc_core.specs.Contexts.{Context}
+use Rattle.cc_core.specs.Places.{spots}
+use Rattle.cc_checking.specs.Verdicts.{Definition, Checking, checking}
+use Rattle.cc_type.specs.Rows.{ways}
+use Rattle.cc_reasons.specs.Causes.{Located, Scene, Explained, finds, ◌>>=◌}
+use Rattle.cc_reasons.specs.DefinitionReasons.{outermost, explained_plain}
+use Rattle.cc_reasons.specs.ExplainedInference.{BinderNames, explained, explained_note}
+use Rattle.cc_reasoning.specs.LocatedLogs.{Reached, Got, after, followed}
+use Rattle.cc_reasoning.specs.ExplainedDefinitions.{plain_log}
+use Rattle.cc_reasoning.proofs.ExplainedLogs.{joined}
+
+outermost_logs : (globals : Context) (definition : Definition) (names : BinderNames) (log : List Located)
+    → plain_log (outermost globals) definition names log ≡ after log (explained_plain ways globals definition names)
+outermost_logs globals definition names log =
+    let right = explained ways (length globals) (outermost globals) definition.right definition.places names in
+    joined log (after log right) _ right _ refl
+    (λ found l. joined l
+    (after l
+    (explained_note ways (length globals) (spots definition.places).at (outermost globals) definition.note found.type)) _
+    (explained_note ways (length globals) (spots definition.places).at (outermost globals) definition.note found.type) _
+    refl (λ named k. refl))
+
+pub plain_logs : (scene : Scene) (definition : Definition) (names : BinderNames) (log : List Located)
+    → scene ≡ outermost scene.context
+    → plain_log scene definition names log ≡ after log (explained_plain ways scene.context definition names)
+plain_logs scene definition names log outer =
+    ap (λ s. plain_log s definition names log) outer ∙ outermost_logs scene.context definition names log
