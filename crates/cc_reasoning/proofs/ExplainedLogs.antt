@@ -1,13 +1,12 @@
 -- Explained inference over a log is explained inference, and what it asks is kept behind the log.
-use Rattle.std.proofs.Common.{◌≡◌, ℕ, Bool, true, false, cond, List, [], ◌∷◌, ◌++◌, length, map, Option, Some, None}
+use Rattle.std.proofs.Common.{◌≡◌, ℕ, Bool, true, false, cond, List, [], ◌++◌, length, Option, Some, None}
 use Rattle.std.proofs.Common.{refl, sym, ap, ◌∙◌, append_assoc}
 use Rattle.cc_base.specs.declared.code.Code.TheVariants.{E17, E18}
 use Rattle.cc_base.specs.declared.literal.Base.TheVariants as bases
 use Rattle.cc_base.specs.declared.place.Place.{Place}
-use Rattle.cc_capture.specs.declared.var.Var.{Var}
 use Rattle.cc_capture.specs.Sets.{Set, empty}
-use Rattle.cc_core.specs.Shapes.{Shape, BaseShape, CapturingType, capturing}
-use Rattle.cc_core.specs.Terms.{Note, Absent, Written, Own, Term, VariableTerm, LiteralTerm, FunctionTerm}
+use Rattle.cc_core.specs.Shapes.{BaseShape, CapturingType, capturing}
+use Rattle.cc_core.specs.Terms.{Absent, Written, Own, Term, VariableTerm, LiteralTerm, FunctionTerm}
 use Rattle.cc_core.specs.Terms.{TypeFunctionTerm, BoxTerm, Application, TypeApplication, Unboxing, Let, Primitive}
 use Rattle.cc_core.specs.Terms.{Conditional, Repetition, Operation, Boundary, Leave}
 use Rattle.cc_core.specs.Contexts.{TypeEntry, entry_of}
@@ -15,15 +14,15 @@ use Rattle.cc_core.specs.Places.{Places, spots, first_part, second_part}
 use Rattle.cc_checking.specs.Avoidance.{Positive, avoided_type}
 use Rattle.cc_checking.specs.Outcomes as plain
 use Rattle.cc_checking.specs.Outcomes.{Outcome}
-use Rattle.cc_checking.specs.Inference.{Result, result, shape_in, type_in, tested, left_behind, exit_entry}
+use Rattle.cc_checking.specs.Inference.{Result, shape_in, type_in, exit_entry}
 use Rattle.cc_type.specs.Rows.{ways}
-use Rattle.cc_reasons.specs.Causes.{Local, Scene, under, Cause, TooLarge, Unavoidable, Located, located, Explained}
+use Rattle.cc_reasons.specs.Causes.{Scene, under, TooLarge, Unavoidable, Located, Explained}
 use Rattle.cc_reasons.specs.Causes.{NoAnswer, Refused, Found, finds, asked_before, ◌>>=◌, because}
 use Rattle.cc_reasons.specs.ExplainedInference.{BinderNames, first_names, second_names, bound_at, explained_below}
 use Rattle.cc_reasons.specs.ExplainedInference.{explained_against, explained_operand, explained_note, explained_leaving}
 use Rattle.cc_reasons.specs.ExplainedInference.{explained_size, explained}
-use Rattle.cc_reasoning.specs.LocatedLogs.{keeping, Reached, Lost, Stopped, Got, after, followed, ends, directly}
-use Rattle.cc_reasoning.specs.ExplainedLogs.{sized, let_end, branch, test, choice_end, explained_log}
+use Rattle.cc_reasoning.specs.LocatedLogs.{keeping, Reached, Got, after, followed, ends, directly}
+use Rattle.cc_reasoning.specs.ExplainedLogs.{sized, explained_log}
 use Rattle.cc_reasoning.proofs.LocatedSteps.{keeping-append}
 
 -- an outcome that asks nothing
@@ -208,7 +207,7 @@ explained_logs root (Conditional Absent v t u) scene places names log = refl
 explained_logs root (Conditional (Written s c) v t u) scene places names log =
     let type : CapturingType = type_in scene.context (capturing s c) in
     let row : Explained (Unit {0}) =
-        explained_operand ways (spots places).first scene v (BaseShape bases.Bool) in
+    explained_operand ways (spots places).first scene v (BaseShape bases.Bool) in
     sized_joined places scene log (after log row) _ row _ refl
     (λ done l. part_joined places scene l (explained_log root scene t (first_part places) (first_names names) l)
     (λ one. explained_below ways (spots (first_part places)).at scene one.type type) _
@@ -221,7 +220,7 @@ explained_logs root (Conditional (Written s c) v t u) scene places names log =
     (λ two m. sized_end places scene m _)))
 explained_logs root (Conditional (Own s) v t u) scene places names log =
     let row : Explained (Unit {0}) =
-        explained_operand ways (spots places).first scene v (BaseShape bases.Bool) in
+    explained_operand ways (spots places).first scene v (BaseShape bases.Bool) in
     sized_joined places scene log (after log row) _ row _ refl
     (λ done l. part_joined places scene l (explained_log root scene t (first_part places) (first_names names) l)
     (λ one. explained_against ways (spots (first_part places)).at scene one.type.shape (shape_in scene.context s)) _

@@ -1,13 +1,13 @@
 -- The rows of a definition that is explained are what explains it.
-use Rattle.std.proofs.Common.{◌≡◌, List, length, None, refl, ap, sym, ◌∙◌, subst}
+use Rattle.std.proofs.Common.{◌≡◌, List, length, refl, ap, ◌∙◌}
 use Rattle.cc_core.specs.Contexts.{Context}
 use Rattle.cc_core.specs.Places.{spots}
-use Rattle.cc_checking.specs.Verdicts.{Definition, Checking, checking}
+use Rattle.cc_checking.specs.Verdicts.{Definition}
 use Rattle.cc_type.specs.Rows.{ways}
-use Rattle.cc_reasons.specs.Causes.{Located, Scene, Explained, finds, ◌>>=◌}
+use Rattle.cc_reasons.specs.Causes.{Located, Scene}
 use Rattle.cc_reasons.specs.DefinitionReasons.{outermost, explained_plain}
 use Rattle.cc_reasons.specs.ExplainedInference.{BinderNames, explained, explained_note}
-use Rattle.cc_reasoning.specs.LocatedLogs.{Reached, Got, after, followed}
+use Rattle.cc_reasoning.specs.LocatedLogs.{after}
 use Rattle.cc_reasoning.specs.ExplainedDefinitions.{plain_log}
 use Rattle.cc_reasoning.proofs.ExplainedLogs.{joined}
 

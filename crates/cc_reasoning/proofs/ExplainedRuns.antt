@@ -1,5 +1,5 @@
 -- What a run of explained inference finds is well formed, and the steps of a choice are joined.
-use Rattle.std.proofs.Common.{◌≡◌, ℕ, List, [], refl, sym, ap, ◌∙◌}
+use Rattle.std.proofs.Common.{◌≡◌, ℕ, List, [], sym, ap, ◌∙◌}
 use Rattle.cc_base.specs.declared.place.Place.{Place}
 use Rattle.cc_capture.specs.declared.var.Var.{Var}
 use Rattle.cc_core.specs.Terms.{Note, Term, Conditional}
@@ -9,7 +9,7 @@ use Rattle.cc_checking.specs.Outcomes as plain
 use Rattle.cc_checking.specs.Inference.{Result, inferred}
 use Rattle.cc_known.specs.Keeping as kept
 use Rattle.cc_known.specs.Logs as logs
-use Rattle.cc_type.specs.Rows.{ways, inferred_log}
+use Rattle.cc_type.specs.Rows.{ways}
 use Rattle.cc_type.specs.Standing.{StandsWell}
 use Rattle.cc_type.proofs.InferredLogs.{inferred_logs}
 use Rattle.cc_type.proofs.StandingTerms.{type_of_found}
@@ -34,9 +34,9 @@ pub explained_formed : (root : ℕ) (scene : Scene) (t : Term) (places : Places)
     → explained_log root scene t places names log ≡ Got r later → IsWellFormedType scene.context r.type
 explained_formed root scene t places names log later r formed stands e =
     let came = came_from log later (explained ways root scene t places names) r
-        (sym (explained_logs root t scene places names log) ∙ e) in
+    (sym (explained_logs root t scene places names log) ∙ e) in
     let found : inferred ways root scene.context t places ≡ plain.Found r (placed_of came.0) =
-        sym (explained_is_inference ways root scene t places names) ∙ ap outcome_of came.1 in
+    sym (explained_is_inference ways root scene t places names) ∙ ap outcome_of came.1 in
     type_of_found root scene.context t places [] (kept.keeping [] (placed_of came.0)) r formed stands
     (inferred_logs root t scene.context places [] ∙ ap (logs.after []) found)
 
@@ -54,13 +54,13 @@ pub choice_steps : (root : ℕ) (scene : Scene) (n : Note) (v : Var) (positive n
 choice_steps root scene n v positive negative own p q names first second log log1 log2 log3 log4 one two u w at1 at2
     e1 e2 f1 h1 e3 e4 f2 h2 =
     let after_two : Result → Result → List Located → Reached Result =
-        λ x y l. choice_log root scene own.at n v x y (spots q).at l in
+    λ x y l. choice_log root scene own.at n v x y (spots q).at l in
     let after_branch : Result → Unit {0} → List Located → Reached Result =
-        λ x d l. followed (explained_log root scene negative q (second_names names) l) (after_two x) in
+    λ x d l. followed (explained_log root scene negative q (second_names names) l) (after_two x) in
     let after_one : Result → List Located → Reached Result =
-        λ x l. followed (after l (branch (spots p).at scene n x.type)) (after_branch x) in
+    λ x l. followed (after l (branch (spots p).at scene n x.type)) (after_branch x) in
     let after_test : Unit {0} → List Located → Reached Result =
-        λ d l. followed (explained_log root scene positive p (first_names names) l) after_one in
+    λ d l. followed (explained_log root scene positive p (first_names names) l) after_one in
     ap (λ s. followed s after_test) e1
     ∙ ap (λ s. followed s after_one) (ap (λ m. explained_log root scene positive p m log1) (sym f1) ∙ e2)
     ∙ ap (λ s. followed s (after_branch one)) (ap (λ a. after log2 (branch a scene n one.type)) (sym h1) ∙ e3)

@@ -9,8 +9,7 @@ use Rattle.cc_base.specs.declared.literal.Base.{Base}
 use Rattle.cc_base.specs.declared.place.Place.{Place}
 use Rattle.cc_capture.specs.declared.var.Var.{Var}
 use Rattle.cc_capture.specs.declared.var.Var.TheVariants.{Bound, Free}
-use Rattle.cc_capture.specs.Sets.{Set}
-use Rattle.cc_core.specs.Shapes.{Shape, BaseShape, CapturingType, capturing}
+use Rattle.cc_core.specs.Shapes.{Shape, BaseShape, CapturingType}
 use Rattle.cc_core.specs.Terms.{Note, Absent, Written, Own, Term, VariableTerm, LiteralTerm, FunctionTerm}
 use Rattle.cc_core.specs.Terms.{TypeFunctionTerm, BoxTerm, Application, TypeApplication, Unboxing, Let, Primitive}
 use Rattle.cc_core.specs.Terms.{Conditional, Repetition, Operation, Boundary, Leave}
@@ -26,14 +25,14 @@ use Rattle.cc_known.specs.Keeping as kept
 use Rattle.cc_known.specs.Keeping.{is_needless}
 use Rattle.cc_known.specs.Logs as logs
 use Rattle.cc_type.specs.Rows.{comparing, ways, branch_log, operand_log}
-use Rattle.cc_reasons.specs.Causes.{Local, Scene, Cause, code_of, WrongType, WrongShape, NothingThere, Explained, NoAnswer}
-use Rattle.cc_reasons.specs.Causes.{Refused, Found, finds, outcome_of, asked_before, ◌>>=◌, because, located}
+use Rattle.cc_reasons.specs.Causes.{Local, Scene, Cause, WrongType, WrongShape, NothingThere, Explained, NoAnswer}
+use Rattle.cc_reasons.specs.Causes.{Refused, Found, outcome_of, asked_before, ◌>>=◌, because, located}
 use Rattle.cc_reasons.specs.ExplainedInference.{BinderNames, typed, explained_below, explained_against, explained_operand}
 use Rattle.cc_reasons.specs.ExplainedInference.{explained_argument, explained_note, explained_size, explained}
 use Rattle.cc_reasons.proofs.ExplainedOutcomes.{below_is, because_is, IsRefusedBy}
 use Rattle.cc_reasoning.specs.LocatedLogs.{Got, Stopped, after, beside}
-use Rattle.cc_reasoning.specs.ExplainedLogs.{branch, test, note_cause}
-use Rattle.cc_reasoning.specs.LeafReasons.{IsCauseIn, IsLeaf}
+use Rattle.cc_reasoning.specs.ExplainedLogs.{branch, note_cause}
+use Rattle.cc_reasoning.specs.LeafReasons.{IsLeaf}
 use Rattle.cc_reasoning.proofs.LocatedSteps.{IsAskedAt, then_at, because_at, found_step, refused_step}
 use Rattle.cc_reasoning.proofs.LeafCauses.{Comes, Any, then_comes, because_comes, operand_comes}
 
@@ -52,7 +51,7 @@ keeping_longer (first ∷ asked) list =
         let same : kept.with_one list first ≡ list ++ first ∷ [] = ap (λ t. cond t list (list ++ first ∷ [])) is in
         let more : length (list ++ first ∷ []) ≡ length list + 1 = length-append list (first ∷ []) in
         let grown : length (list ++ first ∷ []) ≤ length (kept.keeping (list ++ first ∷ []) asked) =
-            longer (list ++ first ∷ []) in
+        longer (list ++ first ∷ []) in
         subst (λ l. length list ≤ length (kept.keeping l asked)) (sym same) (omega (arith, more, grown))
 
 step_longer : {A : Type 0} (before later : List Placed) (value : A) (o : Outcome A)
@@ -77,15 +76,15 @@ module _ {A X : Type 0} (locals : List Local) (view : X → List Local) (known n
   pub kept_even : length next ≡ length later
   kept_even =
       let longer : length (asked_of before) ≤ length (asked_of later) =
-          step_longer (asked_of before) (asked_of later) value outcome is in
+      step_longer (asked_of before) (asked_of later) value outcome is in
       let one : length (asked_of before) ≡ length before = length-map before demand_of in
       let two : length (asked_of later) ≡ length later = length-map later demand_of in
       let three : length (map view next) ≡ length next = length-map next view in
       let four : length (map view known) ≡ length known = length-map known view in
       let five : length (map view next) ≡ length (map view known) + length (replicate (count - length known) locals) =
-          ap length filled ∙ length-append (map view known) (replicate (count - length known) locals) in
+      ap length filled ∙ length-append (map view known) (replicate (count - length known) locals) in
       let six : length (replicate (count - length known) locals) ≡ count - length known =
-          length-replicate-of (count - length known) locals in
+      length-replicate-of (count - length known) locals in
       omega (arith, longer, one, two, three, four, five, six, even, counted)
 
   pub kept_step : IsAskedAt locals o
@@ -95,7 +94,7 @@ module _ {A X : Type 0} (locals : List Local) (view : X → List Local) (known n
       let four : length (map view known) ≡ length known = length-map known view in
       let one : length (asked_of before) ≡ length before = length-map before demand_of in
       let number : length (asked_of later) - length (map view known) ≡ count - length known =
-          omega (arith, two, four, counted) in
+      omega (arith, two, four, counted) in
       found_step locals (map view known) (asked_of before) (asked_of later) value o (four ∙ even ∙ sym one) here
       (ap (logs.after (asked_of before)) same ∙ is)
       ∙ ap (λ n. Got value (beside (asked_of later) (map view known ++ replicate n locals))) number

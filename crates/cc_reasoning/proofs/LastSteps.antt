@@ -1,12 +1,11 @@
 -- The last steps of explained inference by those of inference.
-use Rattle.std.proofs.Common.{◌≡◌, ℕ, ◌-◌, ◌++◌, Bool, true, false, cond, List, map, replicate, length, Option, Some, None, refl, sym, ap, subst, ◌∙◌}
+use Rattle.std.proofs.Common.{◌≡◌, ℕ, ◌-◌, ◌++◌, Bool, true, false, cond, List, map, replicate, length, Option, Some, None, refl, sym, ap, ◌∙◌}
 use Rattle.cc_base.specs.declared.code.Code.{Code}
-use Rattle.cc_base.specs.declared.code.Code.TheVariants.{E14, E17, E18}
+use Rattle.cc_base.specs.declared.code.Code.TheVariants.{E17, E18}
 use Rattle.cc_base.specs.declared.place.Place.{Place}
 use Rattle.cc_capture.specs.declared.var.Var.{Var}
-use Rattle.cc_capture.specs.Sets.{Set}
 use Rattle.cc_core.specs.Contexts.{entry_of}
-use Rattle.cc_core.specs.Shapes.{CapturingType, capturing}
+use Rattle.cc_core.specs.Shapes.{CapturingType}
 use Rattle.cc_core.specs.Terms.{Note, Absent, Written, Own, Term, Let}
 use Rattle.cc_checking.specs.Avoidance.{Positive, avoided_type}
 use Rattle.cc_checking.specs.Outcomes as plain
@@ -118,7 +117,7 @@ module _ (scene : Scene) (root : ℕ) (at part_at : Place) where
   choice_refused (Written s c) v one two view known before code place e =
       let note : Note = Written s c in
       let k : Unit {0} → List Placed → logs.Logged Result =
-          λ u l. rows.ends (rows.choice_end root scene.context at note v one two) l in
+      λ u l. rows.ends (rows.choice_end root scene.context at note v one two) l in
       branch_refused (branch part_at scene note two.type) (note_cause scene note two.type) (asked_of before) _ k _ code
       place (λ x. choice_cause x scene note one.type.set two.type)
       (because_comes (λ x. x ≡ note_cause scene note two.type) (note_cause scene note two.type) scene.locals _ refl) refl
@@ -128,7 +127,7 @@ module _ (scene : Scene) (root : ℕ) (at part_at : Place) where
   choice_refused (Own s) v one two view known before code place e =
       let note : Note = Own s in
       let k : Unit {0} → List Placed → logs.Logged Result =
-          λ u l. rows.ends (rows.choice_end root scene.context at note v one two) l in
+      λ u l. rows.ends (rows.choice_end root scene.context at note v one two) l in
       branch_refused (branch part_at scene note two.type) (note_cause scene note two.type) (asked_of before) _ k _ code
       place (λ x. choice_cause x scene note one.type.set two.type)
       (because_comes (λ x. x ≡ note_cause scene note two.type) (note_cause scene note two.type) scene.locals _ refl) refl

@@ -1,5 +1,5 @@
 -- The causes of forms without parts, as the program has what their variables are.
-use Rattle.std.proofs.Common.{◌≡◌, ◌⊎◌, inl, inr, true, false, Option, Some, None, refl, sym, ap, subst, ◌∙◌}
+use Rattle.std.proofs.Common.{◌≡◌, inl, inr, Option, Some, refl, sym, ap, subst, ◌∙◌}
 use Rattle.cc_base.specs.declared.code.Code.{Code}
 use Rattle.cc_base.specs.declared.code.Code.TheVariants.{E13, E14}
 use Rattle.cc_base.specs.declared.literal.Base.{Base}
@@ -9,7 +9,6 @@ use Rattle.cc_base.specs.declared.literal.Op.{Op}
 use Rattle.cc_base.specs.declared.place.Place.{Place}
 use Rattle.cc_capture.specs.declared.var.Var.{Var}
 use Rattle.cc_capture.specs.Sets.{Set, empty}
-use Rattle.cc_core.specs.Contexts.{Context}
 use Rattle.cc_core.specs.Shapes.{Shape, BaseShape, CapturingType, capturing}
 use Rattle.cc_core.specs.Terms.{Term, Application, TypeApplication, Unboxing, Primitive, Repetition, Operation, Leave}
 use Rattle.cc_core.specs.Typing.{base_given, base_operated, base_taken, base_answered}
@@ -19,10 +18,9 @@ use Rattle.cc_checking.specs.Outcomes as plain
 use Rattle.cc_checking.specs.Outcomes.{Outcome}
 use Rattle.cc_checking.specs.Inference.{in_context, shape_in, type_in, base_type, variable_type, Function, TypeFunction}
 use Rattle.cc_checking.specs.Inference.{function_head, type_function_head, box_head, exit_head}
-use Rattle.cc_type.specs.Rows.{comparing}
 use Rattle.cc_reasons.specs.Causes.{Scene, Cause, WrongHead, WrongType, WrongShape, NothingThere, TooLarge}
 use Rattle.cc_reasons.specs.Causes.{AFunction, ATypeFunction, ABox, AnExit, ABase}
-use Rattle.cc_reasoning.specs.LeafReasons.{IsCauseIn, IsMatch, IsExposedAs, IsMisplaced, IsOfOperands, opened_under}
+use Rattle.cc_reasoning.specs.LeafReasons.{IsCauseIn, IsExposedAs, IsMisplaced, IsOfOperands, opened_under}
 use Rattle.cc_reasoning.proofs.LeafCauses as causes
 
 -- the same with another code and another cause, which are those

@@ -1,5 +1,5 @@
 -- Which cause a form without parts is refused for, by the code and by what its variables are.
-use Rattle.std.proofs.Common.{◌≡◌, ◌⊎◌, ℕ, Bool, true, false, cond, List, [], ◌∷◌, ◌++◌, map, Option, Some, None}
+use Rattle.std.proofs.Common.{◌≡◌, ℕ, List, Option, Some, None}
 use Rattle.std.proofs.Common.{refl, sym, ap, subst, ◌∙◌}
 use Rattle.cc_base.specs.declared.code.Code.{Code}
 use Rattle.cc_base.specs.declared.code.Code.TheVariants.{E13, E14, E18}
@@ -13,22 +13,22 @@ use Rattle.cc_capture.specs.declared.var.Var.{Var}
 use Rattle.cc_capture.specs.Sets.{Set, empty}
 use Rattle.cc_core.specs.Shapes.{Shape, BaseShape, FunctionShape, TypeFunctionShape, BoxShape, ExitShape, CapturingType, capturing}
 use Rattle.cc_core.specs.Terms.{VariableTerm, LiteralTerm, BoxTerm, Application, TypeApplication, Unboxing, Primitive}
-use Rattle.cc_core.specs.Terms.{Repetition, Operation, Leave, Term}
+use Rattle.cc_core.specs.Terms.{Repetition, Operation, Leave}
 use Rattle.cc_core.specs.Typing.{base_of, base_given, base_operated, base_taken, base_answered}
 use Rattle.cc_core.specs.Places.{Places, spots}
 use Rattle.cc_core.specs.Substitution.{replaced_type, replaced_type_by_shape}
-use Rattle.cc_checking.specs.Comparison.{Demand, Comparison, Unfinished, Mismatch, Matches}
+use Rattle.cc_checking.specs.Comparison.{Demand, Comparison, Mismatch, Matches}
 use Rattle.cc_checking.specs.Exposing.{exposed}
 use Rattle.cc_checking.specs.Outcomes as plain
 use Rattle.cc_checking.specs.Outcomes.{Outcome}
 use Rattle.cc_checking.specs.Inference.{Result, result, in_context, shape_in, type_in, base_type, variable_type, Function}
 use Rattle.cc_checking.specs.Inference.{TypeFunction, function_head, type_function_head, box_head, exit_head, device_head}
-use Rattle.cc_checking.specs.Inference.{compared_at, opening_set, capless, completed_set, below, against, tested}
+use Rattle.cc_checking.specs.Inference.{compared_at, opening_set, capless}
 use Rattle.cc_type.specs.Rows.{comparing, ways}
 use Rattle.cc_reasons.specs.Causes.{Local, Scene, Cause, code_of, WrongHead, WrongType, WrongShape, NothingThere, TooLarge}
 use Rattle.cc_reasons.specs.Causes.{AFunction, ATypeFunction, ABox, AnExit, ABase, Located, Explained, NoAnswer, Refused}
 use Rattle.cc_reasons.specs.Causes.{Found, finds, outcome_of, asked_before, ◌>>=◌, because, unrefused}
-use Rattle.cc_reasons.specs.ExplainedInference.{BinderNames, typed, explained_below, explained_against, explained_operand}
+use Rattle.cc_reasons.specs.ExplainedInference.{BinderNames, typed, explained_operand}
 use Rattle.cc_reasons.specs.ExplainedInference.{explained_argument, explained_size, explained}
 use Rattle.cc_reasoning.specs.LeafReasons.{IsCauseIn, opened_under, IsMisplaced}
 
@@ -148,92 +148,104 @@ module _ (scene : Scene) where
   pub variable_large : (code : Code) (v : Var) (s : CapturingType)
       → variable_type scene.context (in_context scene.context v) ≡ plain.finds s
       → IsCauseIn code scene (VariableTerm v) (TooLarge scene s)
-  variable_large code v s e = record { told = λ root places names at refused.
-      let P : Cause → Type 0 = IsOnly code (TooLarge scene s) in
-      told code (TooLarge scene s) _ at
-      (size_comes P (λ r. r.type ≡ s) places scene _
-      (then_comes P (λ t. t ≡ s) (λ r. r.type ≡ s) (typed scene v) _ (typed_comes P v s e) (λ t is. is))
-      (λ r is c. ap (TooLarge scene) is)) refused }
+  variable_large code v s e = record {
+    told = λ root places names at refused.
+        let P : Cause → Type 0 = IsOnly code (TooLarge scene s) in
+        told code (TooLarge scene s) _ at
+        (size_comes P (λ r. r.type ≡ s) places scene _
+        (then_comes P (λ t. t ≡ s) (λ r. r.type ≡ s) (typed scene v) _ (typed_comes P v s e) (λ t is. is))
+        (λ r is c. ap (TooLarge scene) is)) refused;
+  }
 
   pub literal_large : (code : Code) (l : Literal)
       → IsCauseIn code scene (LiteralTerm l) (TooLarge scene (base_type (base_of l)))
-  literal_large code l = record { told = λ root places names at refused.
-      let type : CapturingType = base_type (base_of l) in
-      told code (TooLarge scene type) _ at
-      (size_comes (IsOnly code (TooLarge scene type)) (λ r. r.type ≡ type) places scene (finds (result type (LiteralTerm l)))
-      refl (λ r is c. ap (TooLarge scene) is)) refused }
+  literal_large code l = record {
+    told = λ root places names at refused.
+        let type : CapturingType = base_type (base_of l) in
+        told code (TooLarge scene type) _ at
+        (size_comes (IsOnly code (TooLarge scene type)) (λ r. r.type ≡ type) places scene (finds (result type (LiteralTerm l)))
+        refl (λ r is c. ap (TooLarge scene) is)) refused;
+  }
 
   pub box_large : (code : Code) (v : Var) (s : CapturingType)
       → variable_type scene.context (in_context scene.context v) ≡ plain.finds s
       → IsCauseIn code scene (BoxTerm v) (TooLarge scene (capturing (BoxShape s.shape s.set) empty))
-  box_large code v s e = record { told = λ root places names at refused.
-      let type : CapturingType → CapturingType = λ t. capturing (BoxShape t.shape t.set) empty in
-      let P : Cause → Type 0 = IsOnly code (TooLarge scene (type s)) in
-      told code (TooLarge scene (type s)) _ at
-      (size_comes P (λ r. r.type ≡ type s) places scene _
-      (then_comes P (λ t. t ≡ s) (λ r. r.type ≡ type s) (typed scene v) _ (typed_comes P v s e) (λ t is. ap type is))
-      (λ r is c. ap (TooLarge scene) is)) refused }
+  box_large code v s e = record {
+    told = λ root places names at refused.
+        let type : CapturingType → CapturingType = λ t. capturing (BoxShape t.shape t.set) empty in
+        let P : Cause → Type 0 = IsOnly code (TooLarge scene (type s)) in
+        told code (TooLarge scene (type s)) _ at
+        (size_comes P (λ r. r.type ≡ type s) places scene _
+        (then_comes P (λ t. t ≡ s) (λ r. r.type ≡ type s) (typed scene v) _ (typed_comes P v s e) (λ t is. ap type is))
+        (λ r is c. ap (TooLarge scene) is)) refused;
+  }
 
   -- applications
   module _ (f a : Var) (s : CapturingType)
       (found : variable_type scene.context (in_context scene.context f) ≡ plain.finds s) where
     pub application_head : IsCauseIn E13 scene (Application f a) (WrongHead scene (exposed scene.context s.shape) AFunction)
-    application_head = record { told = λ root places names at refused.
-        let cause : CapturingType → Cause = λ t. WrongHead scene (exposed scene.context t.shape) AFunction in
-        let P : Cause → Type 0 = IsOnly E13 (cause s) in
-        told E13 (cause s) _ at
-        (size_comes P Any places scene _
-        (then_comes P (λ t. t ≡ s) Any (typed scene f) _ (typed_comes P f s found)
-        (λ applied is. then_comes P Any Any _ _ (because_comes P (cause applied) scene.locals _ (λ c. ap cause is))
-        (λ head h. then_comes P Any Any _ _ (any_typed P a (other_code E13 (cause s) NothingThere mismatch_is_no_head))
-        (λ given g. then_comes P Any Any _ _
-        (because_comes P (WrongType scene given head.takes) scene.locals _
-        (other_code E13 (cause s) (WrongType scene given head.takes) mismatch_is_no_head)) (λ u q. tt)))))
-        (λ r q. other_code E13 (cause s) (TooLarge scene r.type) size_is_no_head)) refused }
+    application_head = record {
+      told = λ root places names at refused.
+          let cause : CapturingType → Cause = λ t. WrongHead scene (exposed scene.context t.shape) AFunction in
+          let P : Cause → Type 0 = IsOnly E13 (cause s) in
+          told E13 (cause s) _ at
+          (size_comes P Any places scene _
+          (then_comes P (λ t. t ≡ s) Any (typed scene f) _ (typed_comes P f s found)
+          (λ applied is. then_comes P Any Any _ _ (because_comes P (cause applied) scene.locals _ (λ c. ap cause is))
+          (λ head h. then_comes P Any Any _ _ (any_typed P a (other_code E13 (cause s) NothingThere mismatch_is_no_head))
+          (λ given g. then_comes P Any Any _ _
+          (because_comes P (WrongType scene given head.takes) scene.locals _
+          (other_code E13 (cause s) (WrongType scene given head.takes) mismatch_is_no_head)) (λ u q. tt)))))
+          (λ r q. other_code E13 (cause s) (TooLarge scene r.type) size_is_no_head)) refused;
+    }
 
     module _ (head : Function)
         (known : (at : Place) → function_head at (exposed scene.context s.shape) ≡ plain.finds head) where
       pub application_mismatch : (t : CapturingType)
           → variable_type scene.context (in_context scene.context a) ≡ plain.finds t
           → IsCauseIn E14 scene (Application f a) (WrongType scene t head.takes)
-      application_mismatch t given = record { told = λ root places names at refused.
-          let cause : Cause = WrongType scene t head.takes in
-          let P : Cause → Type 0 = IsOnly E14 cause in
-          let heads : CapturingType → Outcome Function =
-              λ x. function_head (spots places).first (exposed scene.context x.shape) in
-          told E14 cause _ at
-          (size_comes P Any places scene _
-          (then_comes P (λ x. x ≡ s) Any (typed scene f) _ (typed_comes P f s found)
-          (λ applied is. then_comes P (λ h. h ≡ head) Any _ _
-          (known_comes P _ scene.locals (heads applied) head (ap heads is ∙ known (spots places).first))
-          (λ h same. then_comes P (λ x. x ≡ t) Any _ _ (typed_comes P a t given)
-          (λ x here. then_comes P Any Any _ _
-          (because_comes P (WrongType scene x h.takes) scene.locals _
-          (λ c. ap (λ y. WrongType scene y h.takes) here ∙ ap (λ (y : Function). WrongType scene t y.takes) same))
-          (λ u q. tt)))))
-          (λ r q. other_code E14 cause (TooLarge scene r.type) size_is_no_mismatch)) refused }
+      application_mismatch t given = record {
+        told = λ root places names at refused.
+            let cause : Cause = WrongType scene t head.takes in
+            let P : Cause → Type 0 = IsOnly E14 cause in
+            let heads : CapturingType → Outcome Function =
+            λ x. function_head (spots places).first (exposed scene.context x.shape) in
+            told E14 cause _ at
+            (size_comes P Any places scene _
+            (then_comes P (λ x. x ≡ s) Any (typed scene f) _ (typed_comes P f s found)
+            (λ applied is. then_comes P (λ h. h ≡ head) Any _ _
+            (known_comes P _ scene.locals (heads applied) head (ap heads is ∙ known (spots places).first))
+            (λ h same. then_comes P (λ x. x ≡ t) Any _ _ (typed_comes P a t given)
+            (λ x here. then_comes P Any Any _ _
+            (because_comes P (WrongType scene x h.takes) scene.locals _
+            (λ c. ap (λ y. WrongType scene y h.takes) here ∙ ap (λ (y : Function). WrongType scene t y.takes) same))
+            (λ u q. tt)))))
+            (λ r q. other_code E14 cause (TooLarge scene r.type) size_is_no_mismatch)) refused;
+      }
 
       pub application_large : (code : Code) → (E13 ≡ code → ⊥) → (E14 ≡ code → ⊥)
           → IsCauseIn code scene (Application f a)
           (TooLarge scene (replaced_type (in_context scene.context a) head.gives))
-      application_large code no_head no_mismatch = record { told = λ root places names at refused.
-          let type : Function → CapturingType = λ h. replaced_type (in_context scene.context a) h.gives in
-          let cause : Cause = TooLarge scene (type head) in
-          let P : Cause → Type 0 = IsOnly code cause in
-          let heads : CapturingType → Outcome Function =
-              λ x. function_head (spots places).first (exposed scene.context x.shape) in
-          told code cause _ at
-          (size_comes P (λ r. r.type ≡ type head) places scene _
-          (then_comes P (λ x. x ≡ s) (λ r. r.type ≡ type head) (typed scene f) _ (typed_comes P f s found)
-          (λ applied is. then_comes P (λ h. h ≡ head) (λ r. r.type ≡ type head) _ _
-          (known_comes P _ scene.locals (heads applied) head (ap heads is ∙ known (spots places).first))
-          (λ h same. then_comes P Any (λ r. r.type ≡ type head) _ _
-          (any_typed P a (other_code code cause NothingThere no_mismatch))
-          (λ x here. then_comes P Any (λ r. r.type ≡ type head) _ _
-          (because_comes P (WrongType scene x h.takes) scene.locals _
-          (other_code code cause (WrongType scene x h.takes) no_mismatch))
-          (λ u q. ap type same)))))
-          (λ r is c. ap (TooLarge scene) is)) refused }
+      application_large code no_head no_mismatch = record {
+        told = λ root places names at refused.
+            let type : Function → CapturingType = λ h. replaced_type (in_context scene.context a) h.gives in
+            let cause : Cause = TooLarge scene (type head) in
+            let P : Cause → Type 0 = IsOnly code cause in
+            let heads : CapturingType → Outcome Function =
+            λ x. function_head (spots places).first (exposed scene.context x.shape) in
+            told code cause _ at
+            (size_comes P (λ r. r.type ≡ type head) places scene _
+            (then_comes P (λ x. x ≡ s) (λ r. r.type ≡ type head) (typed scene f) _ (typed_comes P f s found)
+            (λ applied is. then_comes P (λ h. h ≡ head) (λ r. r.type ≡ type head) _ _
+            (known_comes P _ scene.locals (heads applied) head (ap heads is ∙ known (spots places).first))
+            (λ h same. then_comes P Any (λ r. r.type ≡ type head) _ _
+            (any_typed P a (other_code code cause NothingThere no_mismatch))
+            (λ x here. then_comes P Any (λ r. r.type ≡ type head) _ _
+            (because_comes P (WrongType scene x h.takes) scene.locals _
+            (other_code code cause (WrongType scene x h.takes) no_mismatch))
+            (λ u q. ap type same)))))
+            (λ r is c. ap (TooLarge scene) is)) refused;
+      }
 
   -- operands
   pub operand_comes : (P : Cause → Type 0) (at : Place) (v : Var) (s : CapturingType) (shape : Shape)
@@ -274,58 +286,64 @@ module _ (scene : Scene) where
       (found : variable_type scene.context (in_context scene.context f) ≡ plain.finds s) where
     pub type_application_head :
         IsCauseIn E13 scene (TypeApplication f argument) (WrongHead scene (exposed scene.context s.shape) ATypeFunction)
-    type_application_head = record { told = λ root places names at refused.
-        let cause : CapturingType → Cause = λ t. WrongHead scene (exposed scene.context t.shape) ATypeFunction in
-        let P : Cause → Type 0 = IsOnly E13 (cause s) in
-        told E13 (cause s) _ at
-        (size_comes P Any places scene _
-        (then_comes P (λ t. t ≡ s) Any (typed scene f) _ (typed_comes P f s found)
-        (λ applied is. then_comes P Any Any _ _ (because_comes P (cause applied) scene.locals _ (λ c. ap cause is))
-        (λ head h. then_comes P Any Any _ _
-        (because_comes P (WrongShape scene (shape_in scene.context argument) head.bound) scene.locals _
-        (other_code E13 (cause s) (WrongShape scene (shape_in scene.context argument) head.bound) mismatch_is_no_head))
-        (λ u q. tt))))
-        (λ r q. other_code E13 (cause s) (TooLarge scene r.type) size_is_no_head)) refused }
+    type_application_head = record {
+      told = λ root places names at refused.
+          let cause : CapturingType → Cause = λ t. WrongHead scene (exposed scene.context t.shape) ATypeFunction in
+          let P : Cause → Type 0 = IsOnly E13 (cause s) in
+          told E13 (cause s) _ at
+          (size_comes P Any places scene _
+          (then_comes P (λ t. t ≡ s) Any (typed scene f) _ (typed_comes P f s found)
+          (λ applied is. then_comes P Any Any _ _ (because_comes P (cause applied) scene.locals _ (λ c. ap cause is))
+          (λ head h. then_comes P Any Any _ _
+          (because_comes P (WrongShape scene (shape_in scene.context argument) head.bound) scene.locals _
+          (other_code E13 (cause s) (WrongShape scene (shape_in scene.context argument) head.bound) mismatch_is_no_head))
+          (λ u q. tt))))
+          (λ r q. other_code E13 (cause s) (TooLarge scene r.type) size_is_no_head)) refused;
+    }
 
     module _ (head : TypeFunction)
         (known : (at : Place) → type_function_head at (exposed scene.context s.shape) ≡ plain.finds head) where
       pub type_application_mismatch :
           IsCauseIn E14 scene (TypeApplication f argument)
           (WrongShape scene (shape_in scene.context argument) head.bound)
-      type_application_mismatch = record { told = λ root places names at refused.
-          let cause : TypeFunction → Cause = λ h. WrongShape scene (shape_in scene.context argument) h.bound in
-          let P : Cause → Type 0 = IsOnly E14 (cause head) in
-          let heads : CapturingType → Outcome TypeFunction =
-              λ x. type_function_head (spots places).first (exposed scene.context x.shape) in
-          told E14 (cause head) _ at
-          (size_comes P Any places scene _
-          (then_comes P (λ x. x ≡ s) Any (typed scene f) _ (typed_comes P f s found)
-          (λ applied is. then_comes P (λ h. h ≡ head) Any _ _
-          (known_comes P _ scene.locals (heads applied) head (ap heads is ∙ known (spots places).first))
-          (λ h same. then_comes P Any Any _ _ (because_comes P (cause h) scene.locals _ (λ c. ap cause same))
-          (λ u q. tt))))
-          (λ r q. other_code E14 (cause head) (TooLarge scene r.type) size_is_no_mismatch)) refused }
+      type_application_mismatch = record {
+        told = λ root places names at refused.
+            let cause : TypeFunction → Cause = λ h. WrongShape scene (shape_in scene.context argument) h.bound in
+            let P : Cause → Type 0 = IsOnly E14 (cause head) in
+            let heads : CapturingType → Outcome TypeFunction =
+            λ x. type_function_head (spots places).first (exposed scene.context x.shape) in
+            told E14 (cause head) _ at
+            (size_comes P Any places scene _
+            (then_comes P (λ x. x ≡ s) Any (typed scene f) _ (typed_comes P f s found)
+            (λ applied is. then_comes P (λ h. h ≡ head) Any _ _
+            (known_comes P _ scene.locals (heads applied) head (ap heads is ∙ known (spots places).first))
+            (λ h same. then_comes P Any Any _ _ (because_comes P (cause h) scene.locals _ (λ c. ap cause same))
+            (λ u q. tt))))
+            (λ r q. other_code E14 (cause head) (TooLarge scene r.type) size_is_no_mismatch)) refused;
+      }
 
       pub type_application_large : (code : Code) → (E13 ≡ code → ⊥) → (E14 ≡ code → ⊥)
           → IsCauseIn code scene (TypeApplication f argument)
           (TooLarge scene (replaced_type_by_shape (shape_in scene.context argument) head.gives))
-      type_application_large code no_head no_mismatch = record { told = λ root places names at refused.
-          let type : TypeFunction → CapturingType =
-              λ h. replaced_type_by_shape (shape_in scene.context argument) h.gives in
-          let cause : Cause = TooLarge scene (type head) in
-          let P : Cause → Type 0 = IsOnly code cause in
-          let heads : CapturingType → Outcome TypeFunction =
-              λ x. type_function_head (spots places).first (exposed scene.context x.shape) in
-          told code cause _ at
-          (size_comes P (λ r. r.type ≡ type head) places scene _
-          (then_comes P (λ x. x ≡ s) (λ r. r.type ≡ type head) (typed scene f) _ (typed_comes P f s found)
-          (λ applied is. then_comes P (λ h. h ≡ head) (λ r. r.type ≡ type head) _ _
-          (known_comes P _ scene.locals (heads applied) head (ap heads is ∙ known (spots places).first))
-          (λ h same. then_comes P Any (λ r. r.type ≡ type head) _ _
-          (because_comes P (WrongShape scene (shape_in scene.context argument) h.bound) scene.locals _
-          (other_code code cause (WrongShape scene (shape_in scene.context argument) h.bound) no_mismatch))
-          (λ u q. ap type same))))
-          (λ r is c. ap (TooLarge scene) is)) refused }
+      type_application_large code no_head no_mismatch = record {
+        told = λ root places names at refused.
+            let type : TypeFunction → CapturingType =
+            λ h. replaced_type_by_shape (shape_in scene.context argument) h.gives in
+            let cause : Cause = TooLarge scene (type head) in
+            let P : Cause → Type 0 = IsOnly code cause in
+            let heads : CapturingType → Outcome TypeFunction =
+            λ x. type_function_head (spots places).first (exposed scene.context x.shape) in
+            told code cause _ at
+            (size_comes P (λ r. r.type ≡ type head) places scene _
+            (then_comes P (λ x. x ≡ s) (λ r. r.type ≡ type head) (typed scene f) _ (typed_comes P f s found)
+            (λ applied is. then_comes P (λ h. h ≡ head) (λ r. r.type ≡ type head) _ _
+            (known_comes P _ scene.locals (heads applied) head (ap heads is ∙ known (spots places).first))
+            (λ h same. then_comes P Any (λ r. r.type ≡ type head) _ _
+            (because_comes P (WrongShape scene (shape_in scene.context argument) h.bound) scene.locals _
+            (other_code code cause (WrongShape scene (shape_in scene.context argument) h.bound) no_mismatch))
+            (λ u q. ap type same))))
+            (λ r is c. ap (TooLarge scene) is)) refused;
+      }
 
   -- boxes that are opened
   opening_comes : (P : Cause → Type 0) (at : Place) (content : Set) (set : Option Set)
@@ -337,40 +355,44 @@ module _ (scene : Scene) where
   module _ (set : Option Set) (b : Var) (s : CapturingType)
       (found : variable_type scene.context (in_context scene.context b) ≡ plain.finds s) where
     pub unboxing_head : IsCauseIn E13 scene (Unboxing set b) (WrongHead scene (exposed scene.context s.shape) ABox)
-    unboxing_head = record { told = λ root places names at refused.
-        let cause : CapturingType → Cause = λ t. WrongHead scene (exposed scene.context t.shape) ABox in
-        let P : Cause → Type 0 = IsOnly E13 (cause s) in
-        told E13 (cause s) _ at
-        (size_comes P Any places scene _
-        (then_comes P (λ t. t ≡ s) Any (typed scene b) _ (typed_comes P b s found)
-        (λ opened is. then_comes P Any Any _ _ (because_comes P (cause opened) scene.locals _ (λ c. ap cause is))
-        (λ content h. then_comes P _ Any _ _ (opening_comes P (spots places).first content.set set)
-        (λ inside g. then_comes P Any Any (unrefused scene.locals (capless (spots places).second inside)) _ tt
-        (λ u q. tt)))))
-        (λ r q. other_code E13 (cause s) (TooLarge scene r.type) size_is_no_head)) refused }
+    unboxing_head = record {
+      told = λ root places names at refused.
+          let cause : CapturingType → Cause = λ t. WrongHead scene (exposed scene.context t.shape) ABox in
+          let P : Cause → Type 0 = IsOnly E13 (cause s) in
+          told E13 (cause s) _ at
+          (size_comes P Any places scene _
+          (then_comes P (λ t. t ≡ s) Any (typed scene b) _ (typed_comes P b s found)
+          (λ opened is. then_comes P Any Any _ _ (because_comes P (cause opened) scene.locals _ (λ c. ap cause is))
+          (λ content h. then_comes P _ Any _ _ (opening_comes P (spots places).first content.set set)
+          (λ inside g. then_comes P Any Any (unrefused scene.locals (capless (spots places).second inside)) _ tt
+          (λ u q. tt)))))
+          (λ r q. other_code E13 (cause s) (TooLarge scene r.type) size_is_no_head)) refused;
+    }
 
     pub unboxing_large : (content : CapturingType)
         → ((at : Place) → box_head at (exposed scene.context s.shape) ≡ plain.finds content)
         → (code : Code) → (E13 ≡ code → ⊥)
         → IsCauseIn code scene (Unboxing set b)
         (TooLarge scene (capturing content.shape (opened_under scene.context content.set set)))
-    unboxing_large content known code no_head = record { told = λ root places names at refused.
-        let type : CapturingType → CapturingType =
-            λ c. capturing c.shape (opened_under scene.context c.set set) in
-        let cause : Cause = TooLarge scene (type content) in
-        let P : Cause → Type 0 = IsOnly code cause in
-        let heads : CapturingType → Outcome CapturingType =
-            λ x. box_head (spots places).first (exposed scene.context x.shape) in
-        told code cause _ at
-        (size_comes P (λ r. r.type ≡ type content) places scene _
-        (then_comes P (λ x. x ≡ s) (λ r. r.type ≡ type content) (typed scene b) _ (typed_comes P b s found)
-        (λ opened is. then_comes P (λ h. h ≡ content) (λ r. r.type ≡ type content) _ _
-        (known_comes P _ scene.locals (heads opened) content (ap heads is ∙ known (spots places).first))
-        (λ h same. then_comes P _ (λ r. r.type ≡ type content) _ _ (opening_comes P (spots places).first h.set set)
-        (λ inside g. then_comes P Any (λ r. r.type ≡ type content)
-        (unrefused scene.locals (capless (spots places).second inside)) _ tt
-        (λ u q. ap (capturing h.shape) g ∙ ap type same)))))
-        (λ r is c. ap (TooLarge scene) is)) refused }
+    unboxing_large content known code no_head = record {
+      told = λ root places names at refused.
+          let type : CapturingType → CapturingType =
+          λ c. capturing c.shape (opened_under scene.context c.set set) in
+          let cause : Cause = TooLarge scene (type content) in
+          let P : Cause → Type 0 = IsOnly code cause in
+          let heads : CapturingType → Outcome CapturingType =
+          λ x. box_head (spots places).first (exposed scene.context x.shape) in
+          told code cause _ at
+          (size_comes P (λ r. r.type ≡ type content) places scene _
+          (then_comes P (λ x. x ≡ s) (λ r. r.type ≡ type content) (typed scene b) _ (typed_comes P b s found)
+          (λ opened is. then_comes P (λ h. h ≡ content) (λ r. r.type ≡ type content) _ _
+          (known_comes P _ scene.locals (heads opened) content (ap heads is ∙ known (spots places).first))
+          (λ h same. then_comes P _ (λ r. r.type ≡ type content) _ _ (opening_comes P (spots places).first h.set set)
+          (λ inside g. then_comes P Any (λ r. r.type ≡ type content)
+          (unrefused scene.locals (capless (spots places).second inside)) _ tt
+          (λ u q. ap (capturing h.shape) g ∙ ap type same)))))
+          (λ r is c. ap (TooLarge scene) is)) refused;
+    }
 
   -- two operands, and a type that is always found
   module _ (v w : Var) (one two : Shape) (whole : Result) where
@@ -427,24 +449,30 @@ module _ (scene : Scene) where
       → variable_type scene.context (in_context scene.context v) ≡ plain.finds s
       → comparing scene.context s.shape (BaseShape bases.Int) ≡ Mismatch
       → IsCauseIn E14 scene (Primitive operator v w) (WrongShape scene s.shape (BaseShape bases.Int))
-  primitive_left operator v w s found apart = record { told = λ root places names at refused.
-      both_left v w (BaseShape bases.Int) (BaseShape bases.Int)
-      (result (base_type (base_given operator)) (Primitive operator v w)) places at s found apart refused }
+  primitive_left operator v w s found apart = record {
+    told = λ root places names at refused.
+        both_left v w (BaseShape bases.Int) (BaseShape bases.Int)
+        (result (base_type (base_given operator)) (Primitive operator v w)) places at s found apart refused;
+  }
 
   pub primitive_right : (operator : Operator) (v w : Var) (s t : CapturingType) (demands : List Demand)
       → variable_type scene.context (in_context scene.context v) ≡ plain.finds s
       → comparing scene.context s.shape (BaseShape bases.Int) ≡ Matches demands
       → variable_type scene.context (in_context scene.context w) ≡ plain.finds t
       → IsCauseIn E14 scene (Primitive operator v w) (WrongShape scene t.shape (BaseShape bases.Int))
-  primitive_right operator v w s t demands found match other = record { told = λ root places names at refused.
-      both_right v w (BaseShape bases.Int) (BaseShape bases.Int)
-      (result (base_type (base_given operator)) (Primitive operator v w)) places at s t demands found match other refused }
+  primitive_right operator v w s t demands found match other = record {
+    told = λ root places names at refused.
+        both_right v w (BaseShape bases.Int) (BaseShape bases.Int)
+        (result (base_type (base_given operator)) (Primitive operator v w)) places at s t demands found match other refused;
+  }
 
   pub primitive_large : (operator : Operator) (v w : Var) (code : Code) → (E14 ≡ code → ⊥)
       → IsCauseIn code scene (Primitive operator v w) (TooLarge scene (base_type (base_given operator)))
-  primitive_large operator v w code no_mismatch = record { told = λ root places names at refused.
-      both_large v w (BaseShape bases.Int) (BaseShape bases.Int)
-      (result (base_type (base_given operator)) (Primitive operator v w)) places at code no_mismatch refused }
+  primitive_large operator v w code no_mismatch = record {
+    told = λ root places names at refused.
+        both_large v w (BaseShape bases.Int) (BaseShape bases.Int)
+        (result (base_type (base_given operator)) (Primitive operator v w)) places at code no_mismatch refused;
+  }
 
   abbrev pub repeated : Shape
   repeated = FunctionShape (BaseShape bases.Int) empty (BaseShape bases.Unit) empty
@@ -453,24 +481,30 @@ module _ (scene : Scene) where
       → variable_type scene.context (in_context scene.context v) ≡ plain.finds s
       → comparing scene.context s.shape (BaseShape bases.Int) ≡ Mismatch
       → IsCauseIn E14 scene (Repetition v w) (WrongShape scene s.shape (BaseShape bases.Int))
-  repetition_left v w s found apart = record { told = λ root places names at refused.
-      both_left v w (BaseShape bases.Int) repeated (result (base_type bases.Unit) (Repetition v w)) places at s found
-      apart refused }
+  repetition_left v w s found apart = record {
+    told = λ root places names at refused.
+        both_left v w (BaseShape bases.Int) repeated (result (base_type bases.Unit) (Repetition v w)) places at s found
+        apart refused;
+  }
 
   pub repetition_right : (v w : Var) (s t : CapturingType) (demands : List Demand)
       → variable_type scene.context (in_context scene.context v) ≡ plain.finds s
       → comparing scene.context s.shape (BaseShape bases.Int) ≡ Matches demands
       → variable_type scene.context (in_context scene.context w) ≡ plain.finds t
       → IsCauseIn E14 scene (Repetition v w) (WrongShape scene t.shape repeated)
-  repetition_right v w s t demands found match other = record { told = λ root places names at refused.
-      both_right v w (BaseShape bases.Int) repeated (result (base_type bases.Unit) (Repetition v w)) places at s t
-      demands found match other refused }
+  repetition_right v w s t demands found match other = record {
+    told = λ root places names at refused.
+        both_right v w (BaseShape bases.Int) repeated (result (base_type bases.Unit) (Repetition v w)) places at s t
+        demands found match other refused;
+  }
 
   pub repetition_large : (v w : Var) (code : Code) → (E14 ≡ code → ⊥)
       → IsCauseIn code scene (Repetition v w) (TooLarge scene (base_type bases.Unit))
-  repetition_large v w code no_mismatch = record { told = λ root places names at refused.
-      both_large v w (BaseShape bases.Int) repeated (result (base_type bases.Unit) (Repetition v w)) places at code
-      no_mismatch refused }
+  repetition_large v w code no_mismatch = record {
+    told = λ root places names at refused.
+        both_large v w (BaseShape bases.Int) repeated (result (base_type bases.Unit) (Repetition v w)) places at code
+        no_mismatch refused;
+  }
 
   -- operations of devices
   misplaced_comes : (P : Cause → Type 0) (at : Place) (taken : Option Base) (argument : Option Var)
@@ -498,7 +532,7 @@ module _ (scene : Scene) where
         → Comes P Any (explained ways root scene (Operation operation receiver argument) places names)
     operation_steps P R places head step end large root names =
         let cause : CapturingType → Cause =
-            λ t. WrongHead scene (exposed scene.context t.shape) (ABase (base_operated operation)) in
+        λ t. WrongHead scene (exposed scene.context t.shape) (ABase (base_operated operation)) in
         size_comes P R places scene _
         (then_comes P (λ t. t ≡ s) R (typed scene receiver) _ (typed_comes P receiver s found)
         (λ device is. then_comes P Any R _ _
@@ -511,113 +545,127 @@ module _ (scene : Scene) where
     pub operation_head :
         IsCauseIn E13 scene (Operation operation receiver argument)
         (WrongHead scene (exposed scene.context s.shape) (ABase (base_operated operation)))
-    operation_head = record { told = λ root places names at refused.
-        let cause : Cause = WrongHead scene (exposed scene.context s.shape) (ABase (base_operated operation)) in
-        let P : Cause → Type 0 = IsOnly E13 cause in
-        told E13 cause _ at
-        (operation_steps P Any places (λ c. refl)
-        (any_argument P (spots places).second (base_taken operation) argument
-        (other_code E13 cause NothingThere mismatch_is_no_head)
-        (λ x y. other_code E13 cause (WrongShape scene x y) mismatch_is_no_head)) tt
-        (λ r q. other_code E13 cause (TooLarge scene r.type) size_is_no_head) root names) refused }
+    operation_head = record {
+      told = λ root places names at refused.
+          let cause : Cause = WrongHead scene (exposed scene.context s.shape) (ABase (base_operated operation)) in
+          let P : Cause → Type 0 = IsOnly E13 cause in
+          told E13 cause _ at
+          (operation_steps P Any places (λ c. refl)
+          (any_argument P (spots places).second (base_taken operation) argument
+          (other_code E13 cause NothingThere mismatch_is_no_head)
+          (λ x y. other_code E13 cause (WrongShape scene x y) mismatch_is_no_head)) tt
+          (λ r q. other_code E13 cause (TooLarge scene r.type) size_is_no_head) root names) refused;
+    }
 
     pub operation_misplaced : IsMisplaced (base_taken operation) argument
         → IsCauseIn E14 scene (Operation operation receiver argument) NothingThere
-    operation_misplaced misplaced = record { told = λ root places names at refused.
-        let P : Cause → Type 0 = IsOnly E14 NothingThere in
-        let head : Cause = WrongHead scene (exposed scene.context s.shape) (ABase (base_operated operation)) in
-        told E14 NothingThere _ at
-        (operation_steps P Any places (other_code E14 NothingThere head head_is_no_mismatch)
-        (misplaced_comes P (spots places).second (base_taken operation) argument misplaced (λ c. refl)) tt
-        (λ r q. other_code E14 NothingThere (TooLarge scene r.type) size_is_no_mismatch) root names) refused }
+    operation_misplaced misplaced = record {
+      told = λ root places names at refused.
+          let P : Cause → Type 0 = IsOnly E14 NothingThere in
+          let head : Cause = WrongHead scene (exposed scene.context s.shape) (ABase (base_operated operation)) in
+          told E14 NothingThere _ at
+          (operation_steps P Any places (other_code E14 NothingThere head head_is_no_mismatch)
+          (misplaced_comes P (spots places).second (base_taken operation) argument misplaced (λ c. refl)) tt
+          (λ r q. other_code E14 NothingThere (TooLarge scene r.type) size_is_no_mismatch) root names) refused;
+    }
 
     pub operation_mismatch : (base : Base) (v : Var) (t : CapturingType)
         → base_taken operation ≡ Some base → argument ≡ Some v
         → variable_type scene.context (in_context scene.context v) ≡ plain.finds t
         → IsCauseIn E14 scene (Operation operation receiver argument) (WrongShape scene t.shape (BaseShape base))
-    operation_mismatch base v t taken there given = record { told = λ root places names at refused.
-        let cause : Cause = WrongShape scene t.shape (BaseShape base) in
-        let P : Cause → Type 0 = IsOnly E14 cause in
-        let head : Cause = WrongHead scene (exposed scene.context s.shape) (ABase (base_operated operation)) in
-        let step : Comes P Any (explained_argument ways (spots places).second scene (Some base) (Some v)) =
-            operand_comes P (spots places).second v t (BaseShape base) given (λ c. refl) in
-        told E14 cause _ at
-        (operation_steps P Any places (other_code E14 cause head head_is_no_mismatch)
-        (subst (λ x. Comes P Any (explained_argument ways (spots places).second scene (base_taken operation) x))
-        (sym there)
-        (subst (λ x. Comes P Any (explained_argument ways (spots places).second scene x (Some v))) (sym taken) step)) tt
-        (λ r q. other_code E14 cause (TooLarge scene r.type) size_is_no_mismatch) root names) refused }
+    operation_mismatch base v t taken there given = record {
+      told = λ root places names at refused.
+          let cause : Cause = WrongShape scene t.shape (BaseShape base) in
+          let P : Cause → Type 0 = IsOnly E14 cause in
+          let head : Cause = WrongHead scene (exposed scene.context s.shape) (ABase (base_operated operation)) in
+          let step : Comes P Any (explained_argument ways (spots places).second scene (Some base) (Some v)) =
+          operand_comes P (spots places).second v t (BaseShape base) given (λ c. refl) in
+          told E14 cause _ at
+          (operation_steps P Any places (other_code E14 cause head head_is_no_mismatch)
+          (subst (λ x. Comes P Any (explained_argument ways (spots places).second scene (base_taken operation) x))
+          (sym there)
+          (subst (λ x. Comes P Any (explained_argument ways (spots places).second scene x (Some v))) (sym taken) step)) tt
+          (λ r q. other_code E14 cause (TooLarge scene r.type) size_is_no_mismatch) root names) refused;
+    }
 
     pub operation_large : (code : Code) → (E13 ≡ code → ⊥) → (E14 ≡ code → ⊥)
         → IsCauseIn code scene (Operation operation receiver argument)
         (TooLarge scene (base_type (base_answered operation)))
-    operation_large code no_head no_mismatch = record { told = λ root places names at refused.
-        let cause : Cause = TooLarge scene (base_type (base_answered operation)) in
-        let P : Cause → Type 0 = IsOnly code cause in
-        let head : Cause = WrongHead scene (exposed scene.context s.shape) (ABase (base_operated operation)) in
-        told code cause _ at
-        (operation_steps P (λ r. r.type ≡ base_type (base_answered operation)) places
-        (other_code code cause head no_head)
-        (any_argument P (spots places).second (base_taken operation) argument
-        (other_code code cause NothingThere no_mismatch)
-        (λ x y. other_code code cause (WrongShape scene x y) no_mismatch)) refl
-        (λ r is c. ap (TooLarge scene) is) root names) refused }
+    operation_large code no_head no_mismatch = record {
+      told = λ root places names at refused.
+          let cause : Cause = TooLarge scene (base_type (base_answered operation)) in
+          let P : Cause → Type 0 = IsOnly code cause in
+          let head : Cause = WrongHead scene (exposed scene.context s.shape) (ABase (base_operated operation)) in
+          told code cause _ at
+          (operation_steps P (λ r. r.type ≡ base_type (base_answered operation)) places
+          (other_code code cause head no_head)
+          (any_argument P (spots places).second (base_taken operation) argument
+          (other_code code cause NothingThere no_mismatch)
+          (λ x y. other_code code cause (WrongShape scene x y) no_mismatch)) refl
+          (λ r is c. ap (TooLarge scene) is) root names) refused;
+    }
 
   -- exits
   module _ (gives : Shape) (c : Set) (exit value : Var) (s : CapturingType)
       (found : variable_type scene.context (in_context scene.context exit) ≡ plain.finds s) where
     pub leave_head : IsCauseIn E13 scene (Leave gives c exit value) (WrongHead scene (exposed scene.context s.shape) AnExit)
-    leave_head = record { told = λ root places names at refused.
-        let cause : CapturingType → Cause = λ t. WrongHead scene (exposed scene.context t.shape) AnExit in
-        let P : Cause → Type 0 = IsOnly E13 (cause s) in
-        told E13 (cause s) _ at
-        (size_comes P Any places scene _
-        (then_comes P (λ t. t ≡ s) Any (typed scene exit) _ (typed_comes P exit s found)
-        (λ left is. then_comes P Any Any _ _ (because_comes P (cause left) scene.locals _ (λ e. ap cause is))
-        (λ takes h. then_comes P Any Any _ _ (any_typed P value (other_code E13 (cause s) NothingThere mismatch_is_no_head))
-        (λ given g. then_comes P Any Any _ _
-        (because_comes P (WrongType scene given (capturing takes empty)) scene.locals _
-        (other_code E13 (cause s) (WrongType scene given (capturing takes empty)) mismatch_is_no_head)) (λ u q. tt)))))
-        (λ r q. other_code E13 (cause s) (TooLarge scene r.type) size_is_no_head)) refused }
+    leave_head = record {
+      told = λ root places names at refused.
+          let cause : CapturingType → Cause = λ t. WrongHead scene (exposed scene.context t.shape) AnExit in
+          let P : Cause → Type 0 = IsOnly E13 (cause s) in
+          told E13 (cause s) _ at
+          (size_comes P Any places scene _
+          (then_comes P (λ t. t ≡ s) Any (typed scene exit) _ (typed_comes P exit s found)
+          (λ left is. then_comes P Any Any _ _ (because_comes P (cause left) scene.locals _ (λ e. ap cause is))
+          (λ takes h. then_comes P Any Any _ _ (any_typed P value (other_code E13 (cause s) NothingThere mismatch_is_no_head))
+          (λ given g. then_comes P Any Any _ _
+          (because_comes P (WrongType scene given (capturing takes empty)) scene.locals _
+          (other_code E13 (cause s) (WrongType scene given (capturing takes empty)) mismatch_is_no_head)) (λ u q. tt)))))
+          (λ r q. other_code E13 (cause s) (TooLarge scene r.type) size_is_no_head)) refused;
+    }
 
     pub leave_mismatch : (takes : Shape) (t : CapturingType)
         → ((at : Place) → exit_head at (exposed scene.context s.shape) ≡ plain.finds takes)
         → variable_type scene.context (in_context scene.context value) ≡ plain.finds t
         → IsCauseIn E14 scene (Leave gives c exit value) (WrongType scene t (capturing takes empty))
-    leave_mismatch takes t known given = record { told = λ root places names at refused.
-        let cause : Cause = WrongType scene t (capturing takes empty) in
-        let P : Cause → Type 0 = IsOnly E14 cause in
-        let heads : CapturingType → Outcome Shape =
-            λ x. exit_head (spots places).first (exposed scene.context x.shape) in
-        told E14 cause _ at
-        (size_comes P Any places scene _
-        (then_comes P (λ x. x ≡ s) Any (typed scene exit) _ (typed_comes P exit s found)
-        (λ left is. then_comes P (λ h. h ≡ takes) Any _ _
-        (known_comes P _ scene.locals (heads left) takes (ap heads is ∙ known (spots places).first))
-        (λ h same. then_comes P (λ x. x ≡ t) Any _ _ (typed_comes P value t given)
-        (λ x here. then_comes P Any Any _ _
-        (because_comes P (WrongType scene x (capturing h empty)) scene.locals _
-        (λ e. ap (λ y. WrongType scene y (capturing h empty)) here
-        ∙ ap (λ y. WrongType scene t (capturing y empty)) same))
-        (λ u q. tt)))))
-        (λ r q. other_code E14 cause (TooLarge scene r.type) size_is_no_mismatch)) refused }
+    leave_mismatch takes t known given = record {
+      told = λ root places names at refused.
+          let cause : Cause = WrongType scene t (capturing takes empty) in
+          let P : Cause → Type 0 = IsOnly E14 cause in
+          let heads : CapturingType → Outcome Shape =
+          λ x. exit_head (spots places).first (exposed scene.context x.shape) in
+          told E14 cause _ at
+          (size_comes P Any places scene _
+          (then_comes P (λ x. x ≡ s) Any (typed scene exit) _ (typed_comes P exit s found)
+          (λ left is. then_comes P (λ h. h ≡ takes) Any _ _
+          (known_comes P _ scene.locals (heads left) takes (ap heads is ∙ known (spots places).first))
+          (λ h same. then_comes P (λ x. x ≡ t) Any _ _ (typed_comes P value t given)
+          (λ x here. then_comes P Any Any _ _
+          (because_comes P (WrongType scene x (capturing h empty)) scene.locals _
+          (λ e. ap (λ y. WrongType scene y (capturing h empty)) here
+          ∙ ap (λ y. WrongType scene t (capturing y empty)) same))
+          (λ u q. tt)))))
+          (λ r q. other_code E14 cause (TooLarge scene r.type) size_is_no_mismatch)) refused;
+    }
 
     pub leave_large : (code : Code) → (E13 ≡ code → ⊥) → (E14 ≡ code → ⊥)
         → IsCauseIn code scene (Leave gives c exit value) (TooLarge scene (type_in scene.context (capturing gives c)))
-    leave_large code no_head no_mismatch = record { told = λ root places names at refused.
-        let type : CapturingType = type_in scene.context (capturing gives c) in
-        let cause : Cause = TooLarge scene type in
-        let P : Cause → Type 0 = IsOnly code cause in
-        told code cause _ at
-        (size_comes P (λ r. r.type ≡ type) places scene _
-        (then_comes P (λ x. x ≡ s) (λ r. r.type ≡ type) (typed scene exit) _ (typed_comes P exit s found)
-        (λ left is. then_comes P Any (λ r. r.type ≡ type) _ _
-        (because_comes P (WrongHead scene (exposed scene.context left.shape) AnExit) scene.locals _
-        (other_code code cause (WrongHead scene (exposed scene.context left.shape) AnExit) no_head))
-        (λ h same. then_comes P Any (λ r. r.type ≡ type) _ _
-        (any_typed P value (other_code code cause NothingThere no_mismatch))
-        (λ x here. then_comes P Any (λ r. r.type ≡ type) _ _
-        (because_comes P (WrongType scene x (capturing h empty)) scene.locals _
-        (other_code code cause (WrongType scene x (capturing h empty)) no_mismatch))
-        (λ u q. refl)))))
-        (λ r is e. ap (TooLarge scene) is)) refused }
+    leave_large code no_head no_mismatch = record {
+      told = λ root places names at refused.
+          let type : CapturingType = type_in scene.context (capturing gives c) in
+          let cause : Cause = TooLarge scene type in
+          let P : Cause → Type 0 = IsOnly code cause in
+          told code cause _ at
+          (size_comes P (λ r. r.type ≡ type) places scene _
+          (then_comes P (λ x. x ≡ s) (λ r. r.type ≡ type) (typed scene exit) _ (typed_comes P exit s found)
+          (λ left is. then_comes P Any (λ r. r.type ≡ type) _ _
+          (because_comes P (WrongHead scene (exposed scene.context left.shape) AnExit) scene.locals _
+          (other_code code cause (WrongHead scene (exposed scene.context left.shape) AnExit) no_head))
+          (λ h same. then_comes P Any (λ r. r.type ≡ type) _ _
+          (any_typed P value (other_code code cause NothingThere no_mismatch))
+          (λ x here. then_comes P Any (λ r. r.type ≡ type) _ _
+          (because_comes P (WrongType scene x (capturing h empty)) scene.locals _
+          (other_code code cause (WrongType scene x (capturing h empty)) no_mismatch))
+          (λ u q. refl)))))
+          (λ r is e. ap (TooLarge scene) is)) refused;
+    }

@@ -1,6 +1,6 @@
 -- A located log is the log where the local variables are dropped, and each step fills it with those of its scene.
 use Rattle.std.proofs.Common.{◌≡◌, ℕ, suc, ◌+◌, ◌-◌, ◌<◌, Bool, true, false, cond, List, [], ◌∷◌, ◌++◌, map, length, replicate}
-use Rattle.std.proofs.Common.{refl, sym, ap, subst, ◌∙◌, append_assoc, arith, length-append}
+use Rattle.std.proofs.Common.{refl, sym, ap, ◌∙◌, append_assoc, arith, length-append}
 use Rattle.cc_base.specs.declared.code.Code.{Code}
 use Rattle.cc_base.specs.declared.place.Place.{Place}
 use Rattle.cc_checking.specs.Outcomes as plain
@@ -8,10 +8,10 @@ use Rattle.cc_checking.specs.Outcomes.{Outcome, Placed}
 use Rattle.cc_known.specs.Keeping as kept
 use Rattle.cc_known.specs.Keeping.{is_needless}
 use Rattle.cc_known.specs.Logs as logs
-use Rattle.cc_reasons.specs.Causes.{Local, Cause, code_of, Located, located, Explained, NoAnswer, Refused, Found, finds}
+use Rattle.cc_reasons.specs.Causes.{Local, Cause, code_of, Located, located, Explained, NoAnswer, Refused, Found}
 use Rattle.cc_reasons.specs.Causes.{outcome_of, asked_before, ◌>>=◌, because}
 use Rattle.cc_reasons.specs.DefinitionReasons.{placed_of}
-use Rattle.cc_reasoning.specs.LocatedLogs.{with_one, keeping, Reached, Lost, Stopped, Got, after, followed, ends, directly}
+use Rattle.cc_reasoning.specs.LocatedLogs.{with_one, keeping, Stopped, Got, after}
 use Rattle.cc_reasoning.specs.LocatedLogs.{beside}
 
 -- what is asked, without the local variables
@@ -67,14 +67,14 @@ adds locals (first ∷ asked) list = by_test (adds locals asked) (is_needless (p
         → is_needless (placed_of list) first.asked ≡ b → Adds locals list (first ∷ asked)
     by_test rest true is =
         let same : with_one list (located locals first) ≡ list =
-            ap (λ t. cond t list (list ++ located locals first ∷ [])) is in
+        ap (λ t. cond t list (list ++ located locals first ∷ [])) is in
         let later = rest list in record {
           more = later.more;
           grows = ap (λ l. keeping l (map (located locals) asked)) same ∙ later.grows;
         }
     by_test rest false is =
         let same : with_one list (located locals first) ≡ list ++ located locals first ∷ [] =
-            ap (λ t. cond t list (list ++ located locals first ∷ [])) is in
+        ap (λ t. cond t list (list ++ located locals first ∷ [])) is in
         let later = rest (list ++ located locals first ∷ []) in record {
           more = first ∷ later.more;
           grows = ap (λ l. keeping l (map (located locals) asked)) same ∙ later.grows
@@ -141,23 +141,23 @@ found_step locals known before later value (Found found asked) even here is =
     let placed : placed_of list ≡ before = placed_of-beside before known in
     let grown = adds locals (placed_of asked) list in
     let keeps : keeping list asked ≡ list ++ map (located locals) grown.more =
-        ap (keeping list) here ∙ grown.grows in
+    ap (keeping list) here ∙ grown.grows in
     let told : logs.Got found (kept.keeping before (placed_of asked)) ≡ logs.Got value later = is in
     let same : found ≡ value = cc in
     let log : kept.keeping before (placed_of asked) ≡ later = cc in
     let ends_so : later ≡ before ++ grown.more =
-        sym log ∙ ap (λ l. kept.keeping l (placed_of asked)) (sym placed) ∙ sym (placed_of-keeping list asked)
-        ∙ ap placed_of keeps ∙ placed_of-append list (map (located locals) grown.more)
-        ∙ ap (λ l. l ++ placed_of (map (located locals) grown.more)) placed
-        ∙ ap (λ l. before ++ l) (placed_of-located locals grown.more) in
+    sym log ∙ ap (λ l. kept.keeping l (placed_of asked)) (sym placed) ∙ sym (placed_of-keeping list asked)
+    ∙ ap placed_of keeps ∙ placed_of-append list (map (located locals) grown.more)
+    ∙ ap (λ l. l ++ placed_of (map (located locals) grown.more)) placed
+    ∙ ap (λ l. before ++ l) (placed_of-located locals grown.more) in
     let count : length later - length known ≡ length grown.more =
-        omega (arith, even, ap length ends_so, length-append before grown.more) in
+    omega (arith, even, ap length ends_so, length-append before grown.more) in
     let whole : beside later (known ++ replicate (length later - length known) locals)
-        ≡ list ++ map (located locals) grown.more =
-        ap (λ n. beside later (known ++ replicate n locals)) count
-        ∙ ap (λ l. beside l (known ++ replicate (length grown.more) locals)) ends_so
-        ∙ beside-append before grown.more known (replicate (length grown.more) locals) even
-        ∙ ap (λ l. list ++ l) (beside-replicate locals grown.more) in
+    ≡ list ++ map (located locals) grown.more =
+    ap (λ n. beside later (known ++ replicate n locals)) count
+    ∙ ap (λ l. beside l (known ++ replicate (length grown.more) locals)) ends_so
+    ∙ beside-append before grown.more known (replicate (length grown.more) locals) even
+    ∙ ap (λ l. list ++ l) (beside-replicate locals grown.more) in
     ap (λ v. Got v (keeping list asked)) same ∙ ap (Got value) (keeps ∙ sym whole)
 
 -- a step that was refused
@@ -189,7 +189,7 @@ pub filled_more : {A B : Type 0} (view : A → B) (known next : List A) (x : A) 
 filled_more view known next x y count whole is same room before =
     let longer : length next ≡ length known + 1 = ap length is ∙ length-append known (x ∷ []) in
     let fewer : replicate (count - length known) y ≡ y ∷ replicate (count - length next) y =
-        one_fewer (count - length known) (count - length next) y (omega (arith, room, longer)) in
+    one_fewer (count - length known) (count - length next) y (omega (arith, room, longer)) in
     ap (λ l. l ++ replicate (count - length next) y) (ap (map view) is ∙ map_last view known x)
     ∙ append_assoc (map view known) (view x ∷ []) (replicate (count - length next) y)
     ∙ ap (λ v. map view known ++ v ∷ replicate (count - length next) y) same

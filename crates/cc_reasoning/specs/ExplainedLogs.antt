@@ -1,6 +1,6 @@
 -- Inference that tells why it refuses, as the program goes through it, where a step that asks something goes on from the
 -- log of those before. What stands here is explained inference again, and serves proofs alone.
-use Rattle.std.specs.Prelude.{ℕ, List, ◌∷◌, length, Option, Some, None}
+use Rattle.std.specs.Prelude.{ℕ, List, length, Option, Some, None}
 use Rattle.cc_base.specs.declared.code.Code.{Code}
 use Rattle.cc_base.specs.declared.code.Code.TheVariants.{E14}
 use Rattle.cc_base.specs.declared.literal.Base.TheVariants as bases
@@ -16,7 +16,7 @@ use Rattle.cc_core.specs.Places.{Spots, Places, spots, first_part, second_part}
 use Rattle.cc_checking.specs.Inference.{Result, result, shape_in, type_in, Named, tested, function_found}
 use Rattle.cc_checking.specs.Inference.{type_function_found, choice_found, exit_entry}
 use Rattle.cc_type.specs.Rows.{ways}
-use Rattle.cc_reasons.specs.Causes.{Located, Scene, under, Cause, WrongType, WrongShape, NothingThere, TooLarge, Unavoidable, Explained, NoAnswer, Refused, finds, because}
+use Rattle.cc_reasons.specs.Causes.{Located, Scene, under, Cause, WrongType, WrongShape, NothingThere, TooLarge, Unavoidable, Explained, NoAnswer, Refused, because}
 use Rattle.cc_reasons.specs.ExplainedInference.{BinderNames, first_names, second_names, bound_at, explained_below}
 use Rattle.cc_reasons.specs.ExplainedInference.{explained_against, explained_operand, explained_note, explained_leaving}
 use Rattle.cc_reasons.specs.ExplainedInference.{explained}

@@ -1,11 +1,8 @@
 -- A log that says of each thing that is kept which the local variables are where it is asked. Whether it is kept depends on
 -- what is asked alone.
-use Rattle.std.specs.Prelude.{◌≡◌, List, [], ◌∷◌, ◌++◌, map, length, Result, Ok, Err, if◌then◌else◌}
-use Rattle.std.specs.declared.rc.Rc.{Rc}
+use Rattle.std.specs.Prelude.{◌≡◌, List, [], ◌∷◌, ◌++◌, Result, Ok, Err, if◌then◌else◌}
 use Rattle.cc_base.specs.declared.place.Place.{Place}
 use Rattle.cc_checking.specs.Outcomes.{Placed}
-use Rattle.cc_subty.specs.declared.demands.Demand.{Demand as DeclaredDemand}
-use Rattle.cc_subty.specs.Demands.{asked_of}
 use Rattle.cc_known.specs.Keeping.{is_needless}
 use Rattle.cc_reasons.specs.Causes.{Local, Cause, Located, located, Explained, NoAnswer, Refused, Found, finds}
 use Rattle.cc_reasons.specs.DefinitionReasons.{placed_of}

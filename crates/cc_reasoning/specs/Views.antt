@@ -3,6 +3,7 @@ use Rattle.std.specs.Prelude.{List, [], ◌∷◌}
 use Rattle.cc_core.specs.TermViews.{shape_of, type_of, context_of}
 use Rattle.cc_reasons.specs.Causes as plain
 use Rattle.cc_reasons.specs.Causes.{Local, Scene, Head, Cause}
+use Rattle.cc_reasons.specs.DefinitionReasons.{DefinitionReason, OfStep, NotBelow, WithCap}
 use Rattle.cc_reasons.specs.ExplainedInference as names
 use Rattle.cc_reasons.specs.ExplainedInference.{BinderNames}
 use Rattle.cc_reasoning.specs.declared.reason.Local.{Local as DeclaredLocal}
@@ -15,6 +16,8 @@ use Rattle.cc_reasoning.specs.declared.reason.Head.{Head as DeclaredHead}
 use Rattle.cc_reasoning.specs.declared.reason.Head.TheVariants as heads
 use Rattle.cc_reasoning.specs.declared.reason.Cause.{Cause as DeclaredCause}
 use Rattle.cc_reasoning.specs.declared.reason.Cause.TheVariants as causes
+use Rattle.cc_reasoning.specs.declared.reason.DefinitionReason.{DefinitionReason as DeclaredReason}
+use Rattle.cc_reasoning.specs.declared.reason.DefinitionReason.TheVariants as reasons
 
 -- the local variable
 abbrev pub local_of : DeclaredLocal → Local
@@ -54,3 +57,9 @@ cause_of (causes.WrongShape scene found wanted) =
 cause_of causes.NothingThere = plain.NothingThere
 cause_of (causes.Unavoidable scene position type) = plain.Unavoidable (scene_of scene) position (type_of type)
 cause_of (causes.TooLarge scene type) = plain.TooLarge (scene_of scene) (type_of type)
+
+-- why a definition is refused
+abbrev pub reason_of : DeclaredReason → DefinitionReason
+reason_of (reasons.OfStep cause) = OfStep (cause_of cause.value)
+reason_of (reasons.NotBelow scene left right) = NotBelow (scene_of scene) left right
+reason_of (reasons.WithCap locals set) = WithCap (locals_of locals.value) set

@@ -115,7 +115,15 @@ fn plain_steps(
     ensures even { IfOk result (λ _. length known.new.items ≡ length log.new.demands) }
 {
     let found = explain_right(alloc, scene, measures, &def.right, binders, log, known)?;
-    let named = name_right(alloc, scene, &def.note, &found.ty, place_of(&def.right), log, known)?;
+    let named = name_right(
+        alloc,
+        scene,
+        &def.note,
+        &found.ty,
+        place_of(&def.right),
+        log,
+        known,
+    )?;
     Ok(Checking {
         note: named.note,
         completed: found.node,

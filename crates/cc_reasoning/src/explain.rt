@@ -136,7 +136,9 @@ fn explain_form(
             let one = explain(alloc, scene, root, measures, right, first, log, known)?;
             let at = place_of(right);
             let named = name(alloc, scene, root, note, &one.ty, at, log, known)?;
-            let inner = body_scene(alloc, scene, root, measures, &named.ty, body, binders, node.first)?;
+            let inner = body_scene(
+                alloc, scene, root, measures, &named.ty, body, binders, node.first,
+            )?;
             let two = explain(alloc, &inner, root, measures, body, second, log, known)?;
             let found = let_last(alloc, scene, &inner, node, binders, named, one, two)?;
             Ok(found)

@@ -41,11 +41,7 @@ pub(crate) fn shape_of_variable(
 }
 
 /// The type of such a variable.
-pub(crate) fn type_of_variable(
-    alloc: Global,
-    ctx: &Ctx,
-    variable: Var,
-) -> Result<Ty, AllocError>
+pub(crate) fn type_of_variable(alloc: Global, ctx: &Ctx, variable: Var) -> Result<Ty, AllocError>
     ensures { IfOk result (λ t. plain.variable_type (context_of ctx.now) (plain.in_context (context_of ctx.now) variable) ≡ finds (type_of t)) }
 {
     match variable_type(alloc, ctx, in_context(ctx, variable)) {

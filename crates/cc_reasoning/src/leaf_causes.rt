@@ -33,7 +33,12 @@ use std::alloc::{AllocError, Global};
 use std::rc::Rc;
 
 // A variable is refused for its size alone.
-fn variable_cause(alloc: Global, scene: &Scene, variable: Var, code: Code) -> Result<Cause, AllocError>
+fn variable_cause(
+    alloc: Global,
+    scene: &Scene,
+    variable: Var,
+    code: Code,
+) -> Result<Cause, AllocError>
     ensures { IfOk result (λ c. IsCauseIn code (scene_of scene.now) (VariableTerm variable) (cause_of c)) }
 {
     let ty = type_of_variable(alloc, &scene.ctx, variable)?;
@@ -42,7 +47,12 @@ fn variable_cause(alloc: Global, scene: &Scene, variable: Var, code: Code) -> Re
 }
 
 // So is a literal, which never is.
-fn literal_cause(alloc: Global, scene: &Scene, literal: &Lit, code: Code) -> Result<Cause, AllocError>
+fn literal_cause(
+    alloc: Global,
+    scene: &Scene,
+    literal: &Lit,
+    code: Code,
+) -> Result<Cause, AllocError>
     ensures { IfOk result (λ c. IsCauseIn code (scene_of scene.now) (LiteralTerm (literal_of literal.now)) (cause_of c)) }
 {
     let ty = base_type(alloc, base_of(literal))?;

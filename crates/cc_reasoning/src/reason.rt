@@ -7,6 +7,7 @@ ghost use Rattle.cc_reasoning.specs.Views.{local_of, locals_of, binder_names_of}
 use cc_base::literal::Base;
 use cc_base::name::Name;
 use cc_base::place::Place;
+use cc_capture::CapSet;
 use cc_core::{Ctx, Shape, Ty};
 use std::alloc::{AllocError, AllocFailed, Global};
 use std::rc::Rc;
@@ -96,6 +97,31 @@ pub enum Cause {
     },
 }
 
+/// Why a definition is refused.
+#[derive(Drop)]
+pub enum DefinitionReason {
+    /// A step of inference is.
+    OfStep(Rc<Cause>),
+    /// Under the least filling a set is not below another in the scene.
+    NotBelow {
+        scene: Scene,
+        left: CapSet,
+        right: CapSet,
+    },
+    /// Under the least filling a set has the universal capability.
+    WithCap {
+        locals: Rc<Locals>,
+        set: CapSet,
+    },
+}
+
+/// A reason, and the place where a definition is refused for it.
+#[derive(Drop)]
+pub struct Reasoned {
+    pub reason: DefinitionReason,
+    pub at: Place,
+}
+
 /// Why explaining stops before its end.
 #[derive(Drop)]
 pub enum Halt {
@@ -142,11 +168,7 @@ impl Clone for Scene {
 }
 
 /// The local variables with one more, the newest. The others are shared.
-pub fn with_local(
-    alloc: Global,
-    local: Local,
-    older: &Rc<Locals>,
-) -> Result<Rc<Locals>, AllocError>
+pub fn with_local(alloc: Global, local: Local, older: &Rc<Locals>) -> Result<Rc<Locals>, AllocError>
     ensures { IfOk result (λ l. locals_of l.value ≡ local_of local ∷ locals_of older.now.value) }
 {
     let older = older.clone()?;

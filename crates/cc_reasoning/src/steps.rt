@@ -81,7 +81,12 @@ pub(crate) fn leaf(
 }
 
 /// Why a type does not match what is written for it.
-pub(crate) fn cause_of_note(alloc: Global, scene: &Scene, note: &Note, ty: &Ty) -> Result<Cause, AllocError>
+pub(crate) fn cause_of_note(
+    alloc: Global,
+    scene: &Scene,
+    note: &Note,
+    ty: &Ty,
+) -> Result<Cause, AllocError>
     ensures { IfOk result (λ c. cause_of c ≡ note_cause (scene_of scene.now) (note_of note.now) (type_of ty.now)) }
 {
     match note {

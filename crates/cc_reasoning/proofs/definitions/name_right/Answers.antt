@@ -1,4 +1,4 @@
-use Rattle.std.proofs.Common.{◌≡◌, map, ◌∙◌, sym, subst}
+use Rattle.std.proofs.Common.{map, ◌∙◌, sym, subst}
 use Rattle.std.proofs.lemmas.List.{length-map}
 use Rattle.cc_core.specs.TermViews.{bind_of, type_of, note_of, context_of}
 use Rattle.cc_subty.specs.Demands.{asked_of}

@@ -1,4 +1,4 @@
-use Rattle.std.proofs.Common.{◌≡◌, map, subst}
+use Rattle.std.proofs.Common.{map, subst}
 use Rattle.cc_core.specs.Places.{places_of}
 use Rattle.cc_core.specs.TermViews.{term_of, context_of}
 use Rattle.cc_subty.specs.Demands.{asked_of}

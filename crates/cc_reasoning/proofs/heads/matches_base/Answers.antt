@@ -1,4 +1,4 @@
-use Rattle.std.proofs.Common.{◌≡◌, ap, subst, Err}
+use Rattle.std.proofs.Common.{subst, Err}
 use Rattle.cc_core.specs.Shapes.{BaseShape}
 use Rattle.cc_core.specs.TermViews.{context_of}
 use Rattle.cc_subty.specs.Demands.{asked_of}

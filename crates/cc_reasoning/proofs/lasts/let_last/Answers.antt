@@ -1,16 +1,12 @@
-use Rattle.std.proofs.Common.{◌≡◌, Err, length, refl, sym, ap, subst, ◌∙◌}
-use Rattle.cc_core.specs.TermViews.{shape_of, type_of, note_of, term_of, context_of}
+use Rattle.std.proofs.Common.{Err, length, sym, ap, subst, ◌∙◌}
+use Rattle.cc_core.specs.TermViews.{type_of}
 use Rattle.cc_checking.specs.Avoidance.{Positive, avoided_type}
-use Rattle.cc_core.specs.Shapes.{CapturingType}
-use Rattle.cc_subty.specs.Demands.{asked_of}
 use Rattle.cc_known.specs.Logs as logs
 use Rattle.cc_known.specs.Parts.{found_of, named_of}
 use Rattle.cc_type.specs.Rows as rows
 use Rattle.cc_reasons.specs.Causes.{Refused}
-use Rattle.cc_reasoning.specs.declared.reason.Cause.{Cause as DeclaredCause}
-use Rattle.cc_reasoning.specs.ExplainedLogs.{let_cause, choice_cause}
-use Rattle.cc_reasoning.specs.LocatedLogs.{Stopped}
-use Rattle.cc_reasoning.specs.Views.{locals_of, scene_of, binder_names_of, cause_of}
+use Rattle.cc_reasoning.specs.ExplainedLogs.{let_cause}
+use Rattle.cc_reasoning.specs.Views.{scene_of, binder_names_of, cause_of}
 use Rattle.cc_reasoning.proofs.LastSteps as last
 use Rattle.cc_reasoning.proofs.lasts.let_last.Goals as goal
 

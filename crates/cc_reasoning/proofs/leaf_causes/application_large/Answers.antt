@@ -1,16 +1,11 @@
-use Rattle.std.proofs.Common.{◌≡◌, refl, sym, ap, subst, ◌∙◌, inl, inr, rules}
-use Rattle.cc_core.specs.TermViews.{shape_of, type_of, context_of}
+use Rattle.std.proofs.Common.{sym, ap, ◌∙◌}
+use Rattle.cc_core.specs.TermViews.{shape_of, type_of}
 use Rattle.cc_core.specs.declared.types.Shape.{Shape}
 use Rattle.cc_core.specs.declared.types.Ty.{Ty}
-use Rattle.cc_checking.specs.Inference.{function_head, type_function_head, box_head, exit_head, base_type, shape_in, type_in, in_context}
-use Rattle.cc_core.specs.Shapes.{CapturingType, capturing}
-use Rattle.cc_capture.specs.Sets.{Set, empty}
-use Rattle.cc_core.specs.Reading.{read_shape, read_type}
-use Rattle.cc_core.specs.Substitution.{replaced_type, replaced_type_by_shape}
-use Rattle.cc_core.specs.Typing.{base_operated}
-use Rattle.cc_reasons.specs.Causes.{WrongHead, WrongType, WrongShape, TooLarge, ABase}
+use Rattle.cc_checking.specs.Inference.{function_head}
+use Rattle.cc_core.specs.Substitution.{replaced_type}
+use Rattle.cc_reasons.specs.Causes.{TooLarge}
 use Rattle.cc_reasoning.specs.Views.{scene_of, cause_of}
-use Rattle.cc_reasoning.specs.LeafReasons.{opened_under}
 use Rattle.cc_reasoning.proofs.LeafAnswers as answers
 use Rattle.cc_reasoning.proofs.leaf_causes.application_large.Goals as goal
 
@@ -27,4 +22,3 @@ returns c =
     (c.in_ok-cause.ensures ∙ ap (TooLarge scene)
     (c.in_ok-ty.ensures ∙ ap (λ (t : Ty). replaced_type c.in_context.result (type_of t)) c.deref-2.ensures
     ∙ ap (λ v. replaced_type v gives) c.in_context.ensures))
-

@@ -2,9 +2,9 @@ use Rattle.std.proofs.Common.{◌≡◌, sym, ap, subst, ◌∙◌, rules}
 use Rattle.cc_capture.specs.Sets.{empty}
 use Rattle.cc_core.specs.Shapes.{BoxShape, capturing}
 use Rattle.cc_core.specs.Terms.{BoxTerm}
-use Rattle.cc_core.specs.TermViews.{shape_of, type_of, context_of}
+use Rattle.cc_core.specs.TermViews.{type_of}
 use Rattle.cc_reasons.specs.Causes.{TooLarge}
-use Rattle.cc_reasoning.specs.Views.{scene_of, cause_of}
+use Rattle.cc_reasoning.specs.Views.{scene_of}
 use Rattle.cc_reasoning.specs.LeafReasons.{IsCauseIn}
 use Rattle.cc_reasoning.proofs.LeafCauses.{box_large}
 use Rattle.cc_reasoning.proofs.leaf_causes.box_cause.Goals as goal

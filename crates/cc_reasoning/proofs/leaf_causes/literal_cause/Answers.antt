@@ -1,8 +1,7 @@
 use Rattle.std.proofs.Common.{sym, ap, subst, ◌∙◌}
 use Rattle.cc_base.specs.Literals.{literal_of}
 use Rattle.cc_core.specs.Terms.{LiteralTerm}
-use Rattle.cc_core.specs.TermViews.{shape_of, type_of, context_of}
-use Rattle.cc_reasoning.specs.Views.{scene_of, cause_of}
+use Rattle.cc_reasoning.specs.Views.{scene_of}
 use Rattle.cc_checking.specs.Inference.{base_type}
 use Rattle.cc_reasons.specs.Causes.{TooLarge}
 use Rattle.cc_reasoning.specs.LeafReasons.{IsCauseIn}

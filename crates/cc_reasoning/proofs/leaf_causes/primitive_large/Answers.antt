@@ -1,16 +1,7 @@
-use Rattle.std.proofs.Common.{◌≡◌, refl, sym, ap, subst, ◌∙◌, inl, inr, rules}
-use Rattle.cc_core.specs.TermViews.{shape_of, type_of, context_of}
-use Rattle.cc_core.specs.declared.types.Shape.{Shape}
-use Rattle.cc_core.specs.declared.types.Ty.{Ty}
-use Rattle.cc_checking.specs.Inference.{function_head, type_function_head, box_head, exit_head, base_type, shape_in, type_in, in_context}
-use Rattle.cc_core.specs.Shapes.{CapturingType, capturing}
-use Rattle.cc_capture.specs.Sets.{Set, empty}
-use Rattle.cc_core.specs.Reading.{read_shape, read_type}
-use Rattle.cc_core.specs.Substitution.{replaced_type, replaced_type_by_shape}
-use Rattle.cc_core.specs.Typing.{base_operated}
-use Rattle.cc_reasons.specs.Causes.{WrongHead, WrongType, WrongShape, TooLarge, ABase}
+use Rattle.std.proofs.Common.{ap, ◌∙◌}
+use Rattle.cc_checking.specs.Inference.{base_type}
+use Rattle.cc_reasons.specs.Causes.{TooLarge}
 use Rattle.cc_reasoning.specs.Views.{scene_of, cause_of}
-use Rattle.cc_reasoning.specs.LeafReasons.{opened_under}
 use Rattle.cc_reasoning.proofs.LeafAnswers as answers
 use Rattle.cc_reasoning.proofs.leaf_causes.primitive_large.Goals as goal
 
@@ -20,4 +11,3 @@ returns c =
     let cause = cause_of c.in_ok-cause.cause in
     answers.primitive_large scene c.args.left c.args.right c.args.code cause c.args.operator c.requires.no_mismatch
     (c.in_ok-cause.ensures ∙ ap (TooLarge scene) (c.in_ok-ty.ensures ∙ ap base_type c.base_given.ensures))
-

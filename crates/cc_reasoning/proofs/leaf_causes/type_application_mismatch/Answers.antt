@@ -1,16 +1,10 @@
-use Rattle.std.proofs.Common.{◌≡◌, refl, sym, ap, subst, ◌∙◌, inl, inr, rules}
-use Rattle.cc_core.specs.TermViews.{shape_of, type_of, context_of}
+use Rattle.std.proofs.Common.{sym, ap, ◌∙◌}
+use Rattle.cc_core.specs.TermViews.{shape_of, type_of}
 use Rattle.cc_core.specs.declared.types.Shape.{Shape}
-use Rattle.cc_core.specs.declared.types.Ty.{Ty}
-use Rattle.cc_checking.specs.Inference.{function_head, type_function_head, box_head, exit_head, base_type, shape_in, type_in, in_context}
-use Rattle.cc_core.specs.Shapes.{CapturingType, capturing}
-use Rattle.cc_capture.specs.Sets.{Set, empty}
-use Rattle.cc_core.specs.Reading.{read_shape, read_type}
-use Rattle.cc_core.specs.Substitution.{replaced_type, replaced_type_by_shape}
-use Rattle.cc_core.specs.Typing.{base_operated}
-use Rattle.cc_reasons.specs.Causes.{WrongHead, WrongType, WrongShape, TooLarge, ABase}
+use Rattle.cc_checking.specs.Inference.{type_function_head, shape_in}
+use Rattle.cc_core.specs.Reading.{read_shape}
+use Rattle.cc_reasons.specs.Causes.{WrongShape}
 use Rattle.cc_reasoning.specs.Views.{scene_of, cause_of}
-use Rattle.cc_reasoning.specs.LeafReasons.{opened_under}
 use Rattle.cc_reasoning.proofs.LeafAnswers as answers
 use Rattle.cc_reasoning.proofs.leaf_causes.type_application_mismatch.Goals as goal
 
@@ -29,4 +23,3 @@ returns c =
     ∙ ap (λ s. WrongShape scene s (shape_of c.in_ok-wanted.wanted.value))
     (c.in_ok-read.ensures ∙ ap (λ n. read_shape n argument) c.entries.ensures)
     ∙ ap (λ (s : Shape). WrongShape scene (shape_in scene.context argument) (shape_of s)) c.in_ok-wanted.ensures.cases)
-

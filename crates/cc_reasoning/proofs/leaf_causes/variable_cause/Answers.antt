@@ -1,7 +1,7 @@
 use Rattle.std.proofs.Common.{sym, subst}
 use Rattle.cc_core.specs.Terms.{VariableTerm}
-use Rattle.cc_core.specs.TermViews.{shape_of, type_of, context_of}
-use Rattle.cc_reasoning.specs.Views.{scene_of, cause_of}
+use Rattle.cc_core.specs.TermViews.{type_of}
+use Rattle.cc_reasoning.specs.Views.{scene_of}
 use Rattle.cc_reasoning.specs.LeafReasons.{IsCauseIn}
 use Rattle.cc_reasoning.proofs.LeafCauses.{variable_large}
 use Rattle.cc_reasoning.proofs.leaf_causes.variable_cause.Goals as goal

@@ -1,4 +1,4 @@
-use Rattle.std.proofs.Common.{◌≡◌, ◌<◌, length, rules, arith}
+use Rattle.std.proofs.Common.{◌≡◌, ◌<◌, length, rules}
 use Rattle.cc_reasoning.specs.Views.{locals_of}
 use Rattle.cc_reasoning.proofs.LocatedSteps.{filled_more}
 use Rattle.cc_reasoning.proofs.located.fill.Goals as goal

@@ -1,5 +1,5 @@
 use Rattle.std.proofs.Common.{sym, subst}
-use Rattle.cc_core.specs.TermViews.{type_of, term_of, context_of}
+use Rattle.cc_core.specs.TermViews.{type_of, term_of}
 use Rattle.cc_type.specs.Standing.{StandsWell}
 use Rattle.cc_reasoning.proofs.scenes.body_scene.Goals as goal
 

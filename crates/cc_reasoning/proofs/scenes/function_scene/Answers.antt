@@ -1,6 +1,6 @@
 use Rattle.std.proofs.Common.{sym, ◌∙◌, subst}
 use Rattle.cc_core.specs.Contexts.{entry_of}
-use Rattle.cc_core.specs.TermViews.{shape_of, type_of, context_of}
+use Rattle.cc_core.specs.TermViews.{type_of, context_of}
 use Rattle.cc_known.specs.Measures.{AreMeasuresOf}
 use Rattle.cc_type.proofs.MeasuredEntries.{more_measured}
 use Rattle.cc_reasoning.proofs.scenes.function_scene.Goals as goal

@@ -1,26 +1,17 @@
-use Rattle.std.proofs.Common.{◌≡◌, List, Err, length, refl, sym, ap, subst, ◌∙◌}
-use Rattle.cc_core.specs.declared.terms.Node.{Node}
+use Rattle.std.proofs.Common.{Err, length, refl, sym, ap, subst, ◌∙◌}
 use Rattle.cc_base.specs.declared.literal.Base.TheVariants as bases
 use Rattle.cc_core.specs.Captured.{variable_set}
 use Rattle.cc_core.specs.Shapes.{BaseShape, capturing}
-use Rattle.cc_core.specs.TermViews.{shape_of, type_of, note_of, term_of, context_of}
-use Rattle.cc_checking.specs.Outcomes.{Placed, Outcome}
-use Rattle.cc_checking.specs.Inference.{Result, in_context}
-use Rattle.cc_subty.specs.declared.demands.Demand.{Demand}
+use Rattle.cc_core.specs.TermViews.{shape_of}
+use Rattle.cc_checking.specs.Inference.{in_context}
 use Rattle.cc_subty.specs.Demands.{asked_of}
 use Rattle.cc_known.specs.Logs as logs
-use Rattle.cc_known.specs.Parts.{found_of, named_of}
-use Rattle.cc_type.specs.Rows.{comparing, ways, operand_log}
-use Rattle.cc_type.proofs.InferredLogs.{noted_logs}
-use Rattle.cc_type.proofs.StandingTerms.{noted_well_formed}
-use Rattle.cc_reasons.specs.Causes.{Scene, Cause, Explained, Refused, outcome_of, WrongShape}
+use Rattle.cc_type.specs.Rows.{ways, operand_log}
+use Rattle.cc_reasons.specs.Causes.{Refused, outcome_of, WrongShape}
 use Rattle.cc_reasons.specs.ExplainedInference.{explained_operand}
-use Rattle.cc_reasons.proofs.ExplainedOutcomes.{explained_is_inference, note_is, below_is}
 use Rattle.cc_reasoning.specs.declared.reason.Cause.{Cause as DeclaredCause}
-use Rattle.cc_reasoning.specs.ExplainedLogs.{branch, note_cause}
-use Rattle.cc_reasoning.specs.LeafReasons.{IsCauseIn}
 use Rattle.cc_reasoning.specs.LocatedLogs.{Stopped}
-use Rattle.cc_reasoning.specs.Views.{locals_of, scene_of, binder_names_of, cause_of}
+use Rattle.cc_reasoning.specs.Views.{locals_of, scene_of, cause_of}
 use Rattle.cc_reasoning.proofs.ExplainedSteps as steps
 use Rattle.cc_reasoning.proofs.steps.bool_operand.Goals as goal
 
@@ -52,7 +43,7 @@ returns-in_ok-fill-in-Ok-clause-even c =
     c.requires.even
     (refl)
     (sym (steps.operand_logs c.args.at scene v shape before) ∙ c.in-Ok.ensures)
-    (c.len-count.ensures ∙ ap length c.demands.ensures) c.in_ok-fill-in-Ok.ensures 
+    (c.len-count.ensures ∙ ap length c.demands.ensures) c.in_ok-fill-in-Ok.ensures
 
 pub returns-in_ok-cause-in-Err-Refused-2-clause-is : goal.returns-in_ok-cause-in-Err-Refused-2-clause-is
 returns-in_ok-cause-in-Err-Refused-2-clause-is c =

@@ -1,24 +1,13 @@
-use Rattle.std.proofs.Common.{◌≡◌, List, Err, length, refl, sym, ap, subst, ◌∙◌}
-use Rattle.cc_core.specs.declared.terms.Node.{Node}
-use Rattle.cc_core.specs.Places.{places_of}
-use Rattle.cc_core.specs.TermViews.{shape_of, type_of, note_of, term_of, context_of}
-use Rattle.cc_checking.specs.Outcomes.{Placed, Outcome}
-use Rattle.cc_checking.specs.Inference.{Result, Named, inferred, noted, below}
-use Rattle.cc_subty.specs.declared.demands.Demand.{Demand}
+use Rattle.std.proofs.Common.{Err, length, refl, sym, ap, subst, ◌∙◌}
+use Rattle.cc_core.specs.TermViews.{type_of, note_of}
 use Rattle.cc_subty.specs.Demands.{asked_of}
 use Rattle.cc_known.specs.Logs as logs
-use Rattle.cc_known.specs.Parts.{found_of, named_of}
-use Rattle.cc_type.specs.Rows.{comparing, ways, noted_log, branch_log}
-use Rattle.cc_type.proofs.InferredLogs.{noted_logs}
-use Rattle.cc_type.proofs.StandingTerms.{noted_well_formed}
-use Rattle.cc_reasons.specs.Causes.{Scene, Cause, Explained, Refused, outcome_of, WrongType}
-use Rattle.cc_reasons.specs.ExplainedInference.{explained, explained_note, explained_below}
-use Rattle.cc_reasons.proofs.ExplainedOutcomes.{explained_is_inference, note_is, below_is}
+use Rattle.cc_type.specs.Rows.{branch_log}
+use Rattle.cc_reasons.specs.Causes.{Refused, outcome_of}
 use Rattle.cc_reasoning.specs.declared.reason.Cause.{Cause as DeclaredCause}
-use Rattle.cc_reasoning.specs.ExplainedLogs.{branch, note_cause}
-use Rattle.cc_reasoning.specs.LeafReasons.{IsCauseIn}
+use Rattle.cc_reasoning.specs.ExplainedLogs.{branch}
 use Rattle.cc_reasoning.specs.LocatedLogs.{Stopped}
-use Rattle.cc_reasoning.specs.Views.{locals_of, scene_of, binder_names_of, cause_of}
+use Rattle.cc_reasoning.specs.Views.{locals_of, scene_of, cause_of}
 use Rattle.cc_reasoning.proofs.ExplainedSteps as steps
 use Rattle.cc_reasoning.proofs.steps.branch_below.Goals as goal
 
@@ -48,7 +37,7 @@ returns-in_ok-fill-in-Ok-clause-even c =
     c.requires.even
     (refl)
     (sym (steps.branch_logs c.args.at scene note type (asked_of c.args.log.now.demands)) ∙ c.in-Ok.ensures)
-    (c.len-count.ensures ∙ ap length c.demands.ensures) c.in_ok-fill-in-Ok.ensures 
+    (c.len-count.ensures ∙ ap length c.demands.ensures) c.in_ok-fill-in-Ok.ensures
 
 pub returns-in_ok-cause-in-Err-Refused-2-clause-is : goal.returns-in_ok-cause-in-Err-Refused-2-clause-is
 returns-in_ok-cause-in-Err-Refused-2-clause-is c =
