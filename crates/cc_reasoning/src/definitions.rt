@@ -1,7 +1,10 @@
 //! What is found for a definition, with the local variables where each thing was asked that is kept; or why a step is
 //! refused, and where.
 
-ghost use Rattle.std.specs.Prelude.{◌≡◌, length, map, IfOk};
+ghost use Rattle.std.specs.Prelude.{◌≡◌, ◌∷◌, length, map, Some, IfOk};
+ghost use Rattle.cc_core.specs.Contexts.{Context, entry_of};
+ghost use Rattle.cc_core.specs.Terms.{Written};
+ghost use Rattle.cc_checking.specs.Verdicts.{checking};
 ghost use Rattle.cc_core.specs.Places.{spots, places_of};
 ghost use Rattle.cc_core.specs.TermViews.{type_of, note_of, term_of, context_of};
 ghost use Rattle.cc_core.specs.WellFormed.{IsWellFormedContext, IsWellFormedNote, IsWellFormedTerm, IsWellFormedType};
@@ -10,21 +13,21 @@ ghost use Rattle.cc_known.specs.Measures.{AreMeasuresOf};
 ghost use Rattle.cc_known.specs.Parts.{found_of, named_of};
 ghost use Rattle.cc_type.specs.Rows.{ways};
 ghost use Rattle.cc_check.specs.Definitions.{definition_of};
-ghost use Rattle.cc_reasons.specs.DefinitionReasons.{outermost, explained_plain};
+ghost use Rattle.cc_reasons.specs.DefinitionReasons.{outermost, explained_plain, explained_recursion};
 ghost use Rattle.cc_reasons.specs.ExplainedInference.{explained, explained_note};
-ghost use Rattle.cc_reasoning.specs.ExplainedDefinitions.{checking_of, plain_log};
+ghost use Rattle.cc_reasoning.specs.ExplainedDefinitions.{checking_of, plain_log, recursion_log};
 ghost use Rattle.cc_reasoning.specs.LocatedLogs.{Meets, after, beside};
 ghost use Rattle.cc_reasoning.specs.Views.{locals_of, scene_of, binder_names_of};
 
 use crate::explain::explain_term;
 use crate::reason::{Binders, Halt, Locals, Scene};
-use crate::steps::name;
+use crate::steps::{bounded, name};
 use cc_base::place::Place;
 use cc_core::{CoreDef, Node, Note, Ty};
 use cc_known::found::{Found, Named};
 use cc_known::measures::Measures;
 use cc_type::Log;
-use std::alloc::Global;
+use std::alloc::{AllocError, Global};
 use std::rc::Rc;
 
 /// What is found for a definition, before any hole is filled.
@@ -154,4 +157,85 @@ pub fn explain_plain(
     ensures even { IfOk result (λ _. length known.new.items ≡ length log.new.demands) }
 {
     plain_steps(alloc, scene, measures, def, binders, log, known)
+}
+
+// What is found where the signature is the type.
+fn settled(alloc: Global, found: Found, sig: Ty) -> Result<Checking, AllocError>
+    ensures { IfOk result (λ c. checking_of c ≡ checking (Written (type_of sig).shape (type_of sig).set) (term_of found.node.value) (type_of sig) (Some (type_of sig))) }
+{
+    let Found {
+        ty: _,
+        node,
+        captured: _,
+        known: _,
+        unchanged: _,
+    } = found;
+    let note = Note::Written(Rc::new(alloc, sig.clone()?)?);
+    let ty = sig.clone()?;
+    Ok(Checking {
+        note,
+        completed: node,
+        ty,
+        settled: Some(sig),
+    })
+}
+
+/// What is found for a right side below its signature, in the scene that has the definition's own name with the type of
+/// the signature.
+pub fn explain_recursion(
+    alloc: Global,
+    inner: &Scene,
+    measures: &Measures,
+    sig: Ty,
+    def: &CoreDef,
+    binders: &Binders,
+    log: &mut Log,
+    known: &mut Vec<Rc<Locals>>,
+) -> Result<Checking, Halt>
+    requires context { IsWellFormedContext (context_of inner.now.ctx) }
+    requires measures { AreMeasuresOf measures.now (context_of inner.now.ctx) }
+    requires ty { IsWellFormedType (context_of inner.now.ctx) (type_of sig) }
+    requires right { IsWellFormedTerm (context_of inner.now.ctx) (term_of def.now.right.value) }
+    requires even { length known.old.items ≡ length log.old.demands }
+    ensures exact { (globals : Context) → scene_of inner.now ≡ outermost (entry_of (type_of sig) ∷ globals)
+        → Meets checking_of result (beside (asked_of log.new.demands) (map (λ l. locals_of l.value) known.new.items))
+        (after (beside (asked_of log.old.demands) (map (λ l. locals_of l.value) known.old.items))
+        (explained_recursion ways globals (definition_of def.now) (binder_names_of binders.now) (type_of sig))) }
+    ensures even { IfOk result (λ _. length known.new.items ≡ length log.new.demands) }
+{
+    recursion_steps(alloc, inner, measures, sig, def, binders, log, known)
+}
+
+// The same, step by step.
+fn recursion_steps(
+    alloc: Global,
+    inner: &Scene,
+    measures: &Measures,
+    sig: Ty,
+    def: &CoreDef,
+    binders: &Binders,
+    log: &mut Log,
+    known: &mut Vec<Rc<Locals>>,
+) -> Result<Checking, Halt>
+    requires context { IsWellFormedContext (context_of inner.now.ctx) }
+    requires measures { AreMeasuresOf measures.now (context_of inner.now.ctx) }
+    requires ty { IsWellFormedType (context_of inner.now.ctx) (type_of sig) }
+    requires right { IsWellFormedTerm (context_of inner.now.ctx) (term_of def.now.right.value) }
+    requires even { length known.old.items ≡ length log.old.demands }
+    ensures exact { Meets checking_of result (beside (asked_of log.new.demands) (map (λ l. locals_of l.value) known.new.items))
+        (recursion_log (scene_of inner.now) (definition_of def.now) (binder_names_of binders.now) (type_of sig)
+        (beside (asked_of log.old.demands) (map (λ l. locals_of l.value) known.old.items))) }
+    ensures even { IfOk result (λ _. length known.new.items ≡ length log.new.demands) }
+{
+    let found = explain_right(alloc, inner, measures, &def.right, binders, log, known)?;
+    bounded(
+        alloc,
+        inner,
+        &found.ty,
+        &sig,
+        place_of(&def.right),
+        log,
+        known,
+    )?;
+    Ok(settled(alloc, found, sig)?)
 }
