@@ -7,3 +7,4 @@ pub mod ExplainedSteps
 pub mod LastSteps
 pub mod ExplainedRuns
 pub mod ExplainedRows
+pub mod KeptFronts
