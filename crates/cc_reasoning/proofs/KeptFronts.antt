@@ -1,7 +1,7 @@
 -- Whatever is kept was asked behind a front of all that is asked, of which what is kept before it is kept. So what fails
 -- first of what is kept fails first of all.
-use Rattle.std.proofs.Common.{◌≡◌, ◌⊎◌, inl, inr, ℕ, ◌+◌, ◌≤◌, Bool, true, false, cond, List, [], ◌∷◌, ◌++◌, length}
-use Rattle.std.proofs.Common.{refl, sym, ap, subst, ◌∙◌, append_assoc, arith, length-append}
+use Rattle.std.proofs.Common.{◌≡◌, ◌⊎◌, inl, inr, ◌+◌, ◌≤◌, Bool, true, false, cond, List, [], ◌∷◌, ◌++◌, length}
+use Rattle.std.proofs.Common.{refl, sym, ap, ◌∙◌, append_assoc, arith, length-append}
 use Rattle.cc_known.specs.Keeping.{is_needless}
 use Rattle.cc_reasons.specs.Causes.{Located}
 use Rattle.cc_reasons.specs.DefinitionReasons.{placed_of}
@@ -39,7 +39,7 @@ ends_here (l ∷ list) (b ∷ before) first failing more later short e =
     let heads : l ≡ b = cc in
     let tails : list ++ first ∷ more ≡ before ++ failing ∷ later = cc in
     elim (ends_here list before first failing more later (omega (arith, short)) tails) [
-      inl same ↦ inl (ap (λ x. x ∷ list) heads ∙ ap (λ x. b ∷ x) same.0, same.1)
+      | inl same ↦ inl (ap (λ x. x ∷ list) heads ∙ ap (λ x. b ∷ x) same.0, same.1)
       | inr shorter ↦ inr (omega (arith, shorter))
     ]
 
@@ -49,7 +49,7 @@ pub kept_front : (asked list before later : List Located) (failing : Located) �
     → (front rest : List Located) × (asked ≡ front ++ failing ∷ rest) × (keeping list front ≡ before)
 kept_front [] list before later failing short e =
     let count : length list ≡ length before + length (failing ∷ later) =
-        ap length e ∙ length-append before (failing ∷ later) in
+    ap length e ∙ length-append before (failing ∷ later) in
     absurd (omega (arith, count, short))
 kept_front (first ∷ asked) list before later failing short e =
     by_test (λ next. kept_front asked next before later failing) (is_needless (placed_of list) first.placed.asked) refl
@@ -65,15 +65,15 @@ kept_front (first ∷ asked) list before later failing short e =
     by_test again false is =
         let same : with_one list first ≡ list ++ first ∷ [] = ap (λ t. cond t list (list ++ first ∷ [])) is in
         let next : keeping (list ++ first ∷ []) asked ≡ before ++ failing ∷ later =
-            ap (λ l. keeping l asked) (sym same) ∙ e in
+        ap (λ l. keeping l asked) (sym same) ∙ e in
         let grown = keeping-grows asked (list ++ first ∷ []) in
         let split : list ++ first ∷ grown.0 ≡ before ++ failing ∷ later =
-            sym (append_assoc list (first ∷ []) grown.0) ∙ sym grown.1 ∙ next in
+        sym (append_assoc list (first ∷ []) grown.0) ∙ sym grown.1 ∙ next in
         elim (ends_here list before first failing grown.0 later short split) [
-          inl here ↦ ([], asked, ap (λ x. x ∷ asked) here.1, here.0)
+          | inl here ↦ ([], asked, ap (λ x. x ∷ asked) here.1, here.0)
           | inr shorter ↦
               let longer : length (list ++ first ∷ []) ≤ length before =
-                  omega (arith, shorter, length-append list (first ∷ [])) in
+              omega (arith, shorter, length-append list (first ∷ [])) in
               let found = again (list ++ first ∷ []) longer next in
               (first ∷ found.0, found.1, ap (λ l. first ∷ l) found.2, ap (λ l. keeping l found.0) same ∙ found.3)
         ]

@@ -8,3 +8,4 @@ pub mod LastSteps
 pub mod ExplainedRuns
 pub mod ExplainedRows
 pub mod KeptFronts
+pub mod KeptFailures

@@ -1,5 +1,5 @@
-use Rattle.std.proofs.Common.{◌≡◌, map, subst}
-use Rattle.cc_core.specs.TermViews.{type_of, context_of}
+use Rattle.std.proofs.Common.{map, subst}
+use Rattle.cc_core.specs.TermViews.{type_of}
 use Rattle.cc_subty.specs.Demands.{asked_of}
 use Rattle.cc_check.specs.Definitions.{definition_of}
 use Rattle.cc_reasoning.specs.ExplainedDefinitions.{checking_of}
