@@ -162,8 +162,10 @@ breaks (c ∷ cs) nothing = by (c == 34) (c == 47) refl refl
   where
     itself : (n : ℕ) → (n == n) ≡ true
     itself n = eq-eqb n n refl
+
     differs : (c d : ℕ) → (c == d) ≡ false → c ≡ d → ⊥
     differs c d not same = let is : (d == d) ≡ false = subst (λ k. (k == d) ≡ false) same not in let it = itself d in cc
+
     by : (quote slash : Bool) → (c == 34) ≡ quote → (c == 47) ≡ slash
         → BreaksAt (c ∷ cs) (cond quote (after (text_front 200 cs).1) (cond slash (after cs) (AtCharacter c)))
     by true slash quote other =
