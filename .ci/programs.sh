@@ -301,6 +301,15 @@ for program in ${talkers[@]+"${talkers[@]}"}; do
         hosted "$host"
         grep -q 'no name' "$work/err" && : > "$work/err"
         expect "$(basename "$host"), where a name has line feeds" 1 '' ''
+        rm "$work/guest/"a*
+        printf '4\n38' > "$work/guest/numbers"
+        hosted "$host"
+        grep -q 'lacks its line feed' "$work/err" && : > "$work/err"
+        expect "$(basename "$host"), where the last number lacks its line feed" 1 '' ''
+        printf '4\n38' | cmp -s - "$work/guest/numbers" || {
+            failed=$((failed + 1))
+            echo "FAILED $program: $(basename "$host"): numbers are not as they were"
+        }
     done
 done
 

@@ -219,6 +219,10 @@ int main(int count, char **words) {
     if (!numbers || !kept || modules < 0) {
         fail("the folder cannot be read");
     }
+    if (fseek(numbers, -1, SEEK_END) == 0 && fgetc(numbers) != '\n') {
+        fail("the last line of numbers lacks its line feed");
+    }
+    rewind(numbers);
     start(words[1]);
     say("capc 1\ndevice out console\ndevice data file\ndevice hits counter\n");
     for (int at = 0; at < modules; at++) {

@@ -10,6 +10,7 @@ RESERVED = """import def rec fun val if then else box unbox boundary exit repeat
 OPERATIONS = ["out print", "out say", "data read", "data write", "hits tick"]
 folder = pathlib.Path(sys.argv[2])
 numbers, kept, hits = open(folder / "numbers"), open(folder / "numbers", "a"), open(folder / "hits", "a+")
+(folder / "numbers").read_bytes()[-1:] in (b"", b"\n") or sys.exit("the last line of numbers lacks its line feed")
 capi = subprocess.Popen([sys.argv[1]], stdin=subprocess.PIPE, stdout=subprocess.PIPE, bufsize=0)
 
 def name(word):
