@@ -12,7 +12,7 @@ use std::alloc::AllocError;
 /// alone they stand, in the sets of parameters.
 ///
 /// Fails only where that number is no `u32`, which counts as want of memory.
-pub(crate) fn hole_count(node: &Node) -> Result<u32, AllocError>
+pub fn hole_count(node: &Node) -> Result<u32, AllocError>
     ensures { IfOk result (λ n. n ≡ plain.holes_of (term_of node.now)) }
 {
     let count = holes_in(&node.form);

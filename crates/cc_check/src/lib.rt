@@ -4,10 +4,10 @@
 pub mod definition;
 pub mod error;
 mod found;
-mod holes;
+pub mod holes;
 mod plain;
 mod recursive;
-mod signature;
+pub mod signature;
 mod signing;
 
 pub use definition::{check_def, check_known, check_next};

@@ -19,7 +19,7 @@ use std::alloc::{AllocError, Global};
 /// greatest first. There is none where a position is free in a bound or in the shape of an exit.
 ///
 /// The type is gone over once. Fails only for want of memory.
-pub(crate) fn signature(
+pub fn signature(
     alloc: Global,
     ctx: &Ctx,
     devices: u32,

@@ -15,7 +15,7 @@ ghost use Rattle.cc_reasoning.specs.ExplainedLogs.{explained_log};
 ghost use Rattle.cc_reasoning.specs.LocatedLogs.{Meets, after, beside};
 ghost use Rattle.cc_reasoning.specs.Views.{locals_of, scene_of, binder_names_of};
 
-use crate::bases::pure_type;
+use cc_type::bases::pure_type;
 use crate::lasts::{boundary_last, choice_last, function_last, let_last, type_function_last};
 use crate::reason::{Binders, Halt, Locals, Scene};
 use crate::scenes::{body_scene, boundary_scene, function_scene, type_function_scene};

@@ -12,7 +12,7 @@ ghost use Rattle.cc_core.specs.WellFormed.{IsWellFormedContext};
 ghost use Rattle.cc_reasoning.specs.LeafReasons.{IsCauseIn, IsExposedAs, IsMisplaced, IsOfOperands, opened_under};
 ghost use Rattle.cc_reasoning.specs.Views.{scene_of, cause_of};
 
-use crate::bases::{
+use cc_type::bases::{
     base_answered, base_given, base_of, base_operated, base_shape, base_taken, base_type,
     function_on_numbers, pure_type,
 };

@@ -1,7 +1,6 @@
 //! Why a definition is refused, found beside its verdict: what was found where inference refuses it, and what was wanted.
 #![tactic(auto)]
 
-mod bases;
 mod causes;
 pub mod definitions;
 pub mod explain;

@@ -20,7 +20,7 @@ ghost use Rattle.cc_reasoning.specs.LeafReasons.{IsLeaf};
 ghost use Rattle.cc_reasoning.specs.LocatedLogs.{Meets, after, beside};
 ghost use Rattle.cc_reasoning.specs.Views.{locals_of, scene_of, binder_names_of, cause_of};
 
-use crate::bases::base_shape;
+use cc_type::bases::base_shape;
 use crate::causes::{wrong_shape, wrong_type};
 use crate::heads::shape_of_variable;
 use crate::leaf_causes::leaf_cause;

@@ -16,7 +16,7 @@ use Rattle.cc_checking.specs.Outcomes.{Outcome, Placed, Asked, IsBelow, IsCaples
 use Rattle.cc_checking.specs.Verdicts.{Definition, Checking, declared_set, signature_of, plain_checked, recursion_checked, recursive_checked, checked, IsRefused, signature_under, signature_verdict, Deserves, HasVerdict}
 use Rattle.cc_reasons.specs.CauseLaws.{ExplainedDefinitionsAreChecked, ReasonsAreOfRefusals, RefusalsHaveAReason}
 use Rattle.cc_reasons.specs.Causes.{Cause, code_of, Unavoidable, Located, Explained, NoAnswer, Refused, Found, outcome_of}
-use Rattle.cc_reasons.specs.DefinitionReasons.{outermost, none_or, unsigned_cause, explained_plain, explained_recursion, explained_recursive, explained_definition, DefinitionReason, OfStep, code_of_reason, unserved, placed_of, Tells}
+use Rattle.cc_reasons.specs.DefinitionReasons.{outermost, none_or, unsigned_among, unsigned_cause, explained_plain, explained_recursion, explained_recursive, explained_definition, DefinitionReason, OfStep, code_of_reason, unserved, placed_of, Tells}
 use Rattle.cc_reasons.specs.ExplainedInference.{BinderNames}
 use Rattle.cc_reasons.proofs.ExplainedOutcomes.{IsRefusedBy, then_is, because_is, by_avoided, note_is, below_is, explained_is_inference}
 
@@ -25,11 +25,14 @@ code_by_rest : (o : Option CapturingType) (cause : Cause) (tells : CapturingType
 code_by_rest None cause tells own behind = own
 code_by_rest (Some type) cause tells own behind = behind type
 
-unsigned_code : (devices : ℕ) (globals : Context) (type : CapturingType) → code_of (unsigned_cause devices globals type) ≡ E17
-unsigned_code devices [] type = refl
-unsigned_code devices (newest ∷ older) type =
-    code_by_rest (avoided_type Positive (length older) (declared_set newest) type) (Unavoidable (outermost (newest ∷ older)) (length older) type)
-    (λ rest. unsigned_cause devices older rest) refl (λ rest. unsigned_code devices older rest)
+unsigned_code_among : (globals these : Context) (type : CapturingType) → code_of (unsigned_among globals these type) ≡ E17
+unsigned_code_among globals [] type = refl
+unsigned_code_among globals (newest ∷ older) type =
+    code_by_rest (avoided_type Positive (length older) (declared_set newest) type) (Unavoidable (outermost globals) (length older) type)
+    (λ rest. unsigned_among globals older rest) refl (λ rest. unsigned_code_among globals older rest)
+
+unsigned_code : (globals : Context) (type : CapturingType) → code_of (unsigned_cause globals type) ≡ E17
+unsigned_code globals type = unsigned_code_among globals globals type
 
 plain_is : (ways : Ways) (globals : Context) (definition : Definition) (names : BinderNames)
     → outcome_of (explained_plain ways globals definition names) ≡ plain_checked ways globals definition
@@ -47,9 +50,9 @@ recursive_is : (ways : Ways) (devices : ℕ) (globals : Context) (definition : D
     → outcome_of (explained_recursive ways devices globals definition names note) ≡ recursive_checked ways devices globals definition note
 recursive_is ways devices globals definition names (Written shape set) =
     then_is _ _ _ _
-    (because_is (unsigned_cause devices globals (capturing shape set)) [] (found_or E17 definition.name_at (signature_of devices globals (capturing shape set)))
+    (because_is (unsigned_cause globals (capturing shape set)) [] (found_or E17 definition.name_at (signature_of devices globals (capturing shape set)))
     (subst (λ code. IsRefusedBy code (found_or E17 definition.name_at (signature_of devices globals (capturing shape set))))
-    (sym (unsigned_code devices globals (capturing shape set))) (by_avoided E17 definition.name_at (signature_of devices globals (capturing shape set)))))
+    (sym (unsigned_code globals (capturing shape set))) (by_avoided E17 definition.name_at (signature_of devices globals (capturing shape set)))))
     (λ signature. recursion_is ways globals definition names signature)
 recursive_is ways devices globals definition names Absent = refl
 recursive_is ways devices globals definition names (Own shape) = refl
@@ -115,7 +118,7 @@ module _ (devices : ℕ) (globals : Context) (definition : Definition) where
       least,
       inr (
         served,
-        ap (λ it. IsRefused (code_of_reason it) at) same ∙ ap (λ it. IsRefused it at) (unsigned_code devices globals (filled_type filling found.type))
+        ap (λ it. IsRefused (code_of_reason it) at) same ∙ ap (λ it. IsRefused it at) (unsigned_code globals (filled_type filling found.type))
             ∙ ap (IsRefused E17) there ∙ ap (signature_verdict filling definition found) (sym none),
       ),
     ),
@@ -165,8 +168,8 @@ module _ (devices : ℕ) (globals : Context) (definition : Definition) (code : C
   unsigned filling found asked (Some signature) is least served same = cc
   unsigned filling found asked None is least served same =
       let parts = refused_parts same in (
-        OfStep (unsigned_cause devices globals (filled_type filling found.type)),
-        parts.0 ∙ sym (unsigned_code devices globals (filled_type filling found.type)),
+        OfStep (unsigned_cause globals (filled_type filling found.type)),
+        parts.0 ∙ sym (unsigned_code globals (filled_type filling found.type)),
         (filling, least, inr (served, is, refl, parts.1)),
       )
 

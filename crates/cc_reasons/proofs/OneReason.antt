@@ -171,7 +171,7 @@ module _ (devices : ℕ) (globals : Context) (definition : Definition) (found : 
   By k reason there =
       ((failing : Located) × FailsFirstAs k asked failing × (reason ≡ unserved k failing.locals failing.placed.asked) × (there ≡ failing.placed.at))
       ⊎ (AllServed k (placed_of asked) × (signature_under k devices globals found ≡ None)
-      × (reason ≡ OfStep (unsigned_cause devices globals (filled_type k found.type))) × (there ≡ definition.name_at))
+      × (reason ≡ OfStep (unsigned_cause globals (filled_type k found.type))) × (there ≡ definition.name_at))
 
   compare : (f : Filling) (one other : DefinitionReason) (at place : Place) → By f one at → By f other place → (one ≡ other) × (at ≡ place)
   compare f one other at place (inl (p, fails, is, there)) (inl (p', fails', is', there')) =

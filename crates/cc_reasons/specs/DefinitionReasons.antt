@@ -27,14 +27,18 @@ abbrev pub none_or : Option CapturingType → Cause → (CapturingType → Cause
 none_or None cause tells = cause
 none_or (Some type) cause tells = tells type
 
--- Why a type has no signature: of the imports and definitions, the newest that cannot be avoided in what is left of the type
--- where those behind it are avoided.
-abbrev pub unsigned_cause : ℕ → Context → CapturingType → Cause
-unsigned_cause devices [] type = Unavoidable (outermost []) 0 type
-unsigned_cause devices (newest ∷ older) type =
+-- Why a type has no signature, which stands in the whole of the globals, where those behind these are avoided: of these the
+-- newest that cannot be avoided in what is left of the type.
+abbrev pub unsigned_among : Context → Context → CapturingType → Cause
+unsigned_among globals [] type = Unavoidable (outermost globals) 0 type
+unsigned_among globals (newest ∷ older) type =
     none_or (avoided_type Positive (length older) (declared_set newest) type)
-    (Unavoidable (outermost (newest ∷ older)) (length older) type)
-    (λ rest. unsigned_cause devices older rest)
+    (Unavoidable (outermost globals) (length older) type)
+    (λ rest. unsigned_among globals older rest)
+
+-- why a type has no signature: of the imports and definitions, the newest that cannot be avoided
+abbrev pub unsigned_cause : Context → CapturingType → Cause
+unsigned_cause globals type = unsigned_among globals globals type
 
 -- a definition whose own name is not visible
 abbrev pub explained_plain : Ways → Context → Definition → BinderNames → Explained Checking
@@ -54,7 +58,7 @@ explained_recursion ways globals definition names signature = do
 -- a recursive definition, of which this is written
 abbrev pub explained_recursive : Ways → ℕ → Context → Definition → BinderNames → Note → Explained Checking
 explained_recursive ways devices globals definition names (Written shape set) = do
-  signature ← because (unsigned_cause devices globals (capturing shape set)) []
+  signature ← because (unsigned_cause globals (capturing shape set)) []
       (found_or E17 definition.name_at (signature_of devices globals (capturing shape set)))
   explained_recursion ways globals definition names signature
 explained_recursive ways devices globals definition names Absent = Refused NothingThere definition.name_at
@@ -109,7 +113,7 @@ Tells devices globals definition (Found found asked) reason at =
     × (((failing : Located) × FailsFirstAs filling asked failing
     × (reason ≡ unserved filling failing.locals failing.placed.asked) × (at ≡ failing.placed.at))
     ⊎ (AllServed filling (placed_of asked) × (signature_under filling devices globals found ≡ None)
-    × (reason ≡ OfStep (unsigned_cause devices globals (filled_type filling found.type))) × (at ≡ definition.name_at)))
+    × (reason ≡ OfStep (unsigned_cause globals (filled_type filling found.type))) × (at ≡ definition.name_at)))
 
 -- the definition is refused for this reason, at this place
 abbrev pub HasReason : ℕ → Context → Definition → BinderNames → DefinitionReason → Place → Type 0

@@ -112,8 +112,8 @@ pub fn is_served(
     }
 }
 
-// The set with its holes filled.
-fn filled(alloc: Global, set: &CapSet, filling: &Filling) -> Result<CapSet, AllocError>
+/// The set with its holes filled. It fails only for want of memory.
+pub fn filled(alloc: Global, set: &CapSet, filling: &Filling) -> Result<CapSet, AllocError>
     ensures { IfOk result (λ s. s ≡ filled_set (filling_of filling.now) set.now) }
 {
     let mut whole = CapSet::new(alloc);

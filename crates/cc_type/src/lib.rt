@@ -2,6 +2,7 @@
 //! form, and what is found for it when its parts are known; with a log of what is asked and may still decide.
 #![tactic(auto)]
 
+pub mod bases;
 pub mod comparing;
 pub mod contexts;
 mod demand_ends;

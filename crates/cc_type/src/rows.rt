@@ -17,6 +17,9 @@ ghost use Rattle.cc_known.specs.Measures.{AreMeasuresOf};
 ghost use Rattle.cc_known.specs.Parts.{found_of};
 ghost use Rattle.cc_type.specs.Rows.{variable_row, literal_row, box_row, application_row, type_application_end, type_application_row, unboxing_end, unboxing_row, primitive_row, repeated_log, repetition_row, operation_row, leave_row};
 
+use crate::bases::{
+    base_answered, base_given, base_of, base_operated, base_taken, base_type, pure_type,
+};
 use crate::comparing::{against, below};
 use crate::heads::{
     box_part, device_part, exit_part, function_part, measured_type, type_function_part,
@@ -38,80 +41,6 @@ use cc_known::steps::{entries, in_context};
 use cc_known::stop::{Stop, refused};
 use std::alloc::{AllocError, Global};
 use std::rc::Rc;
-
-// The shape with the empty set.
-fn pure_type(alloc: Global, shape: Rc<Shape>) -> Ty
-    ensures { type_of result ≡ record { shape = shape_of shape.value; set = empty } }
-{
-    let set = CapSet::new(alloc);
-    Ty { shape, set }
-}
-
-// The base shape with the empty set.
-fn base_type(alloc: Global, base: Base) -> Result<Ty, AllocError>
-    ensures { IfOk result (λ t. type_of t ≡ plain.base_type base) }
-{
-    Ok(pure_type(alloc, Rc::new(alloc, Shape::Base(base))?))
-}
-
-fn base_of(literal: &Lit) -> Base
-    ensures { result ≡ typing.base_of (literal_of literal.now) }
-{
-    match literal {
-        Lit::Unit => Base::Unit,
-        Lit::Bool(_) => Base::Bool,
-        Lit::Int(_) => Base::Int,
-        Lit::Str(_) => Base::Str,
-    }
-}
-
-fn base_given(operator: Operator) -> Base
-    ensures { result ≡ typing.base_given operator }
-{
-    match operator {
-        Operator::Add => Base::Int,
-        Operator::Sub => Base::Int,
-        Operator::Mul => Base::Int,
-        Operator::Less => Base::Bool,
-        Operator::Equal => Base::Bool,
-    }
-}
-
-fn base_operated(operation: Op) -> Base
-    ensures { result ≡ typing.base_operated operation }
-{
-    match operation {
-        Op::Print => Base::Console,
-        Op::Say => Base::Console,
-        Op::Read => Base::File,
-        Op::Write => Base::File,
-        Op::Tick => Base::Counter,
-    }
-}
-
-fn base_taken(operation: Op) -> Option<Base>
-    ensures { result ≡ typing.base_taken operation }
-{
-    match operation {
-        Op::Print => Some(Base::Int),
-        Op::Say => Some(Base::Str),
-        Op::Read => None,
-        Op::Write => Some(Base::Int),
-        Op::Tick => None,
-    }
-}
-
-fn base_answered(operation: Op) -> Base
-    ensures { result ≡ typing.base_answered operation }
-{
-    match operation {
-        Op::Print => Base::Unit,
-        Op::Say => Base::Unit,
-        Op::Read => Base::Int,
-        Op::Write => Base::Unit,
-        Op::Tick => Base::Int,
-    }
-}
 
 /// A variable has the shape of its entry, and captures itself.
 pub fn variable(

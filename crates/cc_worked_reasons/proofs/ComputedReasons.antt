@@ -88,7 +88,7 @@ judged_says n f (first ∷ rest) = says_before f first rest (decide_asked n f fi
 
 abbrev pub unsigned_if : ℕ → Context → Definition → Filling → Checking → Option CapturingType → Option Reasoned
 unsigned_if count g definition f found (Some signature) = None
-unsigned_if count g definition f found None = Some (OfStep (unsigned_cause count g (filled_type f found.type)), definition.name_at)
+unsigned_if count g definition f found None = Some (OfStep (unsigned_cause g (filled_type f found.type)), definition.name_at)
 
 abbrev pub reason_judged : ℕ → Context → Definition → Filling → Checking → Judged → Option Reasoned
 reason_judged count g definition f found NotKnown = None

@@ -16,7 +16,7 @@ use std::alloc::{AllocError, Global};
 use std::rc::Rc;
 
 /// The shape with the empty set.
-pub(crate) fn pure_type(alloc: Global, shape: Rc<Shape>) -> Ty
+pub fn pure_type(alloc: Global, shape: Rc<Shape>) -> Ty
     ensures { type_of result ≡ record { shape = shape_of shape.value; set = empty } }
 {
     let set = CapSet::new(alloc);
@@ -24,21 +24,21 @@ pub(crate) fn pure_type(alloc: Global, shape: Rc<Shape>) -> Ty
 }
 
 /// The base shape.
-pub(crate) fn base_shape(alloc: Global, base: Base) -> Result<Rc<Shape>, AllocError>
+pub fn base_shape(alloc: Global, base: Base) -> Result<Rc<Shape>, AllocError>
     ensures { IfOk result (λ s. shape_of s.value ≡ BaseShape base) }
 {
     Ok(Rc::new(alloc, Shape::Base(base))?)
 }
 
 /// The base shape with the empty set.
-pub(crate) fn base_type(alloc: Global, base: Base) -> Result<Ty, AllocError>
+pub fn base_type(alloc: Global, base: Base) -> Result<Ty, AllocError>
     ensures { IfOk result (λ t. type_of t ≡ plain.base_type base) }
 {
     Ok(pure_type(alloc, base_shape(alloc, base)?))
 }
 
 /// Functions on numbers that capture nothing.
-pub(crate) fn function_on_numbers(alloc: Global) -> Result<Rc<Shape>, AllocError>
+pub fn function_on_numbers(alloc: Global) -> Result<Rc<Shape>, AllocError>
     ensures { IfOk result (λ s. shape_of s.value ≡ FunctionShape (BaseShape bases.Int) empty (BaseShape bases.Unit) empty) }
 {
     let takes = Rc::new(alloc, base_type(alloc, Base::Int)?)?;
@@ -46,7 +46,8 @@ pub(crate) fn function_on_numbers(alloc: Global) -> Result<Rc<Shape>, AllocError
     Ok(Rc::new(alloc, Shape::Fun(takes, gives))?)
 }
 
-pub(crate) fn base_of(literal: &Lit) -> Base
+/// The base shape of a literal.
+pub fn base_of(literal: &Lit) -> Base
     ensures { result ≡ typing.base_of (literal_of literal.now) }
 {
     match literal {
@@ -57,7 +58,8 @@ pub(crate) fn base_of(literal: &Lit) -> Base
     }
 }
 
-pub(crate) fn base_given(operator: Operator) -> Base
+/// The base shape that an operator gives.
+pub fn base_given(operator: Operator) -> Base
     ensures { result ≡ typing.base_given operator }
 {
     match operator {
@@ -69,7 +71,8 @@ pub(crate) fn base_given(operator: Operator) -> Base
     }
 }
 
-pub(crate) fn base_operated(operation: Op) -> Base
+/// The base shape of the device that an operation is for.
+pub fn base_operated(operation: Op) -> Base
     ensures { result ≡ typing.base_operated operation }
 {
     match operation {
@@ -81,7 +84,8 @@ pub(crate) fn base_operated(operation: Op) -> Base
     }
 }
 
-pub(crate) fn base_taken(operation: Op) -> Option<Base>
+/// The base shape of what an operation takes, if it takes anything.
+pub fn base_taken(operation: Op) -> Option<Base>
     ensures { result ≡ typing.base_taken operation }
 {
     match operation {
@@ -93,7 +97,8 @@ pub(crate) fn base_taken(operation: Op) -> Option<Base>
     }
 }
 
-pub(crate) fn base_answered(operation: Op) -> Base
+/// The base shape of what an operation answers.
+pub fn base_answered(operation: Op) -> Base
     ensures { result ≡ typing.base_answered operation }
 {
     match operation {
