@@ -32,9 +32,9 @@ use Rattle.cc_reasons.specs.ExplainedInference.{explained_argument, explained_no
 use Rattle.cc_reasons.proofs.ExplainedOutcomes.{below_is, because_is, IsRefusedBy}
 use Rattle.cc_reasoning.specs.LocatedLogs.{Got, Stopped, after, beside}
 use Rattle.cc_reasoning.specs.ExplainedLogs.{branch, note_cause}
-use Rattle.cc_reasoning.specs.LeafReasons.{IsLeaf}
+use Rattle.cc_causes.specs.LeafReasons.{IsLeaf}
 use Rattle.cc_reasoning.proofs.LocatedSteps.{IsAskedAt, then_at, because_at, found_step, refused_step}
-use Rattle.cc_reasoning.proofs.LeafCauses.{Comes, Any, then_comes, because_comes, operand_comes}
+use Rattle.cc_causes.proofs.LeafCauses.{Comes, Any, then_comes, because_comes, operand_comes}
 
 -- a log only grows
 keeping_longer : (asked list : List Placed) → length list ≤ length (kept.keeping list asked)

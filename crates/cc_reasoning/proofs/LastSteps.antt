@@ -18,7 +18,7 @@ use Rattle.cc_subty.specs.Demands.{asked_of}
 use Rattle.cc_known.specs.Logs as logs
 use Rattle.cc_checking.specs.Outcomes.{Placed, Outcome}
 use Rattle.cc_reasoning.proofs.ExplainedSteps as steps
-use Rattle.cc_reasoning.proofs.LeafCauses.{Comes, Any, because_comes}
+use Rattle.cc_causes.proofs.LeafCauses.{Comes, Any, because_comes}
 use Rattle.cc_reasons.specs.ExplainedInference.{BinderNames, bound_at}
 use Rattle.cc_reasoning.specs.LocatedLogs.{Reached, Got, Stopped, after, followed, ends, directly, beside}
 use Rattle.cc_reasoning.specs.ExplainedLogs.{sized, let_end, let_cause, branch, choice_end, choice_log, choice_cause, note_cause}

@@ -1,11 +1,5 @@
 pub mod LocatedSteps
 pub mod ExplainedLogs
-pub mod LeafCauses
-pub mod MatchedOperands
-pub mod LeafAnswers
 pub mod ExplainedSteps
 pub mod LastSteps
 pub mod ExplainedRuns
-pub mod ExplainedRows
-pub mod KeptFronts
-pub mod KeptFailures

@@ -6,9 +6,9 @@ use Rattle.cc_checking.specs.Outcomes.{Placed}
 use Rattle.cc_known.specs.Keeping.{is_needless}
 use Rattle.cc_reasons.specs.Causes.{Local, Cause, Located, located, Explained, NoAnswer, Refused, Found, finds}
 use Rattle.cc_reasons.specs.DefinitionReasons.{placed_of}
-use Rattle.cc_reasoning.specs.declared.reason.Halt.{Halt}
-use Rattle.cc_reasoning.specs.declared.reason.Halt.TheVariants as halts
-use Rattle.cc_reasoning.specs.Views.{cause_of}
+use Rattle.cc_causes.specs.declared.reason.Halt.{Halt}
+use Rattle.cc_causes.specs.declared.reason.Halt.TheVariants as halts
+use Rattle.cc_causes.specs.Views.{cause_of}
 
 -- the list with one more thing that is asked, unless that is needless
 abbrev pub with_one : List Located → Located → List Located

@@ -13,20 +13,20 @@ ghost use Rattle.cc_type.specs.Standing.{StandsIn, StandsWell};
 ghost use Rattle.cc_reasons.specs.ExplainedInference.{explained};
 ghost use Rattle.cc_reasoning.specs.ExplainedLogs.{explained_log};
 ghost use Rattle.cc_reasoning.specs.LocatedLogs.{Meets, after, beside};
-ghost use Rattle.cc_reasoning.specs.Views.{locals_of, scene_of, binder_names_of};
+ghost use Rattle.cc_causes.specs.Views.{locals_of, scene_of, binder_names_of};
 
-use cc_type::bases::pure_type;
 use crate::lasts::{boundary_last, choice_last, function_last, let_last, type_function_last};
-use crate::reason::{Binders, Halt, Locals, Scene};
 use crate::scenes::{body_scene, boundary_scene, function_scene, type_function_scene};
 use crate::steps::{bounded, branch_below, leaf, name, test};
 use cc_base::place::Place;
-use cc_core::reading::{read_shape, read_type};
+use cc_causes::reason::{Binders, Halt, Locals, Scene};
 use cc_core::{Form, Node};
+use cc_core::reading::{read_shape, read_type};
 use cc_known::found::Found;
 use cc_known::measures::Measures;
 use cc_known::steps::entries;
 use cc_type::Log;
+use cc_type::bases::pure_type;
 use std::alloc::Global;
 use std::rc::Rc;
 

@@ -1,9 +1,9 @@
 //! The local variables where each thing was asked that is kept.
 
 ghost use Rattle.std.specs.Prelude.{◌≡◌, ◌++◌, ◌-◌, length, map, replicate, IfOk};
-ghost use Rattle.cc_reasoning.specs.Views.{locals_of};
+ghost use Rattle.cc_causes.specs.Views.{locals_of};
 
-use crate::reason::Locals;
+use cc_causes::reason::Locals;
 use std::alloc::AllocError;
 use std::rc::Rc;
 

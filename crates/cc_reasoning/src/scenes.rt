@@ -10,10 +10,10 @@ ghost use Rattle.cc_known.specs.Measures.{AreMeasuresOf};
 ghost use Rattle.cc_type.specs.Standing.{StandsWell};
 ghost use Rattle.cc_reasons.specs.Causes.{under};
 ghost use Rattle.cc_reasons.specs.ExplainedInference as plain;
-ghost use Rattle.cc_reasoning.specs.Views.{scene_of, binder_names_of};
+ghost use Rattle.cc_causes.specs.Views.{scene_of, binder_names_of};
 
-use crate::reason::{Binders, Scene, bound_at, with_local};
 use cc_base::place::Place;
+use cc_causes::reason::{Binders, Scene, bound_at, with_local};
 use cc_core::{Ctx, Node, Shape, Ty};
 use cc_known::measures::Measures;
 use cc_type::contexts::{with_exit, with_type_variable, with_variable};

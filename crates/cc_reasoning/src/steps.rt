@@ -16,27 +16,27 @@ ghost use Rattle.cc_type.specs.Standing.{NoteReadsWell, StandsWell};
 ghost use Rattle.cc_reasons.specs.ExplainedInference.{explained, explained_below, explained_note, explained_operand};
 ghost use Rattle.cc_reasoning.specs.ExplainedLogs as logs;
 ghost use Rattle.cc_reasoning.specs.ExplainedLogs.{note_cause};
-ghost use Rattle.cc_reasoning.specs.LeafReasons.{IsLeaf};
+ghost use Rattle.cc_causes.specs.LeafReasons.{IsLeaf};
 ghost use Rattle.cc_reasoning.specs.LocatedLogs.{Meets, after, beside};
-ghost use Rattle.cc_reasoning.specs.Views.{locals_of, scene_of, binder_names_of, cause_of};
+ghost use Rattle.cc_causes.specs.Views.{locals_of, scene_of, binder_names_of, cause_of};
 
-use cc_type::bases::base_shape;
-use crate::causes::{wrong_shape, wrong_type};
-use crate::heads::shape_of_variable;
-use crate::leaf_causes::leaf_cause;
 use crate::located::fill;
-use crate::reason::{Binders, Cause, Halt, Locals, Scene};
 use cc_base::literal::Base;
 use cc_base::place::Place;
 use cc_capture::Var;
-use cc_core::reading::{read_shape, read_type};
+use cc_causes::causes::{wrong_shape, wrong_type};
+use cc_causes::heads::shape_of_variable;
+use cc_causes::leaf_causes::leaf_cause;
+use cc_causes::reason::{Binders, Cause, Halt, Locals, Scene};
 use cc_core::{Ctx, Node, Note, Ty};
+use cc_core::reading::{read_shape, read_type};
 use cc_infer::infer_known;
 use cc_known::found::{Found, Named};
 use cc_known::measures::Measures;
 use cc_known::steps::entries;
 use cc_known::stop::Stop;
 use cc_type::Log;
+use cc_type::bases::base_shape;
 use cc_type::comparing::below;
 use cc_type::operands::{base_operand, branch, noted};
 use std::alloc::{AllocError, Global};
@@ -107,7 +107,7 @@ pub(crate) fn cause_of_note(
 }
 
 /// A type that was found, where a type may be written for it, and what is then named.
-pub(crate) fn name(
+pub fn name(
     alloc: Global,
     scene: &Scene,
     root: u32,
@@ -255,7 +255,7 @@ pub(crate) fn test(
 }
 
 /// One type has to be below another.
-pub(crate) fn bounded(
+pub fn bounded(
     alloc: Global,
     scene: &Scene,
     left: &Ty,

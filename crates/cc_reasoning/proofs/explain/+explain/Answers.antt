@@ -11,7 +11,7 @@ use Rattle.cc_known.proofs.FormedParts.{shape_with_entry, pure_well_formed}
 use Rattle.cc_type.proofs.StandingTerms.{boundary_shape}
 use Rattle.cc_reasoning.specs.ExplainedLogs.{test, explained_log}
 use Rattle.cc_reasoning.specs.LocatedLogs.{after, beside}
-use Rattle.cc_reasoning.specs.Views.{locals_of, scene_of, binder_names_of}
+use Rattle.cc_causes.specs.Views.{locals_of, scene_of, binder_names_of}
 use Rattle.cc_reasoning.proofs.ExplainedRuns.{explained_formed, choice_steps}
 use Rattle.cc_reasoning.proofs.explain.+explain.Goals as goal
 

@@ -5,7 +5,7 @@ use Rattle.cc_subty.specs.Demands.{asked_of}
 use Rattle.cc_known.specs.Parts.{found_of}
 use Rattle.cc_type.proofs.StandingTerms.{stands_well}
 use Rattle.cc_reasoning.specs.LocatedLogs.{Meets, beside}
-use Rattle.cc_reasoning.specs.Views.{locals_of, scene_of, binder_names_of}
+use Rattle.cc_causes.specs.Views.{locals_of, scene_of, binder_names_of}
 use Rattle.cc_reasoning.proofs.ExplainedLogs.{explained_logs}
 use Rattle.cc_reasoning.proofs.explain.explain_term.Goals as goal
 

@@ -6,7 +6,7 @@ use Rattle.cc_known.specs.Parts.{found_of}
 use Rattle.cc_type.specs.Rows as rows
 use Rattle.cc_reasoning.specs.ExplainedLogs.{choice_cause}
 use Rattle.cc_reasoning.specs.LocatedLogs.{Stopped}
-use Rattle.cc_reasoning.specs.Views.{locals_of, scene_of, cause_of}
+use Rattle.cc_causes.specs.Views.{locals_of, scene_of, cause_of}
 use Rattle.cc_reasoning.proofs.LastSteps as last
 use Rattle.cc_reasoning.proofs.lasts.choice_last.Goals as goal
 

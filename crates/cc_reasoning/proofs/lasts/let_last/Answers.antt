@@ -6,7 +6,7 @@ use Rattle.cc_known.specs.Parts.{found_of, named_of}
 use Rattle.cc_type.specs.Rows as rows
 use Rattle.cc_reasons.specs.Causes.{Refused}
 use Rattle.cc_reasoning.specs.ExplainedLogs.{let_cause}
-use Rattle.cc_reasoning.specs.Views.{scene_of, binder_names_of, cause_of}
+use Rattle.cc_causes.specs.Views.{scene_of, binder_names_of, cause_of}
 use Rattle.cc_reasoning.proofs.LastSteps as last
 use Rattle.cc_reasoning.proofs.lasts.let_last.Goals as goal
 

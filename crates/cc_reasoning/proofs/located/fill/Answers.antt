@@ -1,5 +1,5 @@
 use Rattle.std.proofs.Common.{◌≡◌, ◌<◌, length, rules}
-use Rattle.cc_reasoning.specs.Views.{locals_of}
+use Rattle.cc_causes.specs.Views.{locals_of}
 use Rattle.cc_reasoning.proofs.LocatedSteps.{filled_more}
 use Rattle.cc_reasoning.proofs.located.fill.Goals as goal
 

@@ -1,5 +1,5 @@
 use Rattle.std.proofs.Common.{◌≡◌, ◌++◌, ◌-◌, map, length, replicate}
-use Rattle.cc_reasoning.specs.Views.{locals_of}
+use Rattle.cc_causes.specs.Views.{locals_of}
 use Rattle.cc_reasoning.proofs.located.fill.Given as goal
 
 abbrev pub invariant-loop-known : goal.invariant-loop-known

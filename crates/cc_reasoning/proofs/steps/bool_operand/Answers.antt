@@ -9,9 +9,9 @@ use Rattle.cc_known.specs.Logs as logs
 use Rattle.cc_type.specs.Rows.{ways, operand_log}
 use Rattle.cc_reasons.specs.Causes.{Refused, outcome_of, WrongShape}
 use Rattle.cc_reasons.specs.ExplainedInference.{explained_operand}
-use Rattle.cc_reasoning.specs.declared.reason.Cause.{Cause as DeclaredCause}
+use Rattle.cc_causes.specs.declared.reason.Cause.{Cause as DeclaredCause}
 use Rattle.cc_reasoning.specs.LocatedLogs.{Stopped}
-use Rattle.cc_reasoning.specs.Views.{locals_of, scene_of, cause_of}
+use Rattle.cc_causes.specs.Views.{locals_of, scene_of, cause_of}
 use Rattle.cc_reasoning.proofs.ExplainedSteps as steps
 use Rattle.cc_reasoning.proofs.steps.bool_operand.Goals as goal
 

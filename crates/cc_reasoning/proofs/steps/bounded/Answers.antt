@@ -7,9 +7,9 @@ use Rattle.cc_type.specs.Rows.{comparing, ways}
 use Rattle.cc_reasons.specs.Causes.{Refused, WrongType}
 use Rattle.cc_reasons.specs.ExplainedInference.{explained_below}
 use Rattle.cc_reasons.proofs.ExplainedOutcomes.{below_is}
-use Rattle.cc_reasoning.specs.declared.reason.Cause.{Cause as DeclaredCause}
+use Rattle.cc_causes.specs.declared.reason.Cause.{Cause as DeclaredCause}
 use Rattle.cc_reasoning.specs.LocatedLogs.{Stopped}
-use Rattle.cc_reasoning.specs.Views.{locals_of, scene_of, cause_of}
+use Rattle.cc_causes.specs.Views.{locals_of, scene_of, cause_of}
 use Rattle.cc_reasoning.proofs.ExplainedSteps as steps
 use Rattle.cc_reasoning.proofs.steps.bounded.Goals as goal
 

@@ -4,10 +4,10 @@ use Rattle.cc_subty.specs.Demands.{asked_of}
 use Rattle.cc_known.specs.Logs as logs
 use Rattle.cc_type.specs.Rows.{branch_log}
 use Rattle.cc_reasons.specs.Causes.{Refused, outcome_of}
-use Rattle.cc_reasoning.specs.declared.reason.Cause.{Cause as DeclaredCause}
+use Rattle.cc_causes.specs.declared.reason.Cause.{Cause as DeclaredCause}
 use Rattle.cc_reasoning.specs.ExplainedLogs.{branch}
 use Rattle.cc_reasoning.specs.LocatedLogs.{Stopped}
-use Rattle.cc_reasoning.specs.Views.{locals_of, scene_of, cause_of}
+use Rattle.cc_causes.specs.Views.{locals_of, scene_of, cause_of}
 use Rattle.cc_reasoning.proofs.ExplainedSteps as steps
 use Rattle.cc_reasoning.proofs.steps.branch_below.Goals as goal
 

@@ -9,10 +9,10 @@ use Rattle.cc_known.specs.Parts.{found_of}
 use Rattle.cc_type.specs.Rows.{ways}
 use Rattle.cc_reasons.specs.ExplainedInference.{explained}
 use Rattle.cc_reasons.proofs.ExplainedOutcomes.{explained_is_inference}
-use Rattle.cc_reasoning.specs.declared.reason.Cause.{Cause as DeclaredCause}
-use Rattle.cc_reasoning.specs.LeafReasons.{IsCauseIn}
+use Rattle.cc_causes.specs.declared.reason.Cause.{Cause as DeclaredCause}
+use Rattle.cc_causes.specs.LeafReasons.{IsCauseIn}
 use Rattle.cc_reasoning.specs.LocatedLogs.{Stopped}
-use Rattle.cc_reasoning.specs.Views.{locals_of, scene_of, binder_names_of, cause_of}
+use Rattle.cc_causes.specs.Views.{locals_of, scene_of, binder_names_of, cause_of}
 use Rattle.cc_reasoning.proofs.ExplainedSteps as steps
 use Rattle.cc_reasoning.proofs.steps.leaf.Goals as goal
 

@@ -9,9 +9,9 @@ use Rattle.cc_type.proofs.InferredLogs.{noted_logs}
 use Rattle.cc_reasons.specs.Causes.{Refused}
 use Rattle.cc_reasons.specs.ExplainedInference.{explained_note}
 use Rattle.cc_reasons.proofs.ExplainedOutcomes.{note_is}
-use Rattle.cc_reasoning.specs.declared.reason.Cause.{Cause as DeclaredCause}
+use Rattle.cc_causes.specs.declared.reason.Cause.{Cause as DeclaredCause}
 use Rattle.cc_reasoning.specs.LocatedLogs.{Stopped}
-use Rattle.cc_reasoning.specs.Views.{locals_of, scene_of, cause_of}
+use Rattle.cc_causes.specs.Views.{locals_of, scene_of, cause_of}
 use Rattle.cc_reasoning.proofs.ExplainedSteps as steps
 use Rattle.cc_reasoning.proofs.steps.name.Goals as goal
 

@@ -1,0 +1,3 @@
+pub mod LeafCauses
+pub mod MatchedOperands
+pub mod LeafAnswers

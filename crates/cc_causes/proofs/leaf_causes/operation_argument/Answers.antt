@@ -1,0 +1,15 @@
+use Rattle.std.proofs.Common.{ap, ◌∙◌}
+use Rattle.cc_core.specs.TermViews.{shape_of}
+use Rattle.cc_reasons.specs.Causes.{WrongShape}
+use Rattle.cc_causes.specs.Views.{scene_of, cause_of}
+use Rattle.cc_causes.proofs.LeafAnswers as answers
+use Rattle.cc_causes.proofs.leaf_causes.operation_argument.Goals as goal
+
+pub returns : goal.returns
+returns c =
+    let scene = scene_of c.args.scene.now in
+    let cause = cause_of c.in_ok-cause.cause in
+    let e = shape_of c.args.found.now.value in
+    answers.operation_mismatch scene c.args.receiver e c.requires.exposed c.args.code cause c.args.operation
+    c.args.argument c.args.base c.args.variable _ c.requires.taken c.requires.there c.in_ok-given.ensures.is c.requires.code
+    (c.in_ok-cause.ensures ∙ ap (WrongShape scene (shape_of c.in_ok-given.given.value)) c.in_ok-wanted.ensures)

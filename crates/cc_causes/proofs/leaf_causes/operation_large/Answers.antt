@@ -1,0 +1,14 @@
+use Rattle.std.proofs.Common.{ap, ◌∙◌}
+use Rattle.cc_core.specs.TermViews.{shape_of}
+use Rattle.cc_checking.specs.Inference.{base_type}
+use Rattle.cc_reasons.specs.Causes.{TooLarge}
+use Rattle.cc_causes.specs.Views.{scene_of, cause_of}
+use Rattle.cc_causes.proofs.LeafAnswers as answers
+use Rattle.cc_causes.proofs.leaf_causes.operation_large.Goals as goal
+
+pub returns : goal.returns
+returns c =
+    let scene = scene_of c.args.scene.now in
+    answers.operation_large scene c.args.receiver (shape_of c.args._found.now.value) c.requires.exposed c.args.code
+    (cause_of c.in_ok-cause.cause) c.args.operation c.args.argument c.requires.no_head c.requires.no_mismatch
+    (c.in_ok-cause.ensures ∙ ap (TooLarge scene) (c.in_ok-ty.ensures ∙ ap base_type c.base_answered.ensures))

@@ -1,0 +1,2 @@
+pub mod LeafReasons
+pub mod Views

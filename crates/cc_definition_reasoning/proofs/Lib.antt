@@ -1,0 +1,6 @@
+pub mod ExplainedRows
+pub mod DefinitionLogs
+pub mod KeptFronts
+pub mod KeptFailures
+pub mod Unsigned
+pub mod AnsweredReasons

@@ -1,0 +1,3 @@
+pub mod ExplainedDefinitions
+pub mod Keeping
+pub mod Reasons
