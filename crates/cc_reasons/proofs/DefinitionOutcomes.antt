@@ -65,7 +65,7 @@ explained_definitions_are_checked ways devices globals definition names = by_kin
     by_kind true = recursive_is ways devices globals definition names definition.note
     by_kind false = plain_is ways globals definition names
 
-placed_parts : (before : List Located) (one : Located) (after : List Located)
+pub placed_parts : (before : List Located) (one : Located) (after : List Located)
     → placed_of (before ++ one ∷ after) ≡ placed_of before ++ one.placed ∷ placed_of after
 placed_parts [] one after = refl
 placed_parts (first ∷ before) one after = ap (λ it. first.placed ∷ it) (placed_parts before one after)

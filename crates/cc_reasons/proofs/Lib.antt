@@ -1,6 +1,12 @@
+pub mod ChainsToEnds
+pub mod ComparedCauses
 pub mod DefinitionOutcomes
 pub mod ExplainedOutcomes
 pub mod FoundMismatches
 pub mod OneReason
+pub mod OneTelling
 pub mod RefusedModules
+pub mod SettledMismatches
 pub mod ShortestChains
+pub mod ToldModules
+pub mod ToldReasons

@@ -2,6 +2,7 @@ pub mod CauseLaws
 pub mod Causes
 pub mod DefinitionReasons
 pub mod ExplainedInference
+pub mod LineLaws
 pub mod Mismatches
 pub mod NamedBinders
 pub mod ReasonTexts

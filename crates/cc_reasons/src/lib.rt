@@ -2,5 +2,6 @@
 #![tactic(auto)]
 
 pub mod cause_laws;
+pub mod line_laws;
 pub mod mismatch_laws;
 pub mod refused_laws;
