@@ -46,7 +46,7 @@ fn with_device(alloc: Global, ctx: &Ctx, kind: &Kind) -> Result<Ctx, AllocError>
 }
 
 /// The context of the devices, in order.
-pub(crate) fn declared_context(alloc: Global, devices: &[DeviceDecl]) -> Result<Ctx, AllocError>
+pub fn declared_context(alloc: Global, devices: &[DeviceDecl]) -> Result<Ctx, AllocError>
     ensures { IfOk result (λ c. context_of c ≡ plain.declared_context devices.now) }
 {
     let mut ctx = Ctx::new();
@@ -57,7 +57,7 @@ pub(crate) fn declared_context(alloc: Global, devices: &[DeviceDecl]) -> Result<
 }
 
 /// The context with one variable of the type more.
-pub(crate) fn with_signature(alloc: Global, ctx: &Ctx, ty: &Ty) -> Result<Ctx, AllocError>
+pub fn with_signature(alloc: Global, ctx: &Ctx, ty: &Ty) -> Result<Ctx, AllocError>
     ensures { IfOk result (λ c. context_of c ≡ entry_of (type_of ty.now) ∷ context_of ctx.now) }
 {
     let more = ctx.push(alloc, Bind::Var(ty.clone()?))?;
@@ -75,7 +75,7 @@ fn with_finding(alloc: Global, ctx: Ctx, finding: &Finding) -> Result<Ctx, Alloc
 }
 
 /// The context with the signatures that are found, in order.
-pub(crate) fn with_findings(
+pub fn with_findings(
     alloc: Global,
     ctx: Ctx,
     findings: &[Finding],

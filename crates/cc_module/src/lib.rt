@@ -1,7 +1,7 @@
 //! The verdict of a module's text.
 #![tactic(auto)]
 
-mod contexts;
+pub mod contexts;
 mod definitions;
 pub mod finding;
 pub mod imports;

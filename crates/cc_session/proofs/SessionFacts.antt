@@ -30,9 +30,10 @@ use Rattle.cc_judge.proofs.TextPlaces.{text_of_place, place_of_key, distinct_key
 use Rattle.cc_verdicts.specs.ModuleVerdicts.{CheckedDefinition, IsAccepted, IsRefused}
 use Rattle.cc_verdicts.specs.PresentTexts.{Texts, ArePresent, text_of, most_modules}
 use Rattle.cc_module.specs.declared.judgement.ModuleVerdict.{ModuleVerdict}
+use Rattle.cc_module.specs.Findings.{finding_of}
 use Rattle.cc_module.specs.Judgements.{module_verdict_of}
 use Rattle.cc_session.specs.Sessions.{SessionState, IsSession}
-use Rattle.cc_session.specs.Signatures.{verdict_named, shown_definitions, definitions_or, signature_of}
+use Rattle.cc_session.specs.Signatures.{verdict_named, findings_named, shown_definitions, definitions_or, signature_of}
 
 -- the session that keeps these judgements
 abbrev pub state : List DeviceDecl → Texts → Bool → Last → SessionState
@@ -121,6 +122,47 @@ verdict_absent (first ∷ rest) [] name same absent = absurd (omega arith)
 verdict_absent (first ∷ rest) (others ∷ more) name same absent =
     let parts = or_parts (bytes_eq name first.0) (list_any (bytes_eq name) (keys_of rest)) absent in
     rw parts.0 (verdict_absent rest more name (omega arith) parts.1)
+
+-- what was found for the imports of the name that stands at a place
+findings_at_name : (verdicts : List (List ℕ × ModuleVerdict)) (grounds : List Grounds) (at : ℕ) (name : List ℕ)
+    (one : Grounds) → length grounds ≡ length verdicts → IsDistinct bytes_eq (keys_of verdicts)
+    → slice_get (keys_of verdicts) at ≡ Some name → slice_get grounds at ≡ Some one
+    → findings_named name (judgements_from verdicts grounds) ≡ Some (map finding_of one.findings)
+findings_at_name [] grounds at name one same distinct named stands = cc
+findings_at_name (first ∷ rest) [] at name one same distinct named stands = absurd (omega arith)
+findings_at_name (first ∷ rest) (others ∷ more) zero name one same distinct named stands =
+    rw (is_same_name name first.0 (sym (same_Some first.0 name named)))
+    (ap (λ (g : Grounds). Some (map finding_of g.findings)) (same_Some others one stands))
+findings_at_name (first ∷ rest) (others ∷ more) (suc at) name one same distinct named stands =
+    let apart : bytes_eq name first.0 ≡ false =
+    nat_list_eq_equiv.symm name first.0
+    ∙ apart_at (keys_of rest) first.0 name at (IsDistinct-head bytes_eq first.0 (keys_of rest) distinct) named in
+    rw apart
+    (findings_at_name rest more at name one (omega arith) (IsDistinct-tail bytes_eq first.0 (keys_of rest) distinct)
+    named stands)
+
+pub findings_shown : (verdicts : List (List ℕ × ModuleVerdict)) (grounds : List Grounds) (at : ℕ) (name : List ℕ)
+    (one : Grounds) → length grounds ≡ length verdicts → IsStrictlySortedBy compare_names (keys_of verdicts)
+    → slice_get (keys_of verdicts) at ≡ Some name → one ≡ get_or grounds at one
+    → findings_named name (judgements_from verdicts grounds) ≡ Some (map finding_of one.findings)
+findings_shown verdicts grounds at name one same sorted named is =
+    let within : at < length grounds = omega (
+      arith,
+      slice_get_within (keys_of verdicts) at name named,
+      length-keys_of verdicts,
+      same,
+    ) in
+    findings_at_name verdicts grounds at name one same (distinct_keys verdicts sorted) named
+    (slice_get_read grounds (length grounds) at one refl within is)
+
+pub findings_absent : (verdicts : List (List ℕ × ModuleVerdict)) (grounds : List Grounds) (name : List ℕ)
+    → length grounds ≡ length verdicts → IsAbsentKey (keys_of verdicts) name
+    → findings_named name (judgements_from verdicts grounds) ≡ None
+findings_absent [] grounds name same absent = refl
+findings_absent (first ∷ rest) [] name same absent = absurd (omega arith)
+findings_absent (first ∷ rest) (others ∷ more) name same absent =
+    let parts = or_parts (bytes_eq name first.0) (list_any (bytes_eq name) (keys_of rest)) absent in
+    rw parts.0 (findings_absent rest more name (omega arith) parts.1)
 
 -- what stands at the place of a name is its text
 pub text_at_key : (texts : Texts) → ArePresent texts → (at : ℕ) (name : List ℕ) (entry : List ℕ × List ℕ)

@@ -1,16 +1,21 @@
--- What is answered of the signatures of modules.
+-- What is answered of the signatures of modules, and of what was found for their imports.
 use Rattle.std.specs.Prelude.{ℕ, List, [], ◌∷◌, Option, Some, None, Result, Ok, Err, if◌then◌else◌}
 use Rattle.std.specs.Str.{bytes_eq}
 use Rattle.cc_base.specs.declared.code.Code.{Code}
 use Rattle.cc_base.specs.declared.code.Code.TheVariants.{E32, E33, E34}
 use Rattle.cc_judge.specs.Judgements.{Judgement}
-use Rattle.cc_verdicts.specs.ModuleVerdicts.{CheckedDefinition, ModuleVerdict, IsAccepted, IsRefused}
+use Rattle.cc_verdicts.specs.ModuleVerdicts.{CheckedDefinition, Finding, ModuleVerdict, IsAccepted, IsRefused}
 use Rattle.cc_verdicts.specs.PresentTexts.{definition_named}
 
 -- the verdict of the module, if it was judged
 abbrev pub verdict_named : List ℕ → List Judgement → Option ModuleVerdict
 verdict_named name [] = None
 verdict_named name (first ∷ rest) = if bytes_eq name first.name then Some first.verdict else verdict_named name rest
+
+-- what was found for the imports of the module, if it was judged
+abbrev pub findings_named : List ℕ → List Judgement → Option (List Finding)
+findings_named name [] = None
+findings_named name (first ∷ rest) = if bytes_eq name first.name then Some first.findings else findings_named name rest
 
 -- the definitions of an accepted module
 abbrev pub shown_definitions : ModuleVerdict → Result (List CheckedDefinition) Code

@@ -8,17 +8,19 @@ ghost use Rattle.cc_core.specs.TermViews.{context_of};
 ghost use Rattle.cc_derive.specs.Accepting.{IsAcceptedIn};
 ghost use Rattle.cc_session.specs.Modules.{module_of};
 ghost use Rattle.cc_base.specs.Names.{compare_names};
+ghost use Rattle.cc_judge.specs.Dependencies.{AreRead};
 ghost use Rattle.cc_judge.specs.Judgements.{stale_count, verdicts_of};
 ghost use Rattle.cc_judge.specs.Kept.{named_verdicts};
 ghost use Rattle.cc_verdicts.specs.ModuleLaws.{NamesOfDevicesDiffer};
 ghost use Rattle.cc_verdicts.specs.ModuleVerdicts as judged;
 ghost use Rattle.cc_verdicts.specs.PresentTexts.{text_of, others_present, longest_text, most_modules, AreVerdicts};
 ghost use Rattle.cc_verdicts.specs.StandingDefinitions.{standing_in};
+ghost use Rattle.cc_module.specs.Findings.{finding_of};
 ghost use Rattle.cc_module.specs.Judgements.{checked_definition_of};
 ghost use Rattle.cc_session.specs.EntryAnswers.{AnswersEntry};
 ghost use Rattle.cc_session.specs.LinkedModules.{AreLinked};
 ghost use Rattle.cc_session.specs.Sessions.{IsUpToDate, HasTexts};
-ghost use Rattle.cc_session.specs.Signatures.{signature_of, definition_in};
+ghost use Rattle.cc_session.specs.Signatures.{findings_named, signature_of, definition_in};
 ghost use Rattle.cc_session.specs.StandingAnswers.{AnswersStanding};
 
 use crate::entry::Entry;
@@ -31,11 +33,14 @@ use cc_base::code::Code;
 use cc_base::device::DeviceDecl;
 use cc_base::name::Name;
 use cc_base::steps::Steps;
+use cc_judge::dependencies::read_texts;
 use cc_judge::findings::definition_named;
 use cc_judge::grounds::SharedText;
 use cc_judge::judging::judge_all;
 use cc_judge::last::Last;
 use cc_judge::names::{place_of_text, place_of_verdict};
+use cc_judge::reading::ReadText;
+use cc_module::finding::Finding;
 use cc_module::judgement::{CheckedDef, ModuleVerdict};
 use std::alloc::{AllocError, Global};
 use std::marker::Model;
@@ -183,6 +188,36 @@ impl Session {
         ensures answer { named_verdicts result.now ≡ verdicts_of self.now.last }
     {
         self.last.verdicts.as_slice()
+    }
+
+    /// The present modules with their texts, in order of name. It takes no memory.
+    pub fn present(&self) -> &[(Name, SharedText)]
+        ensures { result.now ≡ self.now.present }
+    {
+        self.present.as_slice()
+    }
+
+    /// The present texts as they were read, in order of name: what was judged last is not read again.
+    ///
+    /// Fails only for want of memory.
+    pub fn readings(&self) -> Result<Vec<ReadText>, AllocError>
+        ensures { IfOk result (λ readings. AreRead self.now.present readings.items) }
+    {
+        read_texts(self.alloc, self.present.as_slice(), &self.last)
+    }
+
+    /// What was found for the imports of the module. It takes no memory.
+    ///
+    /// Refused exactly where the module is not present.
+    pub fn findings(&self, name: &Name) -> Result<&[Finding], NoSuchModule>
+        requires { IsTrue self.now.checked }
+        ensures current { IsUpToDate self.now }
+        ensures answer { MatchResult result (λ found. findings_named name.now self.now.last ≡ Some (map finding_of found.now)) (λ _. findings_named name.now self.now.last ≡ None) }
+    {
+        match place_of_verdict(self.last.verdicts.as_slice(), name) {
+            Some(at) => Ok(self.last.grounds[at].findings.as_slice()),
+            None => Err(NoSuchModule),
+        }
     }
 
     /// The definitions of the module. It takes no memory.
