@@ -35,11 +35,7 @@ pub fn wrong_type(scene: &Scene, found: Ty, wanted: Ty) -> Result<Cause, AllocEr
 }
 
 /// A shape does not match the one that is wanted.
-pub fn wrong_shape(
-    scene: &Scene,
-    found: Rc<Shape>,
-    wanted: Rc<Shape>,
-) -> Result<Cause, AllocError>
+pub fn wrong_shape(scene: &Scene, found: Rc<Shape>, wanted: Rc<Shape>) -> Result<Cause, AllocError>
     ensures { IfOk result (λ c. cause_of c ≡ plain.WrongShape (scene_of scene.now) (shape_of found.value) (shape_of wanted.value)) }
 {
     let scene = scene.clone()?;

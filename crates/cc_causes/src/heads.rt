@@ -25,11 +25,7 @@ use std::alloc::{AllocError, Global};
 use std::rc::Rc;
 
 /// The shape of a variable that stands in a term at a place of the context.
-pub fn shape_of_variable(
-    alloc: Global,
-    ctx: &Ctx,
-    variable: Var,
-) -> Result<Rc<Shape>, AllocError>
+pub fn shape_of_variable(alloc: Global, ctx: &Ctx, variable: Var) -> Result<Rc<Shape>, AllocError>
     requires { IsWellFormedContext (context_of ctx.now) }
     ensures is { IfOk result (λ s. plain.variable_type (context_of ctx.now) (plain.in_context (context_of ctx.now) variable) ≡ finds (capturing (shape_of s.value) (variable_set (plain.in_context (context_of ctx.now) variable)))) }
     ensures formed { IfOk result (λ s. IsWellFormedShape (context_of ctx.now) (shape_of s.value)) }
@@ -51,11 +47,7 @@ pub fn type_of_variable(alloc: Global, ctx: &Ctx, variable: Var) -> Result<Ty, A
 }
 
 /// What the shape of such a variable exposes to.
-pub fn exposed_shape(
-    alloc: Global,
-    ctx: &Ctx,
-    variable: Var,
-) -> Result<Rc<Shape>, AllocError>
+pub fn exposed_shape(alloc: Global, ctx: &Ctx, variable: Var) -> Result<Rc<Shape>, AllocError>
     requires { IsWellFormedContext (context_of ctx.now) }
     ensures { IfOk result (λ e. IsExposedAs (context_of ctx.now) variable (shape_of e.value)) }
 {
@@ -105,12 +97,7 @@ pub fn exit_shape(shape: &Shape) -> Result<&Rc<Shape>, AllocError>
 }
 
 /// Whether the shape of a variable matches the base shape.
-pub fn matches_base(
-    alloc: Global,
-    ctx: &Ctx,
-    variable: Var,
-    base: Base,
-) -> Result<bool, AllocError>
+pub fn matches_base(alloc: Global, ctx: &Ctx, variable: Var, base: Base) -> Result<bool, AllocError>
     requires { IsWellFormedContext (context_of ctx.now) }
     ensures { IfOk result (λ b. (s : CapturingType) → plain.variable_type (context_of ctx.now) (plain.in_context (context_of ctx.now) variable) ≡ finds s → IsMatch b (comparing (context_of ctx.now) s.shape (BaseShape base))) }
 {

@@ -21,9 +21,9 @@ use crate::reason::{Cause, Head, Scene};
 use cc_base::code::Code;
 use cc_base::literal::{Base, Lit, Op, Operator};
 use cc_capture::{CapSet, Var};
-use cc_core::{Ctx, Form, Node, Shape, Ty};
 use cc_core::reading::{read_set, read_shape, read_type};
 use cc_core::substitution::{subst_type, subst_var};
+use cc_core::{Ctx, Form, Node, Shape, Ty};
 use cc_known::steps::{entries, in_context};
 use cc_type::bases::{
     base_answered, base_given, base_of, base_operated, base_shape, base_taken, base_type,

@@ -19,12 +19,7 @@ use std::alloc::{AllocError, Global};
 /// greatest first. There is none where a position is free in a bound or in the shape of an exit.
 ///
 /// The type is gone over once. Fails only for want of memory.
-pub fn signature(
-    alloc: Global,
-    ctx: &Ctx,
-    devices: u32,
-    ty: &Ty,
-) -> Result<Option<Ty>, AllocError>
+pub fn signature(alloc: Global, ctx: &Ctx, devices: u32, ty: &Ty) -> Result<Option<Ty>, AllocError>
     requires { IsWellFormedContext (context_of ctx.now) }
     ensures { IfOk result (λ t. option_map type_of t ≡ signature_of devices (context_of ctx.now) (type_of ty.now)) }
 {

@@ -86,13 +86,19 @@ stands_behind [] locals place one here is known = cc
 stands_behind (first ∷ demands) [] place one here is known = cc
 stands_behind (first ∷ demands) (l ∷ locals) zero one here is known =
     let same : first ≡ one = cc in
-    let there : l ≡ here = cc in
-    ([], beside (asked_of demands) locals,
-    (λ i. located (there i) (demand_of (same i)) ∷ beside (asked_of demands) locals), refl)
+    let there : l ≡ here = cc in (
+      [],
+      beside (asked_of demands) locals,
+      (λ i. located (there i) (demand_of (same i)) ∷ beside (asked_of demands) locals),
+      refl,
+    )
 stands_behind (first ∷ demands) (l ∷ locals) (suc place) one here is known =
-    let rest = stands_behind demands locals place one here is known in
-    (located l (demand_of first) ∷ rest.0, rest.1, ap (λ t. located l (demand_of first) ∷ t) rest.2,
-    ap (λ t. demand_of first ∷ t) rest.3)
+    let rest = stands_behind demands locals place one here is known in (
+      located l (demand_of first) ∷ rest.0,
+      rest.1,
+      ap (λ t. located l (demand_of first) ∷ t) rest.2,
+      ap (λ t. demand_of first ∷ t) rest.3,
+    )
 
 module _ (devices : ℕ) (globals : Context) (definition : Definition) (names : BinderNames) (found : Checking)
     (demands : List DeclaredDemand) (locals : List (List Local)) (fits : Fits globals definition)
@@ -119,7 +125,7 @@ module _ (devices : ℕ) (globals : Context) (definition : Definition) (names : 
 
   module _ (number : ℕ) (counts : number ≡ length globals) (sets : List Set)
       (least : IsLeast number (asked_of demands) (filling_of sets)) where
-    filling : Filling
+    abbrev filling : Filling
     filling = filling_of sets
 
     least_of_kept : IsLeast (length globals) (kept (placed_of keeps.0)) filling
@@ -153,10 +159,16 @@ module _ (devices : ℕ) (globals : Context) (definition : Definition) (names : 
           served = subst (AllServed filling) (sym parts.3) fails.2;
           fails = fails.3;
         } in
-        reasoned (unserved filling here (demand_of fails.0).asked) (demand_of fails.0).at
-        (filling, least_of_all,
-        inl (located here (demand_of fails.0),
-        fails_first_of_all globals filling keeps.0 (located here (demand_of fails.0)) all_fit over first, refl, refl))
+        reasoned (unserved filling here (demand_of fails.0).asked) (demand_of fails.0).at (
+          filling,
+          least_of_all,
+          inl (
+            located here (demand_of fails.0),
+            fails_first_of_all globals filling keeps.0 (located here (demand_of fails.0)) all_fit over first,
+            refl,
+            refl,
+          ),
+        )
 
     module _ (serves : AllServed filling (asked_of demands)) (enough : length sets ≡ holes_of definition.right) where
       few : HasCheckingHolesBelow (length sets) found (placed_of keeps.0)
@@ -175,13 +187,17 @@ module _ (devices : ℕ) (globals : Context) (definition : Definition) (names : 
           → cause ≡ unsigned_cause globals (filled_type (filled_by sets) found.type)
           → HasReason devices globals definition names (OfStep cause) definition.name_at
       unsigned_reason cause none is =
-          reasoned (OfStep cause) definition.name_at
-          (filling, least_of_all,
-          inr ((kept_is_served_alike globals filling (placed_of keeps.0) all_fit over).0 serves_kept,
-          signature_same ∙ none,
-          ap OfStep is
-          ∙ ap (λ t. OfStep (unsigned_cause globals t)) (sym ((lists_fill_alike sets).types found.type few.type)),
-          refl))
+          reasoned (OfStep cause) definition.name_at (
+            filling,
+            least_of_all,
+            inr (
+              (kept_is_served_alike globals filling (placed_of keeps.0) all_fit over).0 serves_kept,
+              signature_same ∙ none,
+              ap OfStep is
+                  ∙ ap (λ t. OfStep (unsigned_cause globals t)) (sym ((lists_fill_alike sets).types found.type few.type)),
+              refl,
+            ),
+          )
 
       accepted_by : (o : Option CapturingType) → o ≢ None
           → (accepted : Accepted) × (signature_verdict filling definition found o ≡ IsAccepted accepted)
@@ -195,8 +211,10 @@ module _ (devices : ℕ) (globals : Context) (definition : Definition) (names : 
           let accepted = accepted_by (signature_under filling devices globals found)
           (λ none. some (sym signature_same ∙ none)) in
           let one = one_verdict devices globals definition (IsRefused (code_of_reason reason) at) (IsAccepted accepted.0)
-          (reasons_are_of_refusals devices globals definition names reason at has)
-          (plain.Found found (placed_of keeps.0), is_checked,
-          subst (Deserves devices globals definition (plain.Found found (placed_of keeps.0))) accepted.1
-          (decided_by_kept devices globals definition found (placed_of keeps.0) filling all_fit least_of_kept serves_kept)) in
+          (reasons_are_of_refusals devices globals definition names reason at has) (
+            plain.Found found (placed_of keeps.0),
+            is_checked,
+            subst (Deserves devices globals definition (plain.Found found (placed_of keeps.0))) accepted.1
+                (decided_by_kept devices globals definition found (placed_of keeps.0) filling all_fit least_of_kept serves_kept),
+          ) in
           cc

@@ -2,5 +2,5 @@ pub mod ExplainedRows
 pub mod DefinitionLogs
 pub mod KeptFronts
 pub mod KeptFailures
-pub mod Unsigned
+pub mod UnsignedTypes
 pub mod AnsweredReasons

@@ -18,14 +18,14 @@ ghost use Rattle.cc_definition_reasoning.specs.Reasons.{IsAnswered};
 
 use crate::definitions::Checking;
 use crate::failing::{first_failing, place_of, unserved};
+use crate::reason::{DefinitionReason, Reasoned};
 use crate::recursive::explain_definition;
 use crate::unsigned::unsigned_cause;
-use cc_causes::reason::{DefinitionReason, Reasoned};
 use cc_causes::reason::{Binders, Cause, Halt, Locals};
 use cc_check::holes::hole_count;
 use cc_check::signature::signature;
-use cc_core::{CapSet, CoreDef, Ctx, Ty};
 use cc_core::substitution::fill_type;
+use cc_core::{CapSet, CoreDef, Ctx, Ty};
 use cc_known::Measures;
 use cc_solve::solve;
 use cc_subty::Demands;

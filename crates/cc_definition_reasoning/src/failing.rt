@@ -9,12 +9,12 @@ ghost use Rattle.cc_causes.specs.Views.{locals_of};
 ghost use Rattle.cc_definition_reasoning.specs.Keeping.{FailsAt};
 ghost use Rattle.cc_definition_reasoning.specs.Reasons.{reason_of};
 
+use crate::reason::DefinitionReason;
 use cc_base::place::Place;
 use cc_causes::reason::{Locals, Scene};
-use cc_causes::reason::DefinitionReason;
 use cc_sets::marks::Marks;
-use cc_solve::{Filling, is_served};
 use cc_solve::judging::filled;
+use cc_solve::{Filling, is_served};
 use cc_subty::demands::Demand;
 use std::alloc::{AllocError, Global};
 use std::rc::Rc;
@@ -28,7 +28,7 @@ pub(crate) fn first_failing(
     filling: &Filling,
 ) -> Result<Option<usize>, AllocError>
     requires { CanBeJudged (filling_of filling.now) (asked_of demands.now) }
-    ensures { IfOk result (λ r. MatchOption r (AllServed (filling_of filling.now) (asked_of demands.now)) (λ place. FailsAt (filling_of filling.now) (asked_of demands.now) place)) }
+    ensures { IfOk result (λ r. MatchOption r (AllServed (filling_of filling.now) (asked_of demands.now)) (λ place. FailsAt (filling_of filling.now) demands.now place)) }
 {
     let mut marks = Marks::new(alloc);
     for index in 0..demands.len() {

@@ -75,11 +75,7 @@ fn with_finding(alloc: Global, ctx: Ctx, finding: &Finding) -> Result<Ctx, Alloc
 }
 
 /// The context with the signatures that are found, in order.
-pub fn with_findings(
-    alloc: Global,
-    ctx: Ctx,
-    findings: &[Finding],
-) -> Result<Ctx, AllocError>
+pub fn with_findings(alloc: Global, ctx: Ctx, findings: &[Finding]) -> Result<Ctx, AllocError>
     ensures { IfOk result (λ c. context_of c ≡ plain.with_findings (context_of ctx) (map finding_of findings.now)) }
 {
     let mut more = ctx;

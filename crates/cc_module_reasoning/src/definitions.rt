@@ -71,14 +71,7 @@ pub fn first_refused(
     let mut instances = Instances::new(alloc);
     for index in 0..defs.len() {
         let def = &defs[index];
-        match check_known(
-            alloc,
-            &globals,
-            devices,
-            def,
-            &mut measures,
-            &mut instances,
-        ) {
+        match check_known(alloc, &globals, devices, def, &mut measures, &mut instances) {
             Ok(checked) => globals = with_signature(alloc, &globals, &checked.sig)?,
             Err(CheckError::Refused(_)) => {
                 return match reason_of(alloc, &globals, devices, def, &trees[index])? {

@@ -20,8 +20,8 @@ use crate::scenes::{body_scene, boundary_scene, function_scene, type_function_sc
 use crate::steps::{bounded, branch_below, leaf, name, test};
 use cc_base::place::Place;
 use cc_causes::reason::{Binders, Halt, Locals, Scene};
-use cc_core::{Form, Node};
 use cc_core::reading::{read_shape, read_type};
+use cc_core::{Form, Node};
 use cc_known::found::Found;
 use cc_known::measures::Measures;
 use cc_known::steps::entries;
