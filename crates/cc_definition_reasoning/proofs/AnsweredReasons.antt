@@ -1,7 +1,8 @@
 -- From what is kept of all that is asked to the reason of a definition.
 use Rattle.std.proofs.Common.{◌≡◌, ◌≢◌, ℕ, zero, suc, ◌<◌, List, [], ◌∷◌, ◌++◌, map, length, take, Option, Some, None}
-use Rattle.std.proofs.Common.{inl, inr, refl, sym, ap, ◌∙◌, subst, arith}
+use Rattle.std.proofs.Common.{Result, Ok, Err, IfOk, inl, inr, refl, sym, ap, ◌∙◌, subst, arith}
 use Rattle.std.specs.Prelude.{slice_get}
+use Rattle.std.proofs.lemmas.Option.{slice_get_within}
 use Rattle.cc_base.specs.declared.place.Place.{Place}
 use Rattle.cc_capture.specs.Sets.{Set}
 use Rattle.cc_core.specs.Actions.{filled_by}
@@ -32,15 +33,21 @@ use Rattle.cc_type.specs.Rows.{ways}
 use Rattle.cc_type.proofs.CheckedHoles.{checking_adds_no_hole}
 use Rattle.cc_type.proofs.KeptVerdicts.{decided_by_kept, signature_by_list}
 use Rattle.cc_check.specs.Judging.{KeepsOf}
+use Rattle.std.specs.declared.alloc.AllocError.{AllocError}
+use Rattle.cc_causes.specs.declared.reason.Halt.{Halt}
+use Rattle.cc_causes.specs.declared.reason.Halt.TheVariants as halts
+use Rattle.cc_causes.specs.Views.{cause_of}
 use Rattle.cc_reasons.specs.Causes.{Local, Located, located, Cause, Explained, Refused, Found, outcome_of}
 use Rattle.cc_reasons.specs.DefinitionReasons.{DefinitionReason, OfStep, unserved, unsigned_cause, code_of_reason}
 use Rattle.cc_reasons.specs.DefinitionReasons.{placed_of, FailsFirstAs, Tells, HasReason, explained_definition}
 use Rattle.cc_reasons.specs.ExplainedInference.{BinderNames}
 use Rattle.cc_reasons.proofs.DefinitionOutcomes.{explained_definitions_are_checked, reasons_are_of_refusals}
-use Rattle.cc_reasoning.specs.LocatedLogs.{Reached, Got, Stopped, after, keeping, beside}
+use Rattle.cc_reasoning.specs.LocatedLogs.{Got, Stopped, Meets, after, keeping, beside}
 use Rattle.cc_reasoning.proofs.LocatedSteps.{placed_of-keeping, placed_of-beside}
-use Rattle.cc_definition_reasoning.specs.ExplainedDefinitions.{definition_log}
-use Rattle.cc_definition_reasoning.specs.Keeping.{Keeps, FailsAt}
+use Rattle.cc_definition_reasoning.specs.ExplainedDefinitions.{checking_of, definition_log}
+use Rattle.cc_definition_reasoning.specs.Keeping.{Keeps, FailsAt, IsUnsigned}
+use Rattle.cc_definition_reasoning.specs.Reasons.{reason_of, IsAnswered, IsRefusal, IsUnservedAt}
+use Rattle.cc_definition_reasoning.specs.declared.reason.Reasoned.{Reasoned}
 use Rattle.cc_definition_reasoning.proofs.DefinitionLogs.{definition_logs}
 use Rattle.cc_definition_reasoning.proofs.KeptFailures.{fails_first_of_all}
 
@@ -76,6 +83,19 @@ stopped_reason devices globals definition names cause at is =
     (sym (definition_logs devices globals definition names []) ∙ is) in
     (most_steps, subst (λ o. Tells devices globals definition o (OfStep cause) at) (sym refused) (refl, refl))
 
+-- the same of what explaining stops with
+pub halted_reason : (devices : ℕ) (globals : Context) (definition : Definition) (names : BinderNames) (halt : Halt)
+    (log : List Located) (result : Result (Option Reasoned) AllocError)
+    → Meets checking_of (Err halt) log (definition_log devices globals definition names []) → IsRefusal halt result
+    → IfOk result (IsAnswered devices globals definition names)
+halted_reason devices globals definition names (halts.Refused cause at) log (Ok (Some found)) is told =
+    subst (λ r. HasReason devices globals definition names r found.at) (sym told.0)
+    (subst (λ p. HasReason devices globals definition names (OfStep (cause_of cause.value)) p) (sym told.1)
+    (stopped_reason devices globals definition names (cause_of cause.value) at is))
+halted_reason devices globals definition names (halts.Refused cause at) log (Ok None) is told = absurd told
+halted_reason devices globals definition names halts.NoMemory log (Ok found) is told = absurd told
+halted_reason devices globals definition names halt log (Err error) is told = tt
+
 -- the one at a place stands behind a front of the list
 stands_behind : (demands : List DeclaredDemand) (locals : List (List Local)) (place : ℕ) (one : DeclaredDemand)
     (here : List Local) → slice_get demands place ≡ Some one → slice_get locals place ≡ Some here
@@ -99,6 +119,12 @@ stands_behind (first ∷ demands) (l ∷ locals) (suc place) one here is known =
       ap (λ t. located l (demand_of first) ∷ t) rest.2,
       ap (λ t. demand_of first ∷ t) rest.3,
     )
+
+-- below the length of a list something stands at a place
+there_is : {A : Type 0} (xs : List A) (i : ℕ) → i < length xs → (x : A) × (slice_get xs i ≡ Some x)
+there_is [] i below = absurd (omega (arith, below))
+there_is (x ∷ xs) zero below = (x, refl)
+there_is (x ∷ xs) (suc i) below = there_is xs i (omega (arith, below))
 
 module _ (devices : ℕ) (globals : Context) (definition : Definition) (names : BinderNames) (found : Checking)
     (demands : List DeclaredDemand) (locals : List (List Local)) (fits : Fits globals definition)
@@ -169,6 +195,19 @@ module _ (devices : ℕ) (globals : Context) (definition : Definition) (names : 
             refl,
           ),
         )
+
+    -- and so is the answer that tells it
+    pub answered_at : (place : ℕ) → FailsAt filling demands place → length locals ≡ length demands → (found : Reasoned)
+        → IsUnservedAt sets demands locals place found
+        → HasReason devices globals definition names (reason_of found.reason) found.at
+    answered_at place fails even found told =
+        let within : place < length demands = slice_get_within demands place fails.0 fails.1 in
+        let here = there_is locals place (omega (arith, within, even)) in
+        let same = told fails.0 here.0 fails.1 here.1 in
+        subst (λ r. HasReason devices globals definition names r found.at) (sym same.0)
+        (subst (λ p. HasReason devices globals definition names
+        (unserved filling here.0 (demand_of fails.0).asked) p) (sym same.1)
+        (failing_reason place here.0 fails here.1))
 
     module _ (serves : AllServed filling (asked_of demands)) (enough : length sets ≡ holes_of definition.right) where
       few : HasCheckingHolesBelow (length sets) found (placed_of keeps.0)

@@ -1,6 +1,6 @@
 //! Why a definition is refused.
 
-ghost use Rattle.std.specs.Prelude.{◌≡◌, ℕ, List, length, map, None, IfOk};
+ghost use Rattle.std.specs.Prelude.{◌≡◌, ◌<◌, length, map, IfOk};
 ghost use Rattle.cc_core.specs.Actions.{filled_by};
 ghost use Rattle.cc_core.specs.Holes.{HolesAreOfParameters};
 ghost use Rattle.cc_core.specs.Substitution.{filled_type};
@@ -14,7 +14,7 @@ ghost use Rattle.cc_check.specs.Definitions.{definition_of};
 ghost use Rattle.cc_causes.specs.Views.{locals_of, cause_of, binder_names_of};
 ghost use Rattle.cc_definition_reasoning.specs.ExplainedDefinitions.{checking_of};
 ghost use Rattle.cc_definition_reasoning.specs.Keeping.{IsUnsigned, IsUnsignedType, Keeps};
-ghost use Rattle.cc_definition_reasoning.specs.Reasons.{IsAnswered};
+ghost use Rattle.cc_definition_reasoning.specs.Reasons.{IsAnswered, IsRefusal, IsUnservedAt};
 
 use crate::definitions::Checking;
 use crate::failing::{first_failing, place_of, unserved};
@@ -27,8 +27,9 @@ use cc_check::signature::signature;
 use cc_core::substitution::fill_type;
 use cc_core::{CapSet, CoreDef, Ctx, Ty};
 use cc_known::Measures;
-use cc_solve::solve;
+use cc_solve::{Filling, solve};
 use cc_subty::Demands;
+use cc_subty::demands::Demand;
 use cc_type::Log;
 use std::alloc::{AllocError, Global};
 use std::rc::Rc;
@@ -64,11 +65,20 @@ pub fn definition_reason(
             log.demands(),
             known.as_slice(),
         ),
-        Err(Halt::Refused(cause, at)) => {
+        Err(halt) => refusal_of(halt),
+    }
+}
+
+// Why it is refused where explaining stops so.
+fn refusal_of(halt: Halt) -> Result<Option<Reasoned>, AllocError>
+    ensures { IsRefusal halt result }
+{
+    match halt {
+        Halt::Refused(cause, at) => {
             let reason = DefinitionReason::OfStep(cause);
             Ok(Some(Reasoned { reason, at }))
         }
-        Err(Halt::NoMemory) => Err(AllocError),
+        Halt::NoMemory => Err(AllocError),
     }
 }
 
@@ -94,9 +104,8 @@ fn reason_of_found(
     let demands = demands.as_slice();
     match first_failing(alloc, demands, &filling)? {
         Some(place) => {
-            let reason = unserved(alloc, &demands[place], &known[place], filling)?;
-            let at = place_of(&demands[place]);
-            Ok(Some(Reasoned { reason, at }))
+            let reasoned = reason_at(alloc, demands, known, place, filling)?;
+            Ok(Some(reasoned))
         }
         None => {
             match unsigned(alloc, ctx, devices, &found, filling.as_slice())? {
@@ -109,6 +118,24 @@ fn reason_of_found(
             }
         }
     }
+}
+
+// Why the filling does not serve the one of what is asked that stands at the place, if it does not.
+fn reason_at(
+    alloc: Global,
+    demands: &[Demand],
+    known: &[Rc<Locals>],
+    place: usize,
+    filling: Filling,
+) -> Result<Reasoned, AllocError>
+    requires asked { place < length demands.now }
+    requires known { place < length known.now }
+    ensures { IfOk result (IsUnservedAt filling demands.now (map (λ l. locals_of l.value) known.now) place) }
+{
+    let demand = &demands[place];
+    let reason = unserved(alloc, demand, &known[place], filling)?;
+    let at = place_of(demand);
+    Ok(Reasoned { reason, at })
 }
 
 // Why what is found has no signature under the list of sets, if it has none.

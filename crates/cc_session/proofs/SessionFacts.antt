@@ -1,5 +1,5 @@
 -- What holds of a session after a call.
-use Rattle.std.proofs.Common.{◌≡◌, ◌≤◌, ℕ, Bool, false, List, [], ◌∷◌, length, Some, None, ap, ◌∙◌, sym, subst, refl}
+use Rattle.std.proofs.Common.{map, ◌≡◌, ◌≤◌, ℕ, Bool, false, List, [], ◌∷◌, length, Some, None, ap, ◌∙◌, sym, subst, refl}
 use Rattle.std.proofs.Common.{arith, get_or, ◌<◌, Ok, Err}
 use Rattle.std.proofs.lemmas.List.{get_or_default}
 use Rattle.std.proofs.lemmas.Map.Entries.{length-keys_of}

@@ -11,7 +11,7 @@ loop-serves-init c =
     record {
       none = c.requires.unsigned;
       some = signature_late c.len-serves.result (context_of c.args.ctx.now) (type_of c.args.ty.now) (omega (arith, count))
-          ∙ ap (λ t. Some (type_of t)) (sym c.in_ok-left.ensures);
+          ∙ ap (λ t. Some t) (sym c.in_ok-left.ensures.cases);
       apart = subst (λ n. c.args.devices < n) (sym count)
           (unsigned_within (context_of c.args.ctx.now) c.args.devices (type_of c.args.ty.now) c.requires.unsigned);
       within = omega (arith, c.len-serves.ensures);

@@ -1,4 +1,4 @@
-use Rattle.std.proofs.Common.{◌≡◌, List, ℕ, Some, None, map, subst}
+use Rattle.std.proofs.Common.{◌≡◌, List, ℕ, Some, None, map, sym, ap, ◌∙◌, subst}
 use Rattle.std.specs.List.{slice_get}
 use Rattle.std.specs.Map.{keys_of}
 use Rattle.cc_judge.specs.Places.{IsAbsentKey}
@@ -15,10 +15,11 @@ returns-in-Some-clause-answer c =
     let grounds = c.self.inside.last.grounds.items in
     let N : List (List ℕ × ModuleVerdict) → Type 0 = λ vs. slice_get (keys_of vs) c.in-Some.at ≡ Some c.args.name.now in
     let named = subst N c.as_slice.ensures.value c.in-Some.ensures in
-    let P : SessionState → Type 0 = λ s. findings_named c.args.name.now s.last ≡ Some (map finding_of c.as_slice2.result.now) in
+    let P : SessionState → Type 0 = λ s. findings_named c.args.name.now s.last ≡ Some (map finding_of c.as_slice-in-Some.result.now) in
     subst P c.self.view_is
     (findings_shown verdicts grounds c.in-Some.at c.args.name.now c.index.result.now
-    c.self.invariant.kept.one_each c.self.invariant.kept.names named c.index.ensures)
+    c.self.invariant.kept.one_each c.self.invariant.kept.names named c.index.ensures
+    ∙ ap (λ fs. Some (map finding_of fs)) (sym c.as_slice-in-Some.ensures))
 
 pub returns-in-None-clause-answer : goal.returns-in-None-clause-answer
 returns-in-None-clause-answer c =
