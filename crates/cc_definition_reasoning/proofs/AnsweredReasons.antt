@@ -1,5 +1,5 @@
 -- From what is kept of all that is asked to the reason of a definition.
-use Rattle.std.proofs.Common.{◌≡◌, ◌≢◌, ℕ, zero, suc, ◌<◌, List, [], ◌∷◌, ◌++◌, map, length, take, Option, Some, None}
+use Rattle.std.proofs.Common.{◌≡◌, ◌≢◌, ℕ, zero, suc, ◌<◌, List, [], ◌∷◌, ◌++◌, length, take, Option, Some, None}
 use Rattle.std.proofs.Common.{Result, Ok, Err, IfOk, inl, inr, refl, sym, ap, ◌∙◌, subst, arith}
 use Rattle.std.specs.Prelude.{slice_get}
 use Rattle.std.proofs.lemmas.Option.{slice_get_within}
@@ -24,7 +24,6 @@ use Rattle.cc_subty.specs.declared.demands.Demand.{Demand as DeclaredDemand}
 use Rattle.cc_subty.specs.Demands.{asked_of, demand_of}
 use Rattle.cc_solve.specs.Solutions.{filling_of}
 use Rattle.cc_known.specs.FilledHoles.{HasCheckingHolesBelow, holes_of}
-use Rattle.cc_known.specs.Keeping as keep
 use Rattle.cc_known.specs.Keeping.{kept}
 use Rattle.cc_known.proofs.FilledAlike.{lists_fill_alike}
 use Rattle.cc_known.proofs.KeptLists.{kept_forces_the_same, kept_is_served_alike}
@@ -45,7 +44,7 @@ use Rattle.cc_reasons.proofs.DefinitionOutcomes.{explained_definitions_are_check
 use Rattle.cc_reasoning.specs.LocatedLogs.{Got, Stopped, Meets, after, keeping, beside}
 use Rattle.cc_reasoning.proofs.LocatedSteps.{placed_of-keeping, placed_of-beside}
 use Rattle.cc_definition_reasoning.specs.ExplainedDefinitions.{checking_of, definition_log}
-use Rattle.cc_definition_reasoning.specs.Keeping.{Keeps, FailsAt, IsUnsigned}
+use Rattle.cc_definition_reasoning.specs.Keeping.{Keeps, FailsAt}
 use Rattle.cc_definition_reasoning.specs.Reasons.{reason_of, IsAnswered, IsRefusal, IsUnservedAt}
 use Rattle.cc_definition_reasoning.specs.declared.reason.Reasoned.{Reasoned}
 use Rattle.cc_definition_reasoning.proofs.DefinitionLogs.{definition_logs}

@@ -1,9 +1,9 @@
 -- The rows of any definition that is explained are what explains it.
-use Rattle.std.proofs.Common.{◌≡◌, ℕ, Bool, true, false, cond, List, [], length, Option, Some, None, refl, sym, ap, ◌∙◌}
+use Rattle.std.proofs.Common.{◌≡◌, ℕ, Bool, true, false, cond, List, [], Option, Some, None, refl}
 use Rattle.cc_base.specs.declared.code.Code.TheVariants.{E17}
 use Rattle.cc_base.specs.declared.place.Place.{Place}
 use Rattle.cc_core.specs.Contexts.{Context}
-use Rattle.cc_core.specs.Shapes.{CapturingType, capturing}
+use Rattle.cc_core.specs.Shapes.{capturing}
 use Rattle.cc_core.specs.Terms.{Note, Absent, Written, Own}
 use Rattle.cc_checking.specs.Outcomes.{found_or}
 use Rattle.cc_checking.specs.Verdicts.{Definition, signature_of}
