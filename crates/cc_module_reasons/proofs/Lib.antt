@@ -1,4 +1,2 @@
-pub mod Breaks
 pub mod MissingImports
 pub mod OneModuleReason
-pub mod RefusedTexts

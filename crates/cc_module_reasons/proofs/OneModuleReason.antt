@@ -8,12 +8,12 @@ use Rattle.cc_elaboration_reasons.proofs.TextRefusals.{causes_are_of_verdicts, r
 use Rattle.cc_elaboration_reasons.specs.ElaborationCauses as elaboration
 use Rattle.cc_elaboration_reasons.specs.ElaborationCauses.{ElaborationCause}
 use Rattle.cc_module_reasons.proofs.MissingImports.{import_reasons_are_of_refusals, missing_imports_have_a_reason, import_reasons_are_unique}
-use Rattle.cc_module_reasons.proofs.RefusedTexts.{text_reasons_are_of_refusals, refused_texts_have_a_reason, text_reasons_are_unique}
+use Rattle.cc_text_reasons.proofs.RefusedTexts.{text_reasons_are_of_refusals, refused_texts_have_a_reason, text_reasons_are_unique}
 use Rattle.cc_module_reasons.specs.ImportReasons as imports
 use Rattle.cc_module_reasons.specs.ImportReasons.{ImportReason, import_code}
 use Rattle.cc_module_reasons.specs.ModuleReasons.{ModuleReason, OfText, OfImport, OfElaboration, OfDefinition, module_code, IsReason, of_text, of_import, of_elaboration, of_definition, ModuleReasonsAreOfRefusals, RefusedModulesHaveAReason, ModuleReasonsAreUnique, AcceptedModulesHaveNoReason}
-use Rattle.cc_module_reasons.specs.TextReasons as texts
-use Rattle.cc_module_reasons.specs.TextReasons.{TextReason, text_code}
+use Rattle.cc_text_reasons.specs.TextReasons as texts
+use Rattle.cc_text_reasons.specs.TextReasons.{TextReason, text_code}
 use Rattle.cc_reasons.proofs.RefusedModules.{reasons_of_definitions_are_of_refusals, refused_definitions_have_a_reason, reasons_of_definitions_are_unique}
 use Rattle.cc_reasons.specs.Causes as causes
 use Rattle.cc_reasons.specs.Causes.{Cause}

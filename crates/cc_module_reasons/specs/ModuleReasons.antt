@@ -7,7 +7,7 @@ use Rattle.cc_elaboration_reasons.specs.ElaborationCauses.{ElaborationCause, cod
 use Rattle.cc_elaboration_reasons.specs.RefusedModules.{IsOfElaboration}
 use Rattle.cc_mnf.specs.Scopes.{Name}
 use Rattle.cc_module_reasons.specs.ImportReasons.{ImportReason, import_code, HasImportReason}
-use Rattle.cc_module_reasons.specs.TextReasons.{TextReason, text_code, HasTextReason}
+use Rattle.cc_text_reasons.specs.TextReasons.{TextReason, text_code, HasTextReason}
 use Rattle.cc_reasons.specs.DefinitionReasons.{DefinitionReason, code_of_reason}
 use Rattle.cc_reasons.specs.RefusedDefinitions.{IsOfDefinition}
 use Rattle.cc_verdicts.specs.ModuleVerdicts.{CheckedDefinition, ModuleVerdict, IsAccepted, IsRefused, HasModuleVerdict}

@@ -3,4 +3,3 @@
 
 pub mod import_laws;
 pub mod module_laws;
-pub mod text_laws;

@@ -28,18 +28,18 @@ use Rattle.cc_mnf.specs.Scopes.{Name}
 use Rattle.cc_reasons.specs.ReasonTexts.{element_there, AreBeyond, none, is_below, is_beyond, is_end, declared_members, members_behind, LeadsOn, spaced, AreChainLines, no_more, at_end, leading}
 use Rattle.cc_reasons.proofs.ShortestChains.{first_shortest_exists}
 
-listed_first : (e : Elem) (list : List Elem) → is_listed e (e ∷ list) ≡ true
+pub listed_first : (e : Elem) (list : List Elem) → is_listed e (e ∷ list) ≡ true
 listed_first e list = or_left (same_element e e) (is_listed e list) (same_element-itself e)
 
-listed_later : (e x : Elem) (list : List Elem) → is_listed e list ≡ true → is_listed e (x ∷ list) ≡ true
+pub listed_later : (e x : Elem) (list : List Elem) → is_listed e list ≡ true → is_listed e (x ∷ list) ≡ true
 listed_later e x list is = or_right (same_element e x) (is_listed e list) is
 
 -- a member of a set is one of its list
-member_listed : (e : Elem) (set : Set) → Member e set → is_listed e set.list ≡ true
+pub member_listed : (e : Elem) (set : Set) → Member e set → is_listed e set.list ≡ true
 unfolding contains
 member_listed e set is = is
 
-listed_member : (e : Elem) (set : Set) → is_listed e set.list ≡ true → Member e set
+pub listed_member : (e : Elem) (set : Set) → is_listed e set.list ≡ true → Member e set
 unfolding contains
 listed_member e set is = is
 
@@ -61,7 +61,7 @@ beyond_exists g right (e ∷ list) decided = by (decided e (listed_first e list)
     by (inr not) (told, are) = (e ∷ told, is_beyond not are)
 
 -- what is told is listed, and is not below
-told_listed : {g : Context} {right : Set} {list told : List Elem} → AreBeyond g right list told → (e : Elem) → is_listed e told ≡ true
+pub told_listed : {g : Context} {right : Set} {list told : List Elem} → AreBeyond g right list told → (e : Elem) → is_listed e told ≡ true
     → (is_listed e list ≡ true) × (Subcaptures g e right → ⊥)
 told_listed none e here = cc
 told_listed (is_below {e = x} {rest = rest} below are) e here = let it = told_listed are e here in (listed_later e x rest it.0, it.1)

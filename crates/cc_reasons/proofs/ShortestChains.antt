@@ -15,6 +15,11 @@ abbrev in_order : {T : Type 0} → T → Option (List T) → Option (List T) →
 in_order target (Some rest) later = Some (target ∷ rest)
 in_order target None later = later
 
+-- what is found, or else later
+abbrev sooner : {T : Type 0} → Option (List T) → Option (List T) → Option (List T)
+sooner (Some path) later = Some path
+sooner None later = later
+
 -- the first target behind which something is found, and that
 abbrev first_in : {T : Type 0} → (T → Option (List T)) → List T → Option (List T)
 first_in find [] = None
@@ -105,9 +110,9 @@ least holds (suc n) is = by (least (λ m. holds (suc m)) n is) (holds 0) refl
 
 module _ {T : Type 0} (entry : T → List T) (is_end : T → Bool) where
   -- the first chain of so many links from a target to an end, behind the target
-  search : ℕ → T → Option (List T)
-  search zero from = cond (is_end from) (Some []) None
-  search (suc links) from = first_in (search links) (entry from)
+  unfoldable pub chain_behind : ℕ → T → Option (List T)
+  chain_behind zero from = cond (is_end from) (Some []) None
+  chain_behind (suc links) from = first_in (chain_behind links) (entry from)
 
   -- what is behind a target, up to an end
   record LeadsToEnd (from : T) (others : List T) : Type 0 where
@@ -115,8 +120,8 @@ module _ {T : Type 0} (entry : T → List T) (is_end : T → Bool) where
     ends : IsTrue (is_end to)
     leads : LeadsAlong entry from others to
 
-  found_leads : (links : ℕ) (from : T) (others : List T) → search links from ≡ Some others → LeadsToEnd from others × (length others ≡ links)
-  unfolding search
+  found_leads : (links : ℕ) (from : T) (others : List T) → chain_behind links from ≡ Some others → LeadsToEnd from others × (length others ≡ links)
+  unfolding chain_behind
   found_leads zero from others e = by (is_end from) refl e
     where
       by : (b : Bool) → is_end from ≡ b → cond b (Some []) None ≡ Some others → LeadsToEnd from others × (length others ≡ 0)
@@ -125,13 +130,13 @@ module _ {T : Type 0} (entry : T → List T) (is_end : T → Bool) where
           (record { to = from; ends = is; leads = refl }, refl)
       by false is same = cc
   found_leads (suc links) from others e =
-      let it = found_in (search links) (entry from) others e in
+      let it = found_in (chain_behind links) (entry from) others e in
       let (behind, long) = found_leads links it.next it.rest it.found in
       subst (λ some. LeadsToEnd from some × (length some ≡ suc links)) (sym it.others_are)
       (record { to = behind.to; ends = behind.ends; leads = (at_in (entry from) it.next it.place it.stands, behind.leads) }, ap suc long)
 
-  all_found : (links : ℕ) (from : T) (others : List T) → LeadsToEnd from others → length others ≡ links → search links from ≡ None → ⊥
-  unfolding search
+  all_found : (links : ℕ) (from : T) (others : List T) → LeadsToEnd from others → length others ≡ links → chain_behind links from ≡ None → ⊥
+  unfolding chain_behind
   all_found zero from [] it long none =
       let ends : IsTrue (is_end from) = subst (λ t. IsTrue (is_end t)) (sym it.leads) it.ends in
       absurd (nothing (is_end from) ends none)
@@ -144,20 +149,20 @@ module _ {T : Type 0} (entry : T → List T) (is_end : T → Bool) where
   all_found (suc links) from (next ∷ others) it long none =
       let (at, stands) = place_in (entry from) next it.leads.0 in
       all_found links next others (record { to = it.to; ends = it.ends; leads = it.leads.1 }) (omega arith)
-      (none_in (search links) (entry from) none at next stands)
+      (none_in (chain_behind links) (entry from) none at next stands)
 
-  found_first : (links : ℕ) (from : T) (others : List T) → search links from ≡ Some others
+  found_first : (links : ℕ) (from : T) (others : List T) → chain_behind links from ≡ Some others
       → (other : List T) → LeadsToEnd from other → length other ≡ links → LeadsBefore entry from other others → ⊥
-  unfolding search
+  unfolding chain_behind
   found_first zero from others e [] it long before = before
   found_first zero from others e (next ∷ other) it long before = absurd (omega arith)
   found_first (suc links) from others e [] it long before = before
   found_first (suc links) from others e (next ∷ other) it long before =
-      let found = found_in (search links) (entry from) others e in
+      let found = found_in (chain_behind links) (entry from) others e in
       by found (found_first links found.next found.rest found.found other)
       (subst (λ some. LeadsBefore entry from (next ∷ other) some) found.others_are before)
     where
-      by : (found : FoundIn (search links) (entry from) others)
+      by : (found : FoundIn (chain_behind links) (entry from) others)
           → (LeadsToEnd found.next other → length other ≡ links → LeadsBefore entry found.next other found.rest → ⊥)
           → LeadsBefore entry from (next ∷ other) (found.next ∷ found.rest) → ⊥
       by found later (inl stands) =
@@ -170,42 +175,83 @@ module _ {T : Type 0} (entry : T → List T) (is_end : T → Bool) where
           (subst (λ t. LeadsToEnd t other) same (record { to = it.to; ends = it.ends; leads = it.leads.1 })) (omega arith)
           (subst (λ t. LeadsBefore entry t other found.rest) same more)
 
-  is_found : (from : T) (others : List T) → LeadsToEnd from others → IsTrue (is_some (search (length others) from))
-  is_found from others it = by (search (length others) from) refl
+  is_found : (from : T) (others : List T) → LeadsToEnd from others → IsTrue (is_some (chain_behind (length others) from))
+  is_found from others it = by (chain_behind (length others) from) refl
     where
-      by : (o : Option (List T)) → search (length others) from ≡ o → IsTrue (is_some o)
+      by : (o : Option (List T)) → chain_behind (length others) from ≡ o → IsTrue (is_some o)
       by (Some some) is = refl
       by None is = absurd (all_found (length others) from others it refl is)
+
+  -- what is found with the fewest links is the first of the shortest
+  pub found_is_first_shortest : (links : ℕ) (from : T) (path : List T) → chain_behind links from ≡ Some path
+      → ((other : ℕ) → IsTrue (is_some (chain_behind other from)) → links ≤ other) → IsFirstShortestToEnd entry is_end from (from ∷ path)
+  found_is_first_shortest links from path is low =
+      let (it, long) = found_leads links from path is in
+      record { to = it.to; ends = it.ends; leads = (refl, it.leads); shortest = shortest long; first = first }
+    where
+      behind : (next : T) (other : List T) (end : T) → IsTrue (is_end end) → next ≡ from → LeadsAlong entry next other end → LeadsToEnd from other
+      behind next other end at_end same along = record { to = end; ends = at_end; leads = subst (λ t. LeadsAlong entry t other end) same along }
+
+      shortest : length path ≡ links → (other : List T) (end : T) → IsTrue (is_end end) → IsChain entry from end other → length (from ∷ path) ≤ length other
+      shortest long [] end at_end along = absurd along
+      shortest long (next ∷ other) end at_end (same, along) =
+          let below = low (length other) (is_found from other (behind next other end at_end same along)) in
+          omega arith
+
+      first : (other : List T) (end : T) → IsTrue (is_end end) → IsChain entry from end other → length other ≡ length (from ∷ path)
+          → ComesBefore entry other (from ∷ path) → ⊥
+      first [] end at_end along same_length before = before
+      first (next ∷ other) end at_end (same, along) same_length (is_same, before) =
+          let (it, long) = found_leads links from path is in
+          found_first links from path is other (behind next other end at_end same along) (omega arith)
+          (subst (λ t. LeadsBefore entry t other path) same before)
 
   pub first_shortest_exists : (from to : T) (others : List T) → IsTrue (is_end to) → LeadsAlong entry from others to
       → (chain : List T) × IsFirstShortestToEnd entry is_end from (from ∷ chain)
   first_shortest_exists from to others ends leads =
-      let (links, is, low) = least (λ k. is_some (search k from)) (length others) (is_found from others (record { to = to; ends = ends; leads = leads })) in
-      by links low (search links from) refl is
+      let (links, is, low) = least (λ k. is_some (chain_behind k from)) (length others) (is_found from others (record { to = to; ends = ends; leads = leads })) in
+      by links low (chain_behind links from) refl is
     where
-      by : (links : ℕ) → ((other : ℕ) → IsTrue (is_some (search other from)) → links ≤ other)
-          → (o : Option (List T)) → search links from ≡ o → IsTrue (is_some o) → (chain : List T) × IsFirstShortestToEnd entry is_end from (from ∷ chain)
+      by : (links : ℕ) → ((other : ℕ) → IsTrue (is_some (chain_behind other from)) → links ≤ other)
+          → (o : Option (List T)) → chain_behind links from ≡ o → IsTrue (is_some o) → (chain : List T) × IsFirstShortestToEnd entry is_end from (from ∷ chain)
       by links low None is some = cc
-      by links low (Some path) is some =
-          let (it, long) = found_leads links from path is in
-          (path, record { to = it.to; ends = it.ends; leads = (refl, it.leads); shortest = shortest long; first = first })
-        where
-          behind : (next : T) (other : List T) (end : T) → IsTrue (is_end end) → next ≡ from → LeadsAlong entry next other end → LeadsToEnd from other
-          behind next other end at_end same along = record { to = end; ends = at_end; leads = subst (λ t. LeadsAlong entry t other end) same along }
+      by links low (Some path) is some = (path, found_is_first_shortest links from path is low)
 
-          shortest : length path ≡ links → (other : List T) (end : T) → IsTrue (is_end end) → IsChain entry from end other → length (from ∷ path) ≤ length other
-          shortest long [] end at_end along = absurd along
-          shortest long (next ∷ other) end at_end (same, along) =
-              let below = low (length other) (is_found from other (behind next other end at_end same along)) in
-              omega arith
+  -- the first chain of so many links or more, where so many numbers of links are tried
+  unfoldable pub chain_tried : ℕ → ℕ → T → Option (List T)
+  chain_tried zero links from = None
+  chain_tried (suc tries) links from = sooner (chain_behind links from) (chain_tried tries (suc links) from)
 
-          first : (other : List T) (end : T) → IsTrue (is_end end) → IsChain entry from end other → length other ≡ length (from ∷ path)
-              → ComesBefore entry other (from ∷ path) → ⊥
-          first [] end at_end along same_length before = before
-          first (next ∷ other) end at_end (same, along) same_length (is_same, before) =
-              let (it, long) = found_leads links from path is in
-              found_first links from path is other (behind next other end at_end same along) (omega arith)
-              (subst (λ t. LeadsBefore entry t other path) same before)
+  some_not_none : (o : Option (List T)) → IsTrue (is_some o) → o ≡ None → ⊥
+  some_not_none None some is = cc
+  some_not_none (Some found) some is = cc
+
+  none_fewer : (from : T) (links : ℕ) → ((other : ℕ) → IsTrue (is_some (chain_behind other from)) → links ≤ other) → chain_behind links from ≡ None
+      → (other : ℕ) → IsTrue (is_some (chain_behind other from)) → suc links ≤ other
+  none_fewer from links low none other some =
+      elim (cases_lt links other) [
+        | inl fewer ↦ omega arith
+        | inr more ↦
+            let here : links ≤ other = low other some in
+            let same : other ≡ links = omega arith in
+            absurd (some_not_none (chain_behind other from) some (ap (λ k. chain_behind k from) same ∙ none))
+      ]
+
+  tried_is : (tries links : ℕ) (from : T) (path : List T) → ((other : ℕ) → IsTrue (is_some (chain_behind other from)) → links ≤ other)
+      → chain_tried tries links from ≡ Some path → IsFirstShortestToEnd entry is_end from (from ∷ path)
+  unfolding chain_tried
+  tried_is zero links from path low is = cc
+  tried_is (suc tries) links from path low is = by (λ more. tried_is tries (suc links) from path more) (chain_behind links from) refl is
+    where
+      by : (((other : ℕ) → IsTrue (is_some (chain_behind other from)) → suc links ≤ other) → chain_tried tries (suc links) from ≡ Some path
+          → IsFirstShortestToEnd entry is_end from (from ∷ path))
+          → (o : Option (List T)) → chain_behind links from ≡ o → sooner o (chain_tried tries (suc links) from) ≡ Some path → IsFirstShortestToEnd entry is_end from (from ∷ path)
+      by later (Some found) here is = found_is_first_shortest links from path (here ∙ is) low
+      by later None here is = later (none_fewer from links low here) is
+
+  -- what is found so is the first of the shortest
+  pub tried_is_first_shortest : (tries : ℕ) (from : T) (path : List T) → chain_tried tries 0 from ≡ Some path → IsFirstShortestToEnd entry is_end from (from ∷ path)
+  tried_is_first_shortest tries from path is = tried_is tries 0 from path (λ other some. omega arith) is
 
 module _ {T : Type 0} (eq : T → T → Bool) (eq_is : (left right : T) → eq left right ≡ true → left ≡ right)
     (eq_itself : (target : T) → eq target target ≡ true) where

@@ -1,5 +1,5 @@
 -- What a module is refused for can be told.
-use Rattle.std.proofs.Common.{ℕ, List, ◌∷◌, length}
+use Rattle.std.proofs.Common.{ℕ, List, length}
 use Rattle.cc_base.specs.declared.place.Place.{Place}
 use Rattle.cc_core.specs.Contexts.{Context}
 use Rattle.cc_mnf.specs.ElaboratedModules.{CoreDefinition}

@@ -39,7 +39,7 @@ step_told : (devices : ℕ) (names : List Name) (n : ℕ) (cause : Cause) → Is
 step_told devices names n cause compared = (cause_lines n names cause, (n, compared, refl))
 
 -- what is filled over the globals has no hole
-no_hole_filled : (root : ℕ) (f : Filling) → IsOverGlobals root f → (c : Set) (n : ℕ) → Member (Hole n) (filled_set f c) → ⊥
+pub no_hole_filled : (root : ℕ) (f : Filling) → IsOverGlobals root f → (c : Set) (n : ℕ) → Member (Hole n) (filled_set f c) → ⊥
 no_hole_filled root f over c n here = let from = Member-from_filled f (Hole n) c here in by from.0 from.2
   where
     by : (x : Elem) → Member (Hole n) (filled_element f x) → ⊥
@@ -47,7 +47,7 @@ no_hole_filled root f over c n here = let from = Member-from_filled f (Hole n) c
     by Cap m = let same = Member-single (Hole n) Cap m in cc
     by (Hole h) m = over h (Hole n) m
 
-no_holes_filled : (root : ℕ) (f : Filling) → IsOverGlobals root f → (g : Context) → HasNoHoles (filled_context f g)
+pub no_holes_filled : (root : ℕ) (f : Filling) → IsOverGlobals root f → (g : Context) → HasNoHoles (filled_context f g)
 no_holes_filled root f over g p s d there n here =
     let found = lookup-from_filled f g p s d there in
     no_hole_filled root f over found.1 n (subst (λ (c : Set). Member (Hole n) c) found.3 here)

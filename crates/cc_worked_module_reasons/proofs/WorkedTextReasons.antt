@@ -8,9 +8,9 @@ use Rattle.cc_base.specs.declared.code.Code.{Code}
 use Rattle.cc_base.specs.declared.code.Code.TheVariants.{E01, E02, E03, E04}
 use Rattle.cc_base.specs.declared.place.Place.{Place}
 use Rattle.cc_lex.specs.Lexical.{start, place_past, BeginsTooGreat}
-use Rattle.cc_module_reasons.proofs.Breaks.{text_front}
-use Rattle.cc_module_reasons.proofs.RefusedTexts.{told, breaks, one_break, one_place, refused_texts_have_a_reason}
-use Rattle.cc_module_reasons.specs.TextReasons.{Break, BreaksAt, at_character, at_end, too_great, TextReason, NotUtf8, Broken, Unwanted, TooHigh, text_code, HasTextReason, is_not_utf8, is_broken, is_unwanted, is_too_high}
+use Rattle.cc_text_reasons.proofs.Breaks.{text_front}
+use Rattle.cc_text_reasons.proofs.RefusedTexts.{told, breaks, one_break, one_place, refused_texts_have_a_reason}
+use Rattle.cc_text_reasons.specs.TextReasons.{Break, BreaksAt, at_character, at_end, too_great, TextReason, NotUtf8, Broken, Unwanted, TooHigh, text_code, HasTextReason, is_not_utf8, is_broken, is_unwanted, is_too_high}
 use Rattle.cc_verdicts.proofs.ReadingLaws.{text_has_one_reading}
 use Rattle.cc_verdicts.specs.Readings.{TextReading, IsNoModule, HasReading}
 use Rattle.cc_worked_module_reasons.specs.TextReasonRows as example

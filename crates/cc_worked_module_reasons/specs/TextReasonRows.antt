@@ -1,7 +1,7 @@
 -- Why texts are no modules, by example.
 use Rattle.std.specs.Prelude.{ℕ, List, [], ◌∷◌, ◌++◌, codes, replicate}
 use Rattle.cc_base.specs.declared.place.Place.{Place}
-use Rattle.cc_module_reasons.specs.TextReasons.{Break, AtCharacter, AtEnd, TooGreat, NotUtf8, Broken, HasTextReason}
+use Rattle.cc_text_reasons.specs.TextReasons.{Break, AtCharacter, AtEnd, TooGreat, NotUtf8, Broken, HasTextReason}
 use Rattle.cc_worked_texts.specs.TextVerdicts.{place, lines}
 
 -- the text with these characters behind the front of a definition breaks so, where they begin

@@ -1,15 +1,14 @@
 -- The reason of a text, found in so many steps and rounds, and its lines.
-use Rattle.std.proofs.Common.{◌≡◌, ◌⊎◌, inl, inr, ℕ, Bool, true, false, cond, nat_eq, ◌&&◌, List, [], ◌∷◌, ◌++◌, length, map, Option, Some, None, IsTrue, refl, sym, ap, subst, ◌∙◌}
+use Rattle.std.proofs.Common.{◌≡◌, inl, inr, ℕ, Bool, true, false, cond, nat_eq, ◌&&◌, List, [], ◌∷◌, ◌++◌, length, Option, Some, None, refl, sym, ap, subst, ◌∙◌}
 use Rattle.std.proofs.lemmas.Bool.{and_parts}
 use Rattle.std.specs.Prelude.{codes, nat_lt}
 use Rattle.std.specs.Option.{is_some, option_map, unwrap_or}
 use Rattle.cc_base.specs.declared.place.Place.{Place}
-use Rattle.cc_base.specs.declared.device.DeviceDecl.{DeviceDecl}
 use Rattle.cc_capture.specs.declared.var.Elem.{Elem}
 use Rattle.cc_capture.specs.declared.var.Elem.TheVariants.{Var as Variable, Cap, Hole}
 use Rattle.cc_capture.specs.declared.var.Var.TheVariants.{Bound, Free}
 use Rattle.cc_capture.specs.Sets.{Set}
-use Rattle.cc_core.specs.Contexts.{Bind, Context, lookup, entry_of}
+use Rattle.cc_core.specs.Contexts.{Context, lookup, entry_of}
 use Rattle.cc_core.specs.Shapes.{CapturingType}
 use Rattle.cc_core.specs.Substitution.{filled_type}
 use Rattle.cc_core.specs.Subcapturing.{Subcaptures}
@@ -28,12 +27,13 @@ use Rattle.cc_mnf.specs.Scopes.{Name}
 use Rattle.cc_reasons.specs.Causes.{Local, Scene, Cause, WrongHead, WrongType, WrongShape, NothingThere, Unavoidable, TooLarge, Located, Explained, NoAnswer, Refused, Found}
 use Rattle.cc_reasons.specs.DefinitionReasons.{DefinitionReason, OfStep, NotBelow, WithCap, unserved, unsigned_cause, placed_of, FailsFirstAs, Tells as TellsReason, HasReason, explained_definition}
 use Rattle.cc_reasons.specs.ExplainedInference.{BinderNames}
-use Rattle.cc_reasons.specs.ReasonTexts.{with_locals, cause_lines, IsCompared, AreBeyond, is_end, declared_members, members_behind, LeadsOn, AreChainLines, set_there, spaced, AreLines}
+use Rattle.cc_reasons.specs.ReasonTexts.{with_locals, cause_lines, IsCompared, AreBeyond, is_end, declared_members, members_behind, LeadsOn, AreChainLines, element_there, set_there, spaced, AreLines}
 use Rattle.cc_reasons.specs.ReasonTexts.AreBeyond.{none, is_below, is_beyond}
-use Rattle.cc_reasons.specs.ReasonTexts.AreChainLines.{no_more, at_end}
+use Rattle.cc_reasons.specs.ReasonTexts.AreChainLines.{no_more, at_end, leading}
 use Rattle.cc_reasons.specs.RefusedDefinitions.{names_of_binders, names_inside, first_binders, other_binders, IsRefusedFirst, IsOfDefinition}
 use Rattle.cc_reasons.specs.RefusedDefinitions.IsRefusedFirst.{refused_first, accepted_first}
-use Rattle.cc_verdicts.specs.ModuleVerdicts.{Finding, Refusal, first_missing, with_findings, declared_context, to_be_checked}
+use Rattle.cc_reasons.proofs.ShortestChains.{chain_behind, chain_tried, tried_is_first_shortest}
+use Rattle.cc_verdicts.specs.ModuleVerdicts.{Refusal, first_missing, with_findings, declared_context, to_be_checked}
 use Rattle.cc_verdicts.specs.Readings.{TextReading, IsTree, IsNoModule, HasReading}
 use Rattle.cc_verdicts.proofs.ReadingLaws.{text_has_one_reading}
 use Rattle.cc_worked_reasons.specs.DefinitionRows.{Tells}
@@ -323,31 +323,58 @@ leads_in n count g right all (Variable (Bound i)) = none
 leads_in n count g right all Cap = none
 leads_in n count g right all (Hole h) = none
 
--- all elements are ends
-abbrev pub all_ends : ℕ → List Elem → Bool
-all_ends count [] = true
-all_ends count (e ∷ rest) = is_end count e && all_ends count rest
+same_lines : {one other : List (List ℕ)} → Some one ≡ Some other → one ≡ other
+same_lines e = cc
 
-no_chains : (count : ℕ) (names : List Name) (g : Context) (entry : Elem → List Elem) (list : List Elem) → all_ends count list ≡ true → AreChainLines count names g entry list []
-no_chains count names g entry [] e = no_more
-no_chains count names g entry (x ∷ rest) e = at_end (and_parts _ _ e).0 (no_chains count names g entry rest (and_parts _ _ e).1)
+-- a line more, where a chain is found
+abbrev pub chain_line : List Name → Context → Elem → Option (List Elem) → Option (List (List ℕ)) → Option (List (List ℕ))
+chain_line names g e None rest = None
+chain_line names g e (Some behind) rest =
+    option_map (λ lines. (element_there names g e ++ codes ":" ++ spaced names g behind) ∷ lines) rest
 
--- the lines of a reason that has no chains
+-- the lines of chains, where chains of fewer links are tried
+abbrev pub chains_in : ℕ → ℕ → List Name → Context → (Elem → List Elem) → List Elem → Option (List (List ℕ))
+chains_in n count names g entry [] = Some []
+chains_in n count names g entry (e ∷ rest) =
+    cond (is_end count e) (chains_in n count names g entry rest)
+    (chain_line names g e (chain_tried entry (is_end count) n 0 e) (chains_in n count names g entry rest))
+
+chains_are : (n count : ℕ) (names : List Name) (g : Context) (entry : Elem → List Elem) (list : List Elem) (told : List (List ℕ)) → chains_in n count names g entry list ≡ Some told
+    → AreChainLines count names g entry list told
+chains_are n count names g entry [] told e = subst (AreChainLines count names g entry []) (same_lines e) no_more
+chains_are n count names g entry (x ∷ rest) told e =
+    by (is_end count x) refl (chain_tried entry (is_end count) n 0 x) refl (chains_in n count names g entry rest) (λ lines is. chains_are n count names g entry rest lines is) told e
+  where
+    by : (b : Bool) → is_end count x ≡ b → (o : Option (List Elem)) → chain_tried entry (is_end count) n 0 x ≡ o
+        → (later : Option (List (List ℕ))) → ((lines : List (List ℕ)) → later ≡ Some lines → AreChainLines count names g entry rest lines)
+        → (told : List (List ℕ)) → cond b later (chain_line names g x o later) ≡ Some told → AreChainLines count names g entry (x ∷ rest) told
+    by true is o here later are told e = at_end is (are told e)
+    by false is None here later are told e = cc
+    by false is (Some behind) here None are told e = cc
+    by false is (Some behind) here (Some lines) are told e =
+        subst (AreChainLines count names g entry (x ∷ rest)) (same_lines e)
+        (leading behind is (tried_is_first_shortest entry (is_end count) n x behind here) (are lines refl))
+
+-- the lines of a set that is not below another, where the chains are told by these
+abbrev pub captured_told : List Name → Scene → Set → List Elem → Option (List (List ℕ)) → Option (List (List ℕ))
+captured_told names scene right captured chains =
+    option_map
+    (λ lines. (codes "captured" ++ spaced (with_locals names scene.locals) scene.context captured)
+    ∷ (codes "allowed " ++ set_there (with_locals names scene.locals) scene.context right) ∷ lines)
+    chains
+
 abbrev pub captured_lines : ℕ → ℕ → List Name → Scene → Set → Option (List Elem) → Option (List (List ℕ))
 captured_lines n count names scene right None = None
 captured_lines n count names scene right (Some captured) =
-    cond (decided_all n scene.context right scene.context && all_ends count captured)
-    (Some ((codes "captured" ++ spaced (with_locals names scene.locals) scene.context captured)
-    ∷ (codes "allowed " ++ set_there (with_locals names scene.locals) scene.context right) ∷ []))
+    cond (decided_all n scene.context right scene.context)
+    (captured_told names scene right captured
+    (chains_in n count (with_locals names scene.locals) scene.context (entry_in n count scene.context right) captured))
     None
 
 abbrev pub lines_in : ℕ → ℕ → List Name → DefinitionReason → Option (List (List ℕ))
 lines_in n count names (OfStep cause) = cond (is_compared n cause) (Some (cause_lines n names cause)) None
 lines_in n count names (NotBelow scene left right) = captured_lines n count names scene right (beyond_in n scene.context right left.list)
 lines_in n count names (WithCap locals set) = Some ((codes "set " ++ set_text (with_locals names locals) 0 set) ∷ [])
-
-same_lines : {one other : List (List ℕ)} → Some one ≡ Some other → one ≡ other
-same_lines e = cc
 
 module _ (n count : ℕ) (names : List Name) (told : List (List ℕ)) where
   by_cause : (cause : Cause) (b : Bool) → is_compared n cause ≡ b → cond b (Some (cause_lines n names cause)) None ≡ Some told → AreLines count names (OfStep cause) told
@@ -357,22 +384,24 @@ module _ (n count : ℕ) (names : List Name) (told : List (List ℕ)) where
   by_captured : (scene : Scene) (left right : Set) (o : Option (List Elem)) → beyond_in n scene.context right left.list ≡ o
       → captured_lines n count names scene right o ≡ Some told → AreLines count names (NotBelow scene left right) told
   by_captured scene left right None is e = cc
-  by_captured scene left right (Some captured) is e = by (decided_all n scene.context right scene.context && all_ends count captured) refl e
+  by_captured scene left right (Some captured) is e =
+      by (decided_all n scene.context right scene.context) refl
+      (chains_in n count (with_locals names scene.locals) scene.context (entry_in n count scene.context right) captured) refl e
     where
-      by : (b : Bool) → (decided_all n scene.context right scene.context && all_ends count captured) ≡ b
-          → cond b (Some ((codes "captured" ++ spaced (with_locals names scene.locals) scene.context captured)
-          ∷ (codes "allowed " ++ set_there (with_locals names scene.locals) scene.context right) ∷ [])) None ≡ Some told
-          → AreLines count names (NotBelow scene left right) told
-      by true both e = (
+      by : (b : Bool) → decided_all n scene.context right scene.context ≡ b
+          → (o : Option (List (List ℕ))) → chains_in n count (with_locals names scene.locals) scene.context (entry_in n count scene.context right) captured ≡ o
+          → cond b (captured_told names scene right captured o) None ≡ Some told → AreLines count names (NotBelow scene left right) told
+      by true decided (Some chains) are e = (
         captured,
         entry_in n count scene.context right,
-        [],
+        chains,
         beyond_is n scene.context right left.list captured is,
-        leads_in n count scene.context right (and_parts _ _ both).0,
-        no_chains count (with_locals names scene.locals) scene.context (entry_in n count scene.context right) captured (and_parts _ _ both).1,
+        leads_in n count scene.context right decided,
+        chains_are n count (with_locals names scene.locals) scene.context (entry_in n count scene.context right) captured chains are,
         sym (same_lines e),
       )
-      by false both e = cc
+      by true decided None are e = cc
+      by false decided o are e = cc
 
   are_lines : (reason : DefinitionReason) → lines_in n count names reason ≡ Some told → AreLines count names reason told
   are_lines (OfStep cause) e = by_cause cause (is_compared n cause) refl e
@@ -412,5 +441,5 @@ tells n text at told e = by (of_reading n (quick_reading text)) refl e
 
 -- `unfolding reasons_computing` lets `refl` compute what is told of a text
 unfoldable pub reasons_computing : Unit {0}
-unfolding text_computing reasons.◌>>=◌ mismatch
+unfolding text_computing reasons.◌>>=◌ mismatch chain_behind chain_tried
 reasons_computing = tt

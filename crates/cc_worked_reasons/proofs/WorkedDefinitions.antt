@@ -32,6 +32,19 @@ captured_told = record {
   argument = tells 12 (codes "def a = fun (f: (c: Console) -> Unit) => (f(out))") (place 1 45) (codes "captured out" ∷ codes "allowed {}" ∷ []) refl;
 }
 
+pub chains_told : example.Chains
+unfolding reasons_computing
+chains_told = record {
+  over_local = tells 12 (codes "def a = fun (u: Unit) => (val f = fun (x: Int) => out.print(x); val g = fun (x: Int) => f(x); val h: (x: Int) -> Unit = fun (x: Int) => g(x); 1)") (place 1 121) (codes "captured g@1:65" ∷ codes "allowed {}" ∷ codes "g@1:65: f@1:27 out" ∷ []) refl;
+  shorter = tells 12 (codes "def a = fun (u: Unit) => (val e = fun (x: Int) => out.print(x); val f = fun (x: Int) => e(x); val g = fun (x: Int) => out.print(x); val h = fun (x: Int) => (val y = f(x); g(x)); val k: (x: Int) -> Unit = fun (x: Int) => h(x); 1)") (place 1 205) (codes "captured h@1:133" ∷ codes "allowed {}" ∷ codes "h@1:133: g@1:95 out" ∷ []) refl;
+  first = tells 12 (codes "def a = fun (u: Unit) => (val f = fun (x: Int) => hits.tick(); val g = fun (x: Int) => out.print(x); val h = fun (x: Int) => (val y = f(x); g(x)); val k: (x: Int) -> Unit = fun (x: Int) => h(x); 1)") (place 1 174) (codes "captured h@1:102" ∷ codes "allowed {}" ∷ codes "h@1:102: f@1:27 hits" ∷ []) refl;
+  allowed = tells 12 (codes "def a = fun (u: Unit) => (val f = fun (x: Int) => out.print(x); val g = fun (x: Int) => (val y = hits.tick(); unit); val h = fun (x: Int) => (val y = f(x); g(x)); val k: ((x: Int) -> Unit)^{out} = fun (x: Int) => h(x); 1)") (place 1 198) (codes "captured h@1:118" ∷ codes "allowed {out}" ∷ codes "h@1:118: g@1:65 hits" ∷ []) refl;
+  definition = tells 12 (lines (codes "def one = fun (x: Int) => out.print(x)" ∷ codes "def two: (x: Int) -> Unit = fun (x: Int) => one(x)" ∷ [])) (place 2 29) (codes "captured one" ∷ codes "allowed {}" ∷ codes "one: out" ∷ []) refl;
+  beside = tells 12 (lines (codes "def one = fun (x: Int) => out.print(x)" ∷ codes "def two: (x: Int) -> Int = fun (x: Int) => (val y = one(x); hits.tick())" ∷ [])) (place 2 28) (codes "captured hits one" ∷ codes "allowed {}" ∷ codes "one: out" ∷ []) refl;
+  universal = tells 12 (codes "def a = fun (f: ((x: Int) -> Unit)^{cap}) => (val g: (x: Int) -> Unit = fun (x: Int) => f(x); 1)") (place 1 73) (codes "captured f@1:9" ∷ codes "allowed {}" ∷ codes "f@1:9: cap" ∷ []) refl;
+  alone = tells 12 (codes "def a = fun (g: (x: Int) -> Int^{cap}) => fun (n: Int) => (val y: Int = g(n); y)") (place 1 73) (codes "captured cap" ∷ codes "allowed {}" ∷ []) refl;
+}
+
 pub universal_told : example.Universal
 unfolding reasons_computing
 universal_told = record {

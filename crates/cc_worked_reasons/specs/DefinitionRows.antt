@@ -53,6 +53,49 @@ pub record Captured : Type 0 where
   pub argument : Tells (codes "def a = fun (f: (c: Console) -> Unit) => (f(out))") (place 1 45)
       (codes "captured out" ∷ codes "allowed {}" ∷ [])
 
+-- the shortest chains of declared sets that lead from what was captured to an end
+pub record Chains : Type 0 where
+  -- a local that leads over another local to a device
+  pub over_local : Tells
+      (codes "def a = fun (u: Unit) => (val f = fun (x: Int) => out.print(x); val g = fun (x: Int) => f(x); val h: (x: Int) -> Unit = fun (x: Int) => g(x); 1)")
+      (place 1 121)
+      (codes "captured g@1:65" ∷ codes "allowed {}" ∷ codes "g@1:65: f@1:27 out" ∷ [])
+  -- of two ways the shorter, though the other begins first in the declared set
+  pub shorter : Tells
+      (codes "def a = fun (u: Unit) => (val e = fun (x: Int) => out.print(x); val f = fun (x: Int) => e(x); val g = fun (x: Int) => out.print(x); val h = fun (x: Int) => (val y = f(x); g(x)); val k: (x: Int) -> Unit = fun (x: Int) => h(x); 1)")
+      (place 1 205)
+      (codes "captured h@1:133" ∷ codes "allowed {}" ∷ codes "h@1:133: g@1:95 out" ∷ [])
+  -- of two ways of one length the first in the order of the declared set, not in that of the devices
+  pub first : Tells
+      (codes "def a = fun (u: Unit) => (val f = fun (x: Int) => hits.tick(); val g = fun (x: Int) => out.print(x); val h = fun (x: Int) => (val y = f(x); g(x)); val k: (x: Int) -> Unit = fun (x: Int) => h(x); 1)")
+      (place 1 174)
+      (codes "captured h@1:102" ∷ codes "allowed {}" ∷ codes "h@1:102: f@1:27 hits" ∷ [])
+  -- no way leads over what is allowed
+  pub allowed : Tells
+      (codes "def a = fun (u: Unit) => (val f = fun (x: Int) => out.print(x); val g = fun (x: Int) => (val y = hits.tick(); unit); val h = fun (x: Int) => (val y = f(x); g(x)); val k: ((x: Int) -> Unit)^{out} = fun (x: Int) => h(x); 1)")
+      (place 1 198)
+      (codes "captured h@1:118" ∷ codes "allowed {out}" ∷ codes "h@1:118: g@1:65 hits" ∷ [])
+  -- a definition of the module that leads to a device
+  pub definition : Tells
+      (lines (codes "def one = fun (x: Int) => out.print(x)" ∷ codes "def two: (x: Int) -> Unit = fun (x: Int) => one(x)" ∷ []))
+      (place 2 29)
+      (codes "captured one" ∷ codes "allowed {}" ∷ codes "one: out" ∷ [])
+  -- a device beside a definition has no line of its own
+  pub beside : Tells
+      (lines (codes "def one = fun (x: Int) => out.print(x)" ∷ codes "def two: (x: Int) -> Int = fun (x: Int) => (val y = one(x); hits.tick())" ∷ []))
+      (place 2 28)
+      (codes "captured hits one" ∷ codes "allowed {}" ∷ codes "one: out" ∷ [])
+  -- a parameter that leads to the universal capability
+  pub universal : Tells
+      (codes "def a = fun (f: ((x: Int) -> Unit)^{cap}) => (val g: (x: Int) -> Unit = fun (x: Int) => f(x); 1)")
+      (place 1 73)
+      (codes "captured f@1:9" ∷ codes "allowed {}" ∷ codes "f@1:9: cap" ∷ [])
+  -- the universal capability itself
+  pub alone : Tells
+      (codes "def a = fun (g: (x: Int) -> Int^{cap}) => fun (n: Int) => (val y: Int = g(n); y)")
+      (place 1 73)
+      (codes "captured cap" ∷ codes "allowed {}" ∷ [])
+
 -- a set with the universal capability
 pub record Universal : Type 0 where
   pub written : Tells (codes "def a = fun (b: Box[Int^{out}]) => (unbox {cap} b)") (place 1 37)

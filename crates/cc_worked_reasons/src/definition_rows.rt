@@ -16,6 +16,11 @@ pub fn captured_told()
     ensures { example.Captured }
 {}
 
+/// Worked reasons: chains.
+pub fn chains_told()
+    ensures { example.Chains }
+{}
+
 /// Worked reasons: universal.
 pub fn universal_told()
     ensures { example.Universal }

@@ -1,0 +1,6 @@
+pub mod ChainSteps
+pub mod FilledDemands
+pub mod NearEnds
+pub mod SetsCount
+pub mod ToldChains
+pub mod ToldNumbers

@@ -1,0 +1,4 @@
+pub mod FoundFirst
+pub mod SeenNames
+pub mod SettledRightSides
+pub mod TakenPlaces

@@ -1,0 +1,5 @@
+mod AnswerLaws
+mod BreakLaws
+mod PlaceLaws
+mod Reading
+mod TokenLaws

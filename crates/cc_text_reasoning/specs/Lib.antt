@@ -1,0 +1,5 @@
+pub mod Answers
+pub mod Breaking
+pub mod Places
+pub mod TokenReasons
+pub mod Views

@@ -1,0 +1,4 @@
+pub mod TextReasonLaws
+pub mod TextReasonTextExamples
+pub mod TextReasonTexts
+pub mod TextReasons
