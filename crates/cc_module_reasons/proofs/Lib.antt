@@ -1,2 +1,3 @@
 pub mod MissingImports
+pub mod NearestWays
 pub mod OneModuleReason

@@ -1,3 +1,4 @@
 pub mod ImportReasonLaws
+pub mod ImportReasonTexts
 pub mod ImportReasons
 pub mod ModuleReasons

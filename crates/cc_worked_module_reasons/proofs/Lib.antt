@@ -1,1 +1,4 @@
+pub mod ComputedChains
+pub mod WorkedImportReasons
 pub mod WorkedTextReasons
+pub mod WorkedUnwantedTokens

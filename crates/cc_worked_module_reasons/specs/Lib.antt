@@ -1,1 +1,2 @@
+pub mod ImportReasonRows
 pub mod TextReasonRows

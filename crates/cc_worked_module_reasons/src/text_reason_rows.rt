@@ -10,3 +10,18 @@ pub fn broken_tokens()
 pub fn broken_places()
     ensures { example.BrokenPlaces }
 {}
+
+/// Worked reasons: bytes that are not UTF-8.
+pub fn bad_bytes()
+    ensures { example.BadBytes }
+{}
+
+/// Worked reasons: tokens that are not wanted.
+pub fn unwanted_tokens()
+    ensures { example.UnwantedTokens }
+{}
+
+/// Worked reasons: trees that are too high.
+pub fn high_trees()
+    ensures { example.HighTrees }
+{}

@@ -1,0 +1,5 @@
+use Rattle.cc_worked_module_reasons.proofs.WorkedImportReasons.{absent_modules}
+use Rattle.cc_worked_module_reasons.proofs.import_reason_rows.absent_modules.Goals as goal
+
+pub returns : goal.returns
+returns c = absent_modules
