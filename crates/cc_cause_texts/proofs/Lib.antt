@@ -1,0 +1,2 @@
+pub mod SceneLabels
+pub mod ToldCauses

@@ -1,0 +1,3 @@
+pub mod LabelledTurns
+pub mod LabelTexts
+pub mod StreamedWords

@@ -1,0 +1,3 @@
+pub mod LabelTexts
+pub mod LabelledLines
+pub mod LabelledPieces

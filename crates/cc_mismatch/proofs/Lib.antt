@@ -1,0 +1,3 @@
+pub mod MatchedParts
+pub mod SameParts
+pub mod LeadingParts
