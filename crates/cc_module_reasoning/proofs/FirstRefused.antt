@@ -1,7 +1,8 @@
 -- Definitions are gone over one after another, up to the first that is refused.
 use Rattle.std.proofs.Common.{◌≡◌, ℕ, zero, suc, ◌+◌, ◌<◌, List, [], ◌∷◌, ◌++◌, map, length, take, drop, get_or, Option, Some, None}
-use Rattle.std.proofs.Common.{refl, sym, ap, ◌∙◌, subst, arith}
+use Rattle.std.proofs.Common.{refl, sym, ap, ◌∙◌, subst}
 use Rattle.std.proofs.lemmas.List.{append-nil}
+use Rattle.std.proofs.Common.{◌≡◌, ℕ, suc, ◌+◌, ◌<◌, List, [], ◌∷◌, ◌++◌, map, length, take, drop, get_or, sym, ap, ◌∙◌, drop-cons, add-one, Option, None}
 use Rattle.cc_base.specs.declared.code.Code.{Code}
 use Rattle.cc_base.specs.declared.place.Place.{Place}
 use Rattle.cc_core.specs.Contexts.{Context, entry_of}
@@ -12,12 +13,20 @@ use Rattle.cc_mnf.specs.ElaboratedModules.{CoreDefinition}
 use Rattle.cc_mnf.specs.Scopes.{Name}
 use Rattle.cc_reasons.specs.DefinitionReasons.{DefinitionReason, code_of_reason, HasReason}
 use Rattle.cc_reasons.specs.ExplainedInference.{BinderNames}
-use Rattle.cc_reasons.specs.RefusedDefinitions.{first_binders, other_binders, names_inside, IsRefusedFirst, refused_first, accepted_first}
+use Rattle.std.specs.Prelude.{slice_get, MatchOption}
+use Rattle.cc_grammar.specs.Syntax.{DefSyntax}
+use Rattle.cc_parse.specs.declared.tree.Def.{Def}
+use Rattle.cc_parse.specs.Trees.{def_syntax}
+use Rattle.cc_reasons.specs.NamedBinders.{binder_names}
+use Rattle.cc_reasons.specs.RefusedDefinitions.{names_of_binders, first_binders, other_binders, names_inside, IsRefusedFirst, refused_first, accepted_first}
 use Rattle.cc_reasons.proofs.DefinitionOutcomes.{reasons_are_of_refusals, refusals_have_a_reason}
 use Rattle.cc_verdicts.specs.ModuleVerdicts.{to_be_checked}
 use Rattle.cc_verdicts.specs.ReadyDefinitions.{AreReady}
 use Rattle.cc_verdicts.proofs.JudgedDefinitions.{ready_more}
-use Rattle.cc_module_reasoning.specs.RefusedDefinitions.{names_behind, names_inside_first}
+use Rattle.cc_definition_reasoning.specs.declared.reason.Reasoned.{Reasoned}
+use Rattle.cc_definition_reasoning.specs.Reasons.{reason_of, IsAnswered}
+use Rattle.cc_module_reasoning.specs.declared.definitions.RefusedDefinition.{RefusedDefinition}
+use Rattle.cc_module_reasoning.specs.RefusedDefinitions.{names_behind, names_inside_first, AreExplained}
 
 -- what is left of binders behind so many definitions
 abbrev pub binders_behind : ℕ → List BinderNames → List BinderNames
@@ -25,7 +34,7 @@ binders_behind zero binders = binders
 binders_behind (suc count) binders = binders_behind count (other_binders binders)
 
 binders_next : (count : ℕ) (binders : List BinderNames)
-    → other_binders (binders_behind count binders) ≡ binders_behind (count + 1) binders
+    → other_binders (binders_behind count binders) ≡ binders_behind (suc count) binders
 binders_next zero binders = refl
 binders_next (suc count) binders = binders_next count (other_binders binders)
 
@@ -54,7 +63,7 @@ stands_at_start devices start all binders ready = record {
 
 -- one definition more
 drop_more : (count : ℕ) (all : List CoreDefinition) (first : CoreDefinition) (rest : List CoreDefinition)
-    → first ∷ rest ≡ drop count all → rest ≡ drop (count + 1) all
+    → first ∷ rest ≡ drop count all → rest ≡ drop (suc count) all
 drop_more zero (d ∷ all) first rest is = cc
 drop_more zero [] first rest is = cc
 drop_more (suc count) [] first rest is = cc
@@ -62,7 +71,7 @@ drop_more (suc count) (d ∷ all) first rest is = drop_more count all first rest
 
 take_more : (count : ℕ) (all : List CoreDefinition) (first : CoreDefinition) (rest : List CoreDefinition)
     → first ∷ rest ≡ drop count all
-    → map (λ one. one.name) (take (count + 1) all) ≡ map (λ one. one.name) (take count all) ++ first.name ∷ []
+    → map (λ one. one.name) (take (suc count) all) ≡ map (λ one. one.name) (take count all) ++ first.name ∷ []
 take_more zero (d ∷ all) first rest is =
     let same : first ≡ d = cc in ap (λ (x : CoreDefinition). x.name ∷ []) (sym same)
 take_more zero [] first rest is = cc
@@ -75,7 +84,7 @@ appended (n ∷ names) more one = ap (λ l. n ∷ l) (appended names more one)
 
 names_next : (names : List Name) (count : ℕ) (all : List CoreDefinition) (first : CoreDefinition)
     (rest : List CoreDefinition) → first ∷ rest ≡ drop count all
-    → names_behind names all (count + 1) ≡ names_behind names all count ++ first.name ∷ []
+    → names_behind names all (suc count) ≡ names_behind names all count ++ first.name ∷ []
 names_next names count all first rest is =
     ap (λ l. names ++ l) (take_more count all first rest is)
     ∙ appended names (map (λ one. one.name) (take count all)) first.name
@@ -106,7 +115,7 @@ module _ (devices : ℕ) (start : Context) (all : List CoreDefinition) (binders 
 
   pub stands_behind : (accepted : Accepted)
       → definitions.HasVerdict devices now (to_be_checked first) (definitions.IsAccepted accepted)
-      → StandsAt devices start all binders (count + 1) (entry_of accepted.signature ∷ now) rest
+      → StandsAt devices start all binders (suc count) (entry_of accepted.signature ∷ now) rest
   stands_behind accepted has = record {
     left_is = drop_more count all first rest stands.left_is;
     ready = ready_more devices now first rest accepted stands.ready has;
@@ -116,10 +125,10 @@ module _ (devices : ℕ) (start : Context) (all : List CoreDefinition) (binders 
         (subst (λ n. IsRefusedFirst devices (entry_of accepted.signature ∷ now) n rest
         (other_binders (binders_behind count binders)) reason at inside)
         (names_next names count all first rest stands.left_is)
-        (subst (λ bs. IsRefusedFirst devices (entry_of accepted.signature ∷ now) (names_behind names all (count + 1)) rest
+        (subst (λ bs. IsRefusedFirst devices (entry_of accepted.signature ∷ now) (names_behind names all (suc count)) rest
         bs reason at inside) (sym (binders_next count binders)) h)));
     refuses = λ names reason at inside h.
-        subst (λ bs. IsRefusedFirst devices (entry_of accepted.signature ∷ now) (names_behind names all (count + 1)) rest
+        subst (λ bs. IsRefusedFirst devices (entry_of accepted.signature ∷ now) (names_behind names all (suc count)) rest
         bs reason at inside) (binders_next count binders)
         (subst (λ n. IsRefusedFirst devices (entry_of accepted.signature ∷ now) n rest
         (other_binders (binders_behind count binders)) reason at inside)
@@ -158,4 +167,49 @@ none_refused devices start now all binders count stands names reason at inside h
     nothing (stands.refuses names reason at inside h)
   where
     nothing : {ns : List Name} {bs : List BinderNames} → IsRefusedFirst devices now ns [] bs reason at inside → ⊥
-    nothing ()
+    nothing it = elim it [ ]
+
+-- the same where one is counted more
+pub stands_counted : (devices : ℕ) (start now : Context) (all left : List CoreDefinition) (binders : List BinderNames)
+    (count next : ℕ) → next ≡ suc count → StandsAt devices start all binders (suc count) now left
+    → StandsAt devices start all binders next now left
+stands_counted devices start now all left binders count next is stands =
+    subst (λ n. StandsAt devices start all binders n now left) (sym is) stands
+
+-- the names of binders behind so many, by the list of the trees' definitions
+pub binders_at : (trees : List DefSyntax) (count : ℕ) (one : DefSyntax) → slice_get trees count ≡ Some one
+    → first_binders (binders_behind count (names_of_binders trees)) ≡ binder_names one.right
+binders_at [] count one is = cc
+binders_at (t ∷ trees) zero one is = let same : t ≡ one = cc in ap (λ (d : DefSyntax). binder_names d.right) same
+binders_at (t ∷ trees) (suc count) one is = binders_at trees count one is
+
+-- what is answered at the first definition that is refused
+pub explained_here : (devices : ℕ) (start : Context) (all : List CoreDefinition) (binders : List BinderNames) (count : ℕ)
+    (now : Context) (first : CoreDefinition) (rest : List CoreDefinition) (binder : BinderNames) (code : Code) (at : Place)
+    (found : Option Reasoned) (answer : Option RefusedDefinition)
+    → StandsAt devices start all binders count now (first ∷ rest)
+    → first_binders (binders_behind count binders) ≡ binder
+    → definitions.HasVerdict devices now (to_be_checked first) (definitions.IsRefused code at)
+    → IsAnswered devices now (to_be_checked first) binder found
+    → MatchOption found (answer ≡ None) (λ one. answer ≡ Some (record { reason = one.reason; at = one.at; before = count }))
+    → AreExplained devices start all binders answer
+explained_here devices start all binders count now first rest binder code at (Some one) answer stands is refused has told =
+    subst (AreExplained devices start all binders) (sym told)
+    (λ names. stops_here devices start all binders count now first rest stands binder is (reason_of one.reason) one.at has names)
+explained_here devices start all binders count now first rest binder code at None answer stands is refused none told =
+    absurd (refused_has_reason devices now first binder code at refused none)
+
+-- what stands at a place, as syntax
+pub slice_get_mapped : (trees : List Def) (count : ℕ) (one : Def) → slice_get trees count ≡ Some one
+    → slice_get (map def_syntax trees) count ≡ Some (def_syntax one)
+slice_get_mapped [] count one is = cc
+slice_get_mapped (t ∷ trees) zero one is = let same : t ≡ one = cc in ap (λ d. Some (def_syntax d)) same
+slice_get_mapped (t ∷ trees) (suc count) one is = slice_get_mapped trees count one is
+
+-- what is left from a place on
+pub drop_next : {A : Type 0} (list : List A) (index : ℕ) (item : A) → index < length list → item ≡ get_or list index item
+    → drop index list ≡ item ∷ drop (index + 1) list
+drop_next list index item below is =
+    drop-cons list index item below
+    ∙ ap (λ x. x ∷ drop (suc index) list) (sym is)
+    ∙ ap (λ n. item ∷ drop n list) (sym (add-one index))

@@ -1,5 +1,5 @@
 -- What the program answers where it is asked which definition of a module is refused first, and why.
-use Rattle.std.specs.Prelude.{ℕ, List, ◌∷◌, ◌++◌, map, take, drop, Option, Some, None}
+use Rattle.std.specs.Prelude.{ℕ, List, [], ◌∷◌, ◌++◌, map, take, drop, Option, Some, None}
 use Rattle.cc_base.specs.declared.place.Place.{Place}
 use Rattle.cc_core.specs.Contexts.{Context}
 use Rattle.cc_mnf.specs.ElaboratedModules.{CoreDefinition}

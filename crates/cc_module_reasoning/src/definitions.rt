@@ -1,6 +1,6 @@
 //! Which definition of a module is refused first, and why.
 
-ghost use Rattle.std.specs.Prelude.{◌≡◌, length, map, IfOk};
+ghost use Rattle.std.specs.Prelude.{◌≡◌, length, map, Some, None, IfOk, MatchOption};
 ghost use Rattle.cc_core.specs.TermViews.{context_of};
 ghost use Rattle.cc_core.specs.Holes.{HolesAreOfParameters};
 ghost use Rattle.cc_causes.specs.Views.{binder_names_of};
@@ -51,6 +51,16 @@ fn reason_of(
     Ok(found)
 }
 
+// The reason of a definition behind so many, if it has one.
+fn behind(found: Option<Reasoned>, before: usize) -> Option<RefusedDefinition>
+    ensures { MatchOption found (result ≡ None) (λ one. result ≡ Some (record { reason = one.reason; at = one.at; before = before })) }
+{
+    match found {
+        Some(Reasoned { reason, at }) => Some(RefusedDefinition { reason, at, before }),
+        None => None,
+    }
+}
+
 /// Which of the definitions is refused first, behind how many, why and where; none where all are accepted. Each is checked in
 /// the context of the signatures before it.
 ///
@@ -74,14 +84,8 @@ pub fn first_refused(
         match check_known(alloc, &globals, devices, def, &mut measures, &mut instances) {
             Ok(checked) => globals = with_signature(alloc, &globals, &checked.sig)?,
             Err(CheckError::Refused(_)) => {
-                return match reason_of(alloc, &globals, devices, def, &trees[index])? {
-                    Some(Reasoned { reason, at }) => Ok(Some(RefusedDefinition {
-                        reason,
-                        at,
-                        before: index,
-                    })),
-                    None => Ok(None),
-                };
+                let found = reason_of(alloc, &globals, devices, def, &trees[index])?;
+                return Ok(behind(found, index));
             }
             Err(CheckError::NoMemory) => return Err(AllocError),
         }

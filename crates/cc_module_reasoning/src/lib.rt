@@ -2,3 +2,4 @@
 #![tactic(auto)]
 
 pub mod binders;
+pub mod definitions;
