@@ -85,8 +85,8 @@ pub fn labels_there(
     Ok(Labels { labels, locals })
 }
 
-/// The same, shared.
-pub(crate) fn shared_labels(
+/// The same, shared. Fails only for want of memory.
+pub fn shared_labels(
     alloc: Global,
     names: &[Name],
     locals: &Locals,

@@ -12,18 +12,16 @@ use Rattle.cc_job.specs.declared.job.Command.{Command}
 use Rattle.cc_job.specs.Jobs.{Item, Declares, Commands, first_line, item_lines, skipped}
 use Rattle.cc_words.specs.Lines.{Line, AreWholeLines}
 use Rattle.cc_line_reading.specs.LineReading.{Held, Hears, HearsPart, IsOver, IsDrained}
-use Rattle.cc_hosting.proofs.SteadyCourses.{hosted_runs_are_steady}
 use Rattle.cc_hosting.specs.CourseLaws.{LinesAreUsed}
-use Rattle.cc_hosting.specs.HostedRuns.{IsHosted}
-use Rattle.cc_item_reading.specs.Sayings.{Live, live_line, size, item_limit}
+use Rattle.cc_item_reading.specs.Sayings.{aside_line, size, item_limit}
+use Rattle.cc_item_reading.specs.declared.asides.Aside.{Aside}
 use Rattle.cc_live.specs.LiveEnds.{AreWithin, BeginsText, RunsLive}
 use Rattle.cc_live.specs.LiveRuns.{Live as Told, Standing as LiveStanding, Over, Waits, Breaks as LiveBreaks, Course}
 use Rattle.cc_live.specs.declared.running.LiveError.{LiveError}
 use Rattle.cc_live.specs.declared.running.LiveError.TheVariants as live_errors
 use Rattle.cc_conversation.specs.Progress.{HasSaid}
-use Rattle.cc_conversation.specs.Progress.HasSaid.{played}
-use Rattle.cc_conversation.specs.declared.conversing.Order.TheVariants as orders
-use Rattle.cc_item_reading.specs.ItemReading.{HearsNextItem, HearsLive, HasBegun, StopsIn}
+use Rattle.cc_conversation.specs.Progress.HasSaid.{aside}
+use Rattle.cc_item_reading.specs.ItemReading.{HearsNextItem, HearsAside, HasBegun, StopsIn}
 use Rattle.cc_item_reading.specs.declared.reading.NotHeard.{NotHeard}
 use Rattle.cc_item_reading.specs.declared.reading.NotHeard.TheVariants as errors
 use Rattle.cc_item_reading.proofs.Hearing.{hears_both, hears_none}
@@ -32,14 +30,15 @@ use Rattle.cc_conversation.specs.declared.conversing.Ended.{Ended}
 use Rattle.cc_conversation.specs.declared.conversing.Ended.TheVariants as endings
 use Rattle.cc_conversation.specs.declared.conversing.Stopped.{Stopped}
 use Rattle.cc_conversation.specs.declared.conversing.Stopped.TheVariants as stops
-use Rattle.cc_conversation.specs.Conversations.{Moment, AreShort, IsOpen, IsRun, Standing, Rests, Begun, Asks, EndedAt, Overlong, StandsIn, Says, IsSpoken, IsHeard, beginning, under_way, with_part}
+use Rattle.cc_conversation.specs.Conversations.{Moment, AreShort, IsOpen, IsCourseOf, SaysAside, Standing, Rests, Begun, Asks, EndedAt, Overlong, StandsIn, Says, IsSpoken, IsHeard, beginning, under_way, with_part}
 use Rattle.cc_conversation.specs.Conversations.Says.{rests, begins, ends as ends_at, exceeds, goes_on, runs as runs_to, stops as stops_at}
 use Rattle.cc_conversation.specs.Conversations.StandsIn.{asks, breaks, floods}
 use Rattle.cc_conversation.specs.Conversations.IsSpoken.{nothing, overlong, stranger, opened}
 use Rattle.cc_conversation.specs.Conversed.{Ends, fresh, HasHeard, HasHeardAll, HasHeardPart, HasHeardMore, HasNoFault, IsAnswered, IsAnsweredInPart, IsAnsweredSoFar, IsOverWith, HasBadLine, Conversed}
-use Rattle.cc_conversation.specs.Turns.{Talks, StopsHearing, HearsOrder, IsPlayed, StopsWriting, StopsPlaying, ComesToEnd, HearsFirst, StopCause, closed_as, closed_course, ending_of}
-use Rattle.cc_conversation.proofs.Progressing.{skipped_item, skipped_open, says_end, says_behind, or_false}
-use Rattle.cc_conversation.proofs.Turning.{answers_alike, hosted_alike, are_short}
+use Rattle.cc_conversation.specs.Turns.{Talks, StopsHearing, HearsOrder, StopsWriting, StopsInAside, ComesToEnd, HearsFirst, StopCause, closed_as, closed_course, ending_of}
+use Rattle.cc_conversation.proofs.AsideCourses.{courses_are_steady}
+use Rattle.cc_conversation.proofs.Progressing.{skipped_item, skipped_aside, skipped_open, says_end, says_behind, or_false}
+use Rattle.cc_conversation.proofs.Turning.{answers_alike, course_alike, are_short}
 
 -- all is a front of itself
 whole_front : (before written : Option (List ℕ)) (text : List ℕ) → Appends before written text → AppendsFront before written text
@@ -310,25 +309,25 @@ short_front : (front rest : List Line) → AreShort (front ++ rest) → AreShort
 short_front [] rest short = tt
 short_front (line ∷ front) rest short = (short.0, short_front front rest short.1)
 
--- A live run that was heard at a moment, and what comes of the lines of the host.
+-- What a job cannot say was heard at a moment, and this comes of the lines of the host.
 module _ (before after : Ends) (now between : Held) (there source : Option (List ℕ)) (place number : ℕ) (refused : Bool) (moment : Moment)
-    (written : Option (List ℕ)) (talks : Talks fresh now before.left there before.written written place refused moment) (it : Live)
-    (next : HearsLive now between there source it) (counted : number ≡ place + 1) (course : Course)
-    (hosted : IsHosted moment.devices moment.state it.owner it.definition it.fuel course) where
+    (written : Option (List ℕ)) (talks : Talks fresh now before.left there before.written written place refused moment) (it : Aside)
+    (next : HearsAside now between there source it) (counted : number ≡ place + 1) (course : Course)
+    (comes : IsCourseOf moment.devices moment.state it course) where
   -- all lines
   abbrev with_lines : List Line → List Line
-  with_lines host = talks.lines ++ live_line it ∷ host
+  with_lines host = talks.lines ++ aside_line it ∷ host
 
-  run_of : (host : List Line) → IsRun moment (live_line it ∷ host) host course
-  run_of host = record { it = it; may = next.may; short = next.short; says = refl; hosted = hosted }
+  run_of : (host : List Line) → SaysAside moment (aside_line it ∷ host) host course
+  run_of host = record { it = it; may = next.may; short = next.short; says = skipped_aside it host; comes = comes }
 
   -- that are heard
   heard_with : (new : Held) (later : Option (List ℕ)) (host : List Line) → Hears between new source later host
       → Hears fresh new before.left later (first_line ∷ with_lines host)
   heard_with new later host hears =
-      subst (λ ls. Hears fresh new before.left later (first_line ∷ ls)) (append_assoc talks.lines (live_line it ∷ []) host)
-      (hears_both fresh between new before.left source later (first_line ∷ (talks.lines ++ live_line it ∷ [])) host
-      (hears_both fresh now between before.left there source (first_line ∷ talks.lines) (live_line it ∷ []) talks.hears next.hears) hears)
+      subst (λ ls. Hears fresh new before.left later (first_line ∷ ls)) (append_assoc talks.lines (aside_line it ∷ []) host)
+      (hears_both fresh between new before.left source later (first_line ∷ (talks.lines ++ aside_line it ∷ [])) host
+      (hears_both fresh now between before.left there source (first_line ∷ talks.lines) (aside_line it ∷ []) talks.hears next.hears) hears)
 
   -- and answered where the run is not over
   spoken_with : (host others : List Line) (text : List ℕ) (standing : Standing) → AreShort host
@@ -336,7 +335,7 @@ module _ (before after : Ends) (now between : Held) (there source : Option (List
       → IsSpoken (first_line ∷ with_lines (host ++ others)) (talks.text ++ text) refused standing
   spoken_with host others text standing short stands =
       opened (subst (λ b. Says (suc (length (with_lines (host ++ others)))) beginning (with_lines (host ++ others)) (talks.text ++ text) b standing) (or_false refused)
-      (says_behind talks.said (suc (length (with_lines (host ++ others)))) (live_line it ∷ (host ++ others)) text false standing
+      (says_behind talks.said (suc (length (with_lines (host ++ others)))) (aside_line it ∷ (host ++ others)) text false standing
       (stops_at course host others text (run_of (host ++ others)) short stands)))
 
   spoken_whole : (host : List Line) (text : List ℕ) (standing : Standing) → AreShort host
@@ -361,7 +360,7 @@ module _ (before after : Ends) (now between : Held) (there source : Option (List
     text = talks.text ++ text;
     spoken = spoken_whole host text (EndedAt behind) (are_short host within)
         (breaks behind (closed_breaks (course host).standing (course host).text text broken)
-        (omega (arith, counts, counted, talks.counted, length-append talks.lines (live_line it ∷ host))));
+        (omega (arith, counts, counted, talks.counted, length-append talks.lines (aside_line it ∷ host))));
     written = Appends-trans before.written written after.written talks.text text talks.appends appends;
   }
 
@@ -372,11 +371,11 @@ module _ (before after : Ends) (now between : Held) (there source : Option (List
   in_part_by heard (Over so left) told text short (host, is, same) stands (behind, begun_so) front = record {
     front = first_line ∷ with_lines host;
     rest = left;
-    parts = ap (λ h. first_line ∷ with_lines h) is ∙ ap (λ ls. first_line ∷ ls) (sym (append_assoc talks.lines (live_line it ∷ host) left));
+    parts = ap (λ h. first_line ∷ with_lines h) is ∙ ap (λ ls. first_line ∷ ls) (sym (append_assoc talks.lines (aside_line it ∷ host) left));
     text = talks.text ++ (told ++ 10 ∷ []);
     refused = refused || so;
     standing = Rests;
-    spoken = spoken_said (played it course host told so talks.said next.may next.short hosted (short_front host left (subst AreShort is short)) same);
+    spoken = spoken_said (aside it course host told so talks.said next.may next.short comes (short_front host left (subst AreShort is short)) same);
     written = front_second before.written written after.written talks.text (told ++ 10 ∷ []) talks.appends
         (subst (AppendsFront written after.written) (sym begun_so) (front_first written after.written text behind front));
   }
@@ -388,7 +387,7 @@ module _ (before after : Ends) (now between : Held) (there source : Option (List
   in_part_by heard (LiveBreaks left) told text short (host, is, same) stands (behind, begun_so) front = record {
     front = first_line ∷ with_lines host;
     rest = left;
-    parts = ap (λ h. first_line ∷ with_lines h) is ∙ ap (λ ls. first_line ∷ ls) (sym (append_assoc talks.lines (live_line it ∷ host) left));
+    parts = ap (λ h. first_line ∷ with_lines h) is ∙ ap (λ ls. first_line ∷ ls) (sym (append_assoc talks.lines (aside_line it ∷ host) left));
     text = talks.text ++ told;
     refused = refused;
     standing = EndedAt (suc (length (with_lines host)));
@@ -401,7 +400,7 @@ module _ (before after : Ends) (now between : Held) (there source : Option (List
   told_in_part : (heard : List Line) (text : List ℕ) → AreWithin heard → BeginsText text (closed_course course heard) → AppendsFront written after.written text
       → IsAnsweredInPart before after (first_line ∷ with_lines heard)
   told_in_part heard text within begun_so front =
-      let steady = hosted_runs_are_steady moment.devices moment.state it.owner it.definition it.fuel course hosted in
+      let steady = courses_are_steady moment.devices moment.state it course comes in
       in_part_by heard (course heard).standing (course heard).text text (are_short heard within) (steady.used heard) refl begun_so front
 
 consumed_none : (left : Option (List ℕ)) → Consumes left left []
@@ -413,46 +412,46 @@ either_way : (before after : Ends) (b : Bool) (x y : Ended) → Conversed before
 either_way before after true x y p q = p
 either_way before after false x y p q = q
 
--- how a live run stopped
+-- how what a job cannot say stopped
 module _ {error : LiveError} (before after : Ends) (new : Held) (behind : ℕ)
-    (p : StopsPlaying fresh new before.left after.left before.written after.written behind error) where
+    (p : StopsInAside fresh new before.left after.left before.written after.written behind error) where
   abbrev its_course : Course
-  its_course = p.played.course
+  its_course = p.tells.course
 
-  abbrev its_hosted : IsHosted p.moment.devices p.moment.state p.it.owner p.it.definition p.it.fuel p.played.course
-  its_hosted = hosted_alike p.moment p.other p.it.owner p.it.definition p.it.fuel p.played.course p.alike p.played.hosted
+  abbrev its_comes : IsCourseOf p.moment.devices p.moment.state p.it p.tells.course
+  its_comes = course_alike p.moment p.other p.it p.tells.course p.alike p.tells.comes
 
   abbrev its_lines : List Line
   its_lines =
       first_line ∷ with_lines before after p.hears.0 p.now p.hears.1 p.there p.hears.2 p.number p.refused p.moment p.written p.hears.3 p.it p.hears.4.0 p.hears.4.1
-      p.played.course its_hosted p.played.runs.heard
+      p.tells.course its_comes p.tells.runs.heard
 
-  its_hears : (held : Held) (later : Option (List ℕ)) → Hears p.now held p.there later p.played.runs.heard → Hears fresh held before.left later its_lines
+  its_hears : (held : Held) (later : Option (List ℕ)) → Hears p.now held p.there later p.tells.runs.heard → Hears fresh held before.left later its_lines
   its_hears held later hears =
       heard_with before after p.hears.0 p.now p.hears.1 p.there p.hears.2 p.number p.refused p.moment p.written p.hears.3 p.it p.hears.4.0 p.hears.4.1
-      p.played.course its_hosted held later p.played.runs.heard hears
+      p.tells.course its_comes held later p.tells.runs.heard hears
 
-  its_waiting : closed_course p.played.course p.played.runs.heard ≡ record { text = p.played.runs.text; standing = Waits }
-      → Appends p.written after.written p.played.runs.text → IsAnswered before after its_lines p.refused Asks
+  its_waiting : closed_course p.tells.course p.tells.runs.heard ≡ record { text = p.tells.runs.text; standing = Waits }
+      → Appends p.written after.written p.tells.runs.text → IsAnswered before after its_lines p.refused Asks
   its_waiting waits appends =
       answered_waits before after p.hears.0 p.now p.hears.1 p.there p.hears.2 p.number p.refused p.moment p.written p.hears.3 p.it p.hears.4.0 p.hears.4.1
-      p.played.course its_hosted p.played.runs.heard p.played.runs.text p.played.runs.within waits appends
+      p.tells.course its_comes p.tells.runs.heard p.tells.runs.text p.tells.runs.within waits appends
 
-  its_breaking : closed_course p.played.course p.played.runs.heard ≡ record { text = p.played.runs.text; standing = LiveBreaks [] }
-      → Appends p.written after.written p.played.runs.text → IsAnswered before after its_lines p.refused (EndedAt behind)
+  its_breaking : closed_course p.tells.course p.tells.runs.heard ≡ record { text = p.tells.runs.text; standing = LiveBreaks [] }
+      → Appends p.written after.written p.tells.runs.text → IsAnswered before after its_lines p.refused (EndedAt behind)
   its_breaking broken appends =
       answered_breaks before after p.hears.0 p.now p.hears.1 p.there p.hears.2 p.number p.refused p.moment p.written p.hears.3 p.it p.hears.4.0 p.hears.4.1
-      p.played.course its_hosted p.played.runs.heard p.played.runs.text behind p.played.runs.within broken p.played.runs.counts appends
+      p.tells.course its_comes p.tells.runs.heard p.tells.runs.text behind p.tells.runs.within broken p.tells.runs.counts appends
 
-  its_part : BeginsText p.played.runs.text (closed_course p.played.course p.played.runs.heard) → AppendsFront p.written after.written p.played.runs.text
+  its_part : BeginsText p.tells.runs.text (closed_course p.tells.course p.tells.runs.heard) → AppendsFront p.written after.written p.tells.runs.text
       → IsAnsweredInPart before after its_lines
   its_part begun_so front =
       told_in_part before after p.hears.0 p.now p.hears.1 p.there p.hears.2 p.number p.refused p.moment p.written p.hears.3 p.it p.hears.4.0 p.hears.4.1
-      p.played.course its_hosted p.played.runs.heard p.played.runs.text p.played.runs.within begun_so front
+      p.tells.course its_comes p.tells.runs.heard p.tells.runs.text p.tells.runs.within begun_so front
 
   its_count : behind ≡ length its_lines
   its_count =
-      omega (arith, p.played.runs.counts, p.hears.4.1, p.hears.3.counted, length-append p.hears.3.lines (live_line p.it ∷ p.played.runs.heard))
+      omega (arith, p.tells.runs.counts, p.hears.4.1, p.hears.3.counted, length-append p.hears.3.lines (aside_line p.it ∷ p.tells.runs.heard))
 
 -- a part of a line behind those of a host makes it too long
 part_too_long : (part : ℕ) → item_limit ≤ part → with_part Asks part ≡ Overlong
@@ -461,12 +460,12 @@ part_too_long part long = rw (past part long) refl
     past : (n : ℕ) → item_limit ≤ n → nat_lt n item_limit ≡ false
     past n h = grind (arith, nat_tests)
 
-playing_ends : (before after : Ends) (new : Held) (behind : ℕ) (error : LiveError)
-    → StopsPlaying fresh new before.left after.left before.written after.written behind error
-    → StopCause before.read_faults after.read_faults before.write_faults after.write_faults (Err (stops.Playing error))
-    → Conversed before after (ending_of (Err (stops.Playing error)) behind)
-playing_ends before after new behind live_errors.ReadFault p cause =
-    let runs = p.played.runs in
+aside_ends : (before after : Ends) (new : Held) (behind : ℕ) (error : LiveError)
+    → StopsInAside fresh new before.left after.left before.written after.written behind error
+    → StopCause before.read_faults after.read_faults before.write_faults after.write_faults (Err (stops.Aside error))
+    → Conversed before after (ending_of (Err (stops.Aside error)) behind)
+aside_ends before after new behind live_errors.ReadFault p cause =
+    let runs = p.tells.runs in
     let l = runs.listens in (
       so_far before after l.between new l.rest (its_lines before after new behind p) l.fails.0 p.refused Asks
           (its_hears before after new behind p l.between l.rest l.first) l.fails.1 l.fails.2
@@ -474,8 +473,8 @@ playing_ends before after new behind live_errors.ReadFault p cause =
       cause.0,
       cause.1,
     )
-playing_ends before after new behind live_errors.TooLong p cause =
-    let runs = p.played.runs in
+aside_ends before after new behind live_errors.TooLong p cause =
+    let runs = p.tells.runs in
     let l = runs.listens in (
       its_lines before after new behind p,
       l.fails.0,
@@ -486,24 +485,24 @@ playing_ends before after new behind live_errors.TooLong p cause =
       part_too_long (length l.fails.0) (omega (arith, l.fails.3)),
       record { reads = cause.0; writes = cause.1 },
     )
-playing_ends before after new behind live_errors.NoMemory p cause =
-    let runs = p.played.runs in
+aside_ends before after new behind live_errors.NoMemory p cause =
+    let runs = p.tells.runs in
     let l = runs.listens in (
       its_lines before after new behind p,
       record { held = l.between; there = l.rest; hears = its_hears before after new behind p l.between l.rest l.first; read = l.fails.0; consumed = l.fails.1 },
       its_part before after new behind p runs.comes runs.tells,
       record { reads = cause.0; writes = cause.1 },
     )
-playing_ends before after new behind live_errors.WriteFault p cause =
-    let runs = p.played.runs in (
+aside_ends before after new behind live_errors.WriteFault p cause =
+    let runs = p.tells.runs in (
       its_lines before after new behind p,
       (new, its_hears before after new behind p new after.left runs.listens),
       its_part before after new behind p runs.comes runs.tells,
       cause.0,
       cause.1,
     )
-playing_ends before after new behind live_errors.Ended p cause =
-    let runs = p.played.runs in
+aside_ends before after new behind live_errors.Ended p cause =
+    let runs = p.tells.runs in
     let none : HasNoFault before after = record { reads = cause.0; writes = cause.1 } in
     let hears = its_hears before after new behind p new after.left runs.listens.0 in
     let answered = its_waiting before after new behind p runs.comes runs.tells in
@@ -520,8 +519,8 @@ playing_ends before after new behind live_errors.Ended p cause =
           (whole_front before.written after.written answered.text answered.written),
       none,
     )
-playing_ends before after new behind live_errors.BadLine p cause =
-    let runs = p.played.runs in record {
+aside_ends before after new behind live_errors.BadLine p cause =
+    let runs = p.tells.runs in record {
       lines = its_lines before after new behind p;
       refused = p.refused;
       answered = inl ((new, its_hears before after new behind p new after.left runs.listens), its_breaking before after new behind p runs.comes runs.tells);
@@ -561,7 +560,7 @@ conversed before after new number (Err (stops.Writing write_errors.NoMemory)) co
       told.2,
       record { reads = cause.0; writes = cause.1 },
     )
-conversed before after new number (Err (stops.Playing error)) comes cause = playing_ends before after new number error comes cause
+conversed before after new number (Err (stops.Aside error)) comes cause = aside_ends before after new number error comes cause
 
 none_said : (before after : Ends) → Appends before.written after.written [] → IsAnswered before after [] false Rests
 none_said before after kept = record { text = []; spoken = nothing; written = kept }

@@ -18,7 +18,7 @@ use Rattle.cc_conversation.specs.declared.conversing.Stopped.TheVariants as stop
 -- behind an order a command was given
 pub begun_behind : (moment : Moment) (order : Order) → IsTrue (behind_order moment order).begun
 begun_behind moment (orders.Command command) = refl
-begun_behind moment (orders.Live owner definition fuel) = refl
+begun_behind moment (orders.Aside it) = refl
 
 -- a conversation begins where its devices were declared
 pub alike_first : (devices : List DeviceDecl) (moment : Moment) → moment ≡ beginning_with devices → AreAlike (opening devices) moment

@@ -7,6 +7,7 @@ use Rattle.cc_job.specs.Jobs.{Commands, first_line, item_lines}
 use Rattle.cc_words.specs.Lines.{Line}
 use Rattle.cc_line_reading.specs.LineReading.{Held, Hears, IsOver}
 use Rattle.cc_item_reading.specs.ItemReading.{HearsItem, HearsNextItem, AreDeclared}
+use Rattle.cc_item_reading.specs.declared.asides.Aside.{Aside}
 use Rattle.cc_item_reading.specs.declared.reading.Heard.{Heard}
 use Rattle.cc_item_reading.specs.declared.reading.Heard.TheVariants as heard
 use Rattle.cc_item_reading.specs.declared.reading.NotHeard.{NotHeard}
@@ -53,12 +54,12 @@ pub awaits_command : (moment : Moment) (command : Command) (start now new : Held
 awaits_command moment command start now new left there later before written number behind refused talks (next, counted) =
     (now, there, number, talks, (next, counted))
 
--- a live run
-pub awaits_live : (moment : Moment) (owner definition : List ℕ) (fuel : ℕ) (start now new : Held) (left there later before written : Option (List ℕ))
+-- what a job cannot say
+pub awaits_aside : (moment : Moment) (it : Aside) (start now new : Held) (left there later before written : Option (List ℕ))
     (number behind : ℕ) (refused : Bool) → Talks start now left there before written number refused moment
-    → HearsNextItem moment.devices moment.begun now new there later number behind (Ok (heard.Live owner definition fuel))
-    → Awaits start new left later before written behind refused moment (Ok (Some (orders.Live owner definition fuel)))
-awaits_live moment owner definition fuel start now new left there later before written number behind refused talks (next, counted) =
+    → HearsNextItem moment.devices moment.begun now new there later number behind (Ok (heard.Aside it))
+    → Awaits start new left later before written behind refused moment (Ok (Some (orders.Aside it)))
+awaits_aside moment it start now new left there later before written number behind refused talks (next, counted) =
     (now, there, number, talks, (next, counted))
 
 -- reading stops

@@ -1,3 +1,4 @@
+mod AsideCourses
 mod RunsOnce
 mod SpokenJobs
 mod SpokenOnce

@@ -31,8 +31,11 @@ use Rattle.cc_session.specs.Sessions.{SessionState}
 use Rattle.cc_verdicts.specs.ModuleLaws.{NamesOfDevicesDiffer}
 use Rattle.cc_verdicts.specs.PresentTexts.{ArePresent}
 use Rattle.cc_words.specs.Lines.{Line}
-use Rattle.cc_conversation.specs.Conversations.{Moment, spoken_reply}
-use Rattle.cc_conversation.specs.Turns.{IsUnderWay, IsSaid, IsPlayed, closed_as, closed, closed_course}
+use Rattle.cc_why.specs.WhyTexts.{why_text, TellsWhy}
+use Rattle.cc_item_reading.proofs.Hearing.{hears_none}
+use Rattle.cc_item_reading.specs.declared.asides.Aside.TheVariants as asides
+use Rattle.cc_conversation.specs.Conversations.{Moment, spoken_reply, why_course}
+use Rattle.cc_conversation.specs.Turns.{IsUnderWay, IsSaid, IsExplained, IsAsideTold, closed_as, closed, closed_course}
 use Rattle.cc_conversation.specs.declared.saying.Conversation.{Conversation}
 
 -- a reply and an empty line behind it
@@ -114,10 +117,10 @@ module _ (moment : Moment) (owner definition : List ℕ) (fuel : ℕ) (old new :
   -- a live run that came to no end
   pub played_stops : (error : LiveError)
       → RunsHosted moment.devices moment.state owner definition fuel old new left later count counted before after (Err error)
-      → IsPlayed moment owner definition fuel old new left later count counted before after (Err error)
+      → IsAsideTold moment (asides.Live owner definition fuel) old new left later count counted before after (Err error)
   played_stops error it = record {
     course = it.course;
-    hosted = it.hosted;
+    comes = it.hosted;
     runs = record {
       heard = it.runs.heard;
       within = it.runs.within;
@@ -135,10 +138,10 @@ module _ (moment : Moment) (owner definition : List ℕ) (fuel : ℕ) (old new :
     closed_over = ap closed it.runs.comes
 
     -- one that did, with an empty line behind it
-    pub played_whole : Appends between after (10 ∷ []) → IsPlayed moment owner definition fuel old new left later count counted before after (Ok refused)
+    pub played_whole : Appends between after (10 ∷ []) → IsAsideTold moment (asides.Live owner definition fuel) old new left later count counted before after (Ok refused)
     played_whole feed = record {
       course = it.course;
-      hosted = it.hosted;
+      comes = it.hosted;
       runs = record {
         heard = it.runs.heard;
         within = it.runs.within;
@@ -152,10 +155,10 @@ module _ (moment : Moment) (owner definition : List ℕ) (fuel : ℕ) (old new :
 
     -- or a failure to write that
     pub played_write_fault : AppendsFront between after (10 ∷ [])
-        → IsPlayed moment owner definition fuel old new left later count counted before after (Err live_errors.WriteFault)
+        → IsAsideTold moment (asides.Live owner definition fuel) old new left later count counted before after (Err live_errors.WriteFault)
     played_write_fault feed = record {
       course = it.course;
-      hosted = it.hosted;
+      comes = it.hosted;
       runs = record {
         heard = it.runs.heard;
         within = it.runs.within;
@@ -168,10 +171,10 @@ module _ (moment : Moment) (owner definition : List ℕ) (fuel : ℕ) (old new :
     }
 
     pub played_no_memory : AppendsFront between after (10 ∷ [])
-        → IsPlayed moment owner definition fuel old new left later count counted before after (Err live_errors.NoMemory)
+        → IsAsideTold moment (asides.Live owner definition fuel) old new left later count counted before after (Err live_errors.NoMemory)
     played_no_memory feed = record {
       course = it.course;
-      hosted = it.hosted;
+      comes = it.hosted;
       runs = record {
         heard = it.runs.heard;
         within = it.runs.within;
@@ -182,6 +185,100 @@ module _ (moment : Moment) (owner definition : List ℕ) (fuel : ℕ) (old new :
         comes = ([], ap (λ (t : Told). t.text) closed_over ∙ sym (append-nil (it.runs.text ++ 10 ∷ [])));
       };
     }
+
+-- the answer to a question, and an empty line behind it
+module _ (moment : Moment) (name : List ℕ) (old between new : Option (List ℕ)) where
+  pub explained : (refused : Bool) → TellsWhy moment.devices moment.state.texts name old between (Ok refused) → Appends between new (10 ∷ [])
+      → IsExplained moment name old new (Ok refused)
+  explained refused it feed = record {
+    answer = it.answer;
+    is = it.is;
+    written = Appends-trans old between new (why_text name it.answer) (10 ∷ []) it.written feed;
+    told = it.told;
+  }
+
+  pub explained_front : (error : WriteAll) → TellsWhy moment.devices moment.state.texts name old new (Err error)
+      → IsExplained moment name old new (Err error)
+  explained_front error it = record { answer = it.answer; is = it.is; written = longer error it.written; told = tt }
+    where
+      longer : (error : WriteAll) → WritesWhole {T = Bool} old new (Err error) (why_text name it.answer)
+          → WritesWhole {T = Bool} old new (Err error) (why_text name it.answer ++ 10 ∷ [])
+      longer write_errors.WriteFault front = front_first old new (why_text name it.answer) (10 ∷ []) front
+      longer write_errors.NoMemory front = front_first old new (why_text name it.answer) (10 ∷ []) front
+
+  pub explained_without_feed : (refused : Bool) (error : WriteAll) → TellsWhy moment.devices moment.state.texts name old between (Ok refused)
+      → WritesWhole {T = Unit {0}} between new (Err error) (10 ∷ []) → IsExplained moment name old new (Err error)
+  explained_without_feed refused error it feed = record { answer = it.answer; is = it.is; written = longer error feed; told = tt }
+    where
+      longer : (error : WriteAll) → WritesWhole {T = Unit {0}} between new (Err error) (10 ∷ [])
+          → WritesWhole {T = Bool} old new (Err error) (why_text name it.answer ++ 10 ∷ [])
+      longer write_errors.WriteFault front = front_second old between new (why_text name it.answer) (10 ∷ []) it.written front
+      longer write_errors.NoMemory front = front_second old between new (why_text name it.answer) (10 ∷ []) it.written front
+
+-- a conversation stays under way where its session has what it had
+pub under_way_still : (it : Conversation) (session : SessionState) → IsUnderWay it → session.devices ≡ it.session.devices
+    → session.present ≡ it.session.present → IsUnderWay (record { names = it.names; session = session; kept = it.kept; policy = it.policy })
+under_way_still it session way devices present = record {
+  differ = subst NamesOfDevicesDiffer (sym devices) way.differ;
+  few = subst (λ d. length d ≤ 16) (sym devices) way.few;
+  present = subst ArePresent (sym present) way.present;
+  kept = subst (λ d. IsKeptFor d session.present it.kept) (sym devices)
+      (subst (λ t. IsKeptFor it.session.devices t it.kept) (sym present) way.kept);
+  names = way.names ∙ ap device_names (sym devices);
+  locals = way.locals;
+}
+
+-- The answer to a question, for which no line of the host is taken.
+module _ (moment : Moment) (name : List ℕ) (held : Held) (left : Option (List ℕ)) (count : ℕ) (before after : Option (List ℕ)) where
+  abbrev IsQuestionTold : Result Bool LiveError → Type 0
+  IsQuestionTold result = IsAsideTold moment (asides.Why name) held held left left count count before after result
+
+  -- written whole
+  pub told_whole : (refused : Bool) → IsExplained moment name before after (Ok refused) → IsQuestionTold (Ok refused)
+  told_whole refused it = record {
+    course = why_course name it.answer;
+    comes = (it.answer, it.is, refl);
+    runs = record {
+      heard = [];
+      within = tt;
+      text = why_text name it.answer ++ 10 ∷ [];
+      listens = hears_none held left;
+      counts = omega arith;
+      tells = it.written;
+      comes = ap (λ so. record { text = why_text name it.answer ++ 10 ∷ []; standing = Over so [] }) (sym it.told);
+    };
+  }
+
+  -- or a front of it
+  pub told_write_fault : IsExplained moment name before after (Err write_errors.WriteFault) → IsQuestionTold (Err live_errors.WriteFault)
+  told_write_fault it = record {
+    course = why_course name it.answer;
+    comes = (it.answer, it.is, refl);
+    runs = record {
+      heard = [];
+      within = tt;
+      text = why_text name it.answer ++ 10 ∷ [];
+      listens = hears_none held left;
+      counts = omega arith;
+      tells = it.written;
+      comes = ([], sym (append-nil (why_text name it.answer ++ 10 ∷ [])));
+    };
+  }
+
+  pub told_no_memory : IsExplained moment name before after (Err write_errors.NoMemory) → IsQuestionTold (Err live_errors.NoMemory)
+  told_no_memory it = record {
+    course = why_course name it.answer;
+    comes = (it.answer, it.is, refl);
+    runs = record {
+      heard = [];
+      within = tt;
+      text = why_text name it.answer ++ 10 ∷ [];
+      listens = no_memory_behind held held left left [] (hears_none held left);
+      counts = omega arith;
+      tells = it.written;
+      comes = ([], sym (append-nil (why_text name it.answer ++ 10 ∷ [])));
+    };
+  }
 
 -- a line by its bytes with a line feed
 no_rest : (ys : List ℕ) → [] ≡ ys ++ 10 ∷ [] → ⊥

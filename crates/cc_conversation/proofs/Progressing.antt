@@ -5,15 +5,18 @@ use Rattle.cc_job.specs.declared.job.Command.{Command}
 use Rattle.cc_job.specs.declared.job.Command.TheVariants.{Put, Drop, Check, Sig, Derive, Run, Tasks, Verify, Policy, Audit, Guard, Explain, Replay}
 use Rattle.cc_job.specs.Jobs.{Item, Declares, Commands, item_lines, skipped}
 use Rattle.cc_words.specs.Lines.{Line}
-use Rattle.cc_conversation.specs.Conversations.{Moment, IsOpen, IsRun, Standing, Rests, Says}
-use Rattle.cc_item_reading.specs.Sayings.{live_line}
+use Rattle.cc_conversation.specs.Conversations.{Moment, IsOpen, SaysAside, Standing, Rests, Says}
+use Rattle.cc_item_reading.specs.Sayings.{aside_line}
+use Rattle.cc_item_reading.specs.declared.asides.Aside.{Aside}
+use Rattle.cc_item_reading.specs.declared.asides.Aside.TheVariants.{Live, Why}
 use Rattle.cc_live.specs.LiveRuns.{Course}
 use Rattle.cc_conversation.specs.Conversations.Says.{rests, begins, ends, exceeds, goes_on, runs, stops}
 use Rattle.cc_conversation.specs.Progress.{HasSaid}
-use Rattle.cc_conversation.specs.Progress.HasSaid.{nothing, blank, item, played}
+use Rattle.cc_conversation.specs.Progress.HasSaid.{nothing, blank, item, aside}
 
-run_skips : {moment : Moment} {lines behind : List Line} {course : Course} → IsRun moment lines behind course → IsRun moment ([] ∷ lines) behind course
-run_skips run = record { it = run.it; may = run.may; short = run.short; says = run.says; hosted = run.hosted }
+run_skips : {moment : Moment} {lines behind : List Line} {course : Course} → SaysAside moment lines behind course
+    → SaysAside moment ([] ∷ lines) behind course
+run_skips run = record { it = run.it; may = run.may; short = run.short; says = run.says; comes = run.comes }
 
 -- an empty line says nothing
 skips : {total : ℕ} {moment : Moment} {lines : List Line} {text : List ℕ} {refused : Bool} {standing : Standing}
@@ -42,6 +45,11 @@ skipped_item (Commands (Audit owner definition)) rest = refl
 skipped_item (Commands (Guard owner definition fuel)) rest = refl
 skipped_item (Commands (Explain owner definition)) rest = refl
 skipped_item (Commands (Replay owner definition fuel text)) rest = refl
+
+-- nor is the line of what a job cannot say
+pub skipped_aside : (it : Aside) (rest : List Line) → skipped (aside_line it ∷ rest) ≡ aside_line it ∷ rest
+skipped_aside (Live owner definition fuel) rest = refl
+skipped_aside (Why name) rest = refl
 
 no_empty_item : (next : Item) (more : List Line) → item_lines next ≡ [] ∷ more → ⊥
 no_empty_item (Declares device) more e = cc
@@ -86,13 +94,14 @@ says_behind {start = start} (item {lines = lines} {text = text} {refused = refus
     subst (λ it. Says total start it ((text ++ own) ++ more) ((refused || second) || later) standing) (sym (append_assoc lines (item_lines next) rest))
     (subst (λ it. Says total start (lines ++ (item_lines next ++ rest)) it ((refused || second) || later) standing) (sym (append_assoc text own more))
     (subst (λ it. Says total start (lines ++ (item_lines next ++ rest)) (text ++ (own ++ more)) it standing) (sym (or_assoc refused second later)) here))
-says_behind {start = start} (played {lines = lines} {text = text} {refused = refused} it course host own second before may short hosted shorts over) total rest more later standing said =
-    let run : IsRun _ (live_line it ∷ (host ++ rest)) (host ++ rest) course = record { it = it; may = may; short = short; says = refl; hosted = hosted } in
-    let here = says_behind before total (live_line it ∷ (host ++ rest)) ((own ++ 10 ∷ []) ++ more) (second || later) standing
+says_behind {start = start} (aside {lines = lines} {text = text} {refused = refused} it course host own second before may short comes shorts over) total rest more later standing said =
+    let run : SaysAside _ (aside_line it ∷ (host ++ rest)) (host ++ rest) course =
+    record { it = it; may = may; short = short; says = skipped_aside it (host ++ rest); comes = comes } in
+    let here = says_behind before total (aside_line it ∷ (host ++ rest)) ((own ++ 10 ∷ []) ++ more) (second || later) standing
     (runs course host rest own more second later run shorts over said) in
-    subst (λ it. Says total start it ((text ++ (own ++ 10 ∷ [])) ++ more) ((refused || second) || later) standing) (sym (append_assoc lines (live_line it ∷ host) rest))
-    (subst (λ t. Says total start (lines ++ (live_line it ∷ (host ++ rest))) t ((refused || second) || later) standing) (sym (append_assoc text (own ++ 10 ∷ []) more))
-    (subst (λ b. Says total start (lines ++ (live_line it ∷ (host ++ rest))) (text ++ ((own ++ 10 ∷ []) ++ more)) b standing) (sym (or_assoc refused second later)) here))
+    subst (λ it. Says total start it ((text ++ (own ++ 10 ∷ [])) ++ more) ((refused || second) || later) standing) (sym (append_assoc lines (aside_line it ∷ host) rest))
+    (subst (λ t. Says total start (lines ++ (aside_line it ∷ (host ++ rest))) t ((refused || second) || later) standing) (sym (append_assoc text (own ++ 10 ∷ []) more))
+    (subst (λ b. Says total start (lines ++ (aside_line it ∷ (host ++ rest))) (text ++ ((own ++ 10 ∷ []) ++ more)) b standing) (sym (or_assoc refused second later)) here))
 
 -- the same where nothing is answered behind it
 pub says_end : {start now : Moment} {lines : List Line} {text : List ℕ} {refused : Bool} → HasSaid start lines text refused now

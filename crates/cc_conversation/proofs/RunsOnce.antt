@@ -1,11 +1,9 @@
--- Where live runs are over, or stand, among lines: in one way.
+-- Where what a job cannot say is over, or stands, among lines: in one way.
 use Rattle.std.proofs.Common.{◌≡◌, ◌≢◌, ◌⊎◌, ◌+◌, ◌<◌, ◌≤◌, ℕ, Bool, true, false, List, [], ◌∷◌, ◌++◌, length, Option, Some, None, inl, inr, refl, sym, ap, subst, ◌∙◌, arith, append_assoc, append-nil}
-use Rattle.cc_hosting.proofs.OneCourse.{hosted_runs_are_one}
-use Rattle.cc_hosting.proofs.SteadyCourses.{hosted_runs_are_steady}
 use Rattle.cc_hosting.specs.CourseLaws.{IsSteady}
-use Rattle.cc_hosting.specs.HostedRuns.{IsHosted}
-use Rattle.cc_item_reading.proofs.LiveWords.{no_head, one_live}
-use Rattle.cc_item_reading.specs.Sayings.{Live, IsLive, IsLiveLine, live_line, size, item_limit}
+use Rattle.cc_item_reading.proofs.AsideWords.{no_head, one_aside}
+use Rattle.cc_item_reading.specs.Sayings.{IsAside, IsAsideLine, aside_line, size, item_limit}
+use Rattle.cc_item_reading.specs.declared.asides.Aside.{Aside}
 use Rattle.cc_job.proofs.HeadLaws.{head_for, head_of-item}
 use Rattle.cc_job.specs.Jobs.{Item, Declares, Commands, IsItem, item_words, item_lines, skipped}
 use Rattle.cc_job.specs.Reading.{head_of}
@@ -14,8 +12,9 @@ use Rattle.cc_live.specs.LiveRuns.{Live as Told, Standing as LiveStanding, Over,
 use Rattle.cc_verdicts.specs.PresentTexts.{ArePresent}
 use Rattle.cc_words.specs.Lines.{Line}
 use Rattle.cc_words.specs.Words.{joined}
-use Rattle.cc_conversation.specs.Conversations.{Moment, MaySay, GoesOn, IsOpen, IsRun, AreShort, Standing, Asks, EndedAt, Overlong, StandsIn}
+use Rattle.cc_conversation.specs.Conversations.{Moment, MaySay, GoesOn, IsOpen, IsCourseOf, SaysAside, AreShort, Standing, Asks, EndedAt, Overlong, StandsIn}
 use Rattle.cc_conversation.specs.Conversations.StandsIn.{asks, breaks, floods}
+use Rattle.cc_conversation.proofs.AsideCourses.{courses_are_one, courses_are_steady}
 
 head_tail : {x y : Line} {xs ys : List Line} → x ∷ xs ≡ y ∷ ys → (x ≡ y) × (xs ≡ ys)
 head_tail {x} {y} {xs} {ys} e = (cc, cc)
@@ -25,29 +24,29 @@ item_is : (moment : Moment) (item : Item) → MaySay moment item → IsItem item
 item_is moment (Declares device) may = may.0
 item_is moment (Commands command) may = may
 
--- no item has the line of a live run
-no_item_line : (moment : Moment) (item : Item) (it : Live) → MaySay moment item → IsLive it → joined 32 (item_words item) ≡ live_line it → ⊥
+-- no item has the line of what a job cannot say
+no_item_line : (moment : Moment) (item : Item) (it : Aside) → MaySay moment item → IsAside it → joined 32 (item_words item) ≡ aside_line it → ⊥
 no_item_line moment item it may is same =
     let clash : Some (head_for item) ≡ None =
-    sym (head_of-item item (item_is moment item may)) ∙ ap head_of same ∙ no_head (live_line it) (it, is, refl) in
+    sym (head_of-item item (item_is moment item may)) ∙ ap head_of same ∙ no_head (aside_line it) (it, is, refl) in
     cc
 
--- nor have the lines of an item begun where a live run was said
-no_open : {moment : Moment} {lines behind : List Line} {course : Course} → IsRun moment lines behind course → (first : Line) (front rest : List Line)
+-- nor have the lines of an item begun where that was said
+no_open : {moment : Moment} {lines behind : List Line} {course : Course} → SaysAside moment lines behind course → (first : Line) (front rest : List Line)
     → skipped lines ≡ (first ∷ front) ++ rest → IsOpen moment (first ∷ front) → ⊥
 no_open {moment = moment} run first front rest is (item, next, missing, may, lines_are) =
     no_item_line moment item run.it may run.may ((head_tail lines_are).0 ∙ sym (head_tail (sym run.says ∙ is)).0)
 
 -- what else comes of the lines does not
-pub run_rests : {moment : Moment} {lines behind : List Line} {course : Course} → IsRun moment lines behind course → skipped lines ≡ [] → ⊥
+pub run_rests : {moment : Moment} {lines behind : List Line} {course : Course} → SaysAside moment lines behind course → skipped lines ≡ [] → ⊥
 run_rests run empty = let no = sym run.says ∙ empty in cc
 
-pub run_begins : {moment : Moment} {lines behind : List Line} {course : Course} → IsRun moment lines behind course → IsOpen moment (skipped lines) → ⊥
+pub run_begins : {moment : Moment} {lines behind : List Line} {course : Course} → SaysAside moment lines behind course → IsOpen moment (skipped lines) → ⊥
 run_begins {moment = moment} {behind = behind} run lacks =
-    no_open run (live_line run.it) behind [] (run.says ∙ sym (append-nil (live_line run.it ∷ behind))) (subst (IsOpen moment) run.says lacks)
+    no_open run (aside_line run.it) behind [] (run.says ∙ sym (append-nil (aside_line run.it ∷ behind))) (subst (IsOpen moment) run.says lacks)
 
-pub run_ends : {moment : Moment} {lines behind : List Line} {course : Course} → IsRun moment lines behind course → (front : List Line) (bad : Line)
-    (rest : List Line) → skipped lines ≡ front ++ bad ∷ rest → (front ≡ []) ⊎ IsOpen moment front → (front ≡ [] → IsLiveLine bad → ⊥) → ⊥
+pub run_ends : {moment : Moment} {lines behind : List Line} {course : Course} → SaysAside moment lines behind course → (front : List Line) (bad : Line)
+    (rest : List Line) → skipped lines ≡ front ++ bad ∷ rest → (front ≡ []) ⊎ IsOpen moment front → (front ≡ [] → IsAsideLine bad → ⊥) → ⊥
 run_ends run [] bad rest is before other = other refl (run.it, run.may, (head_tail (sym is ∙ run.says)).0)
 run_ends run (first ∷ front) bad rest is (inl e) other = absurd (no e)
   where
@@ -55,7 +54,7 @@ run_ends run (first ∷ front) bad rest is (inl e) other = absurd (no e)
     no h = cc
 run_ends run (first ∷ front) bad rest is (inr lacks) other = no_open run first front (bad ∷ rest) is lacks
 
-pub run_exceeds : {moment : Moment} {lines behind : List Line} {course : Course} → IsRun moment lines behind course → (front : List Line) (next : Line)
+pub run_exceeds : {moment : Moment} {lines behind : List Line} {course : Course} → SaysAside moment lines behind course → (front : List Line) (next : Line)
     (rest : List Line) → skipped lines ≡ front ++ next ∷ rest → (front ≡ []) ⊎ IsOpen moment front → item_limit < size (front ++ next ∷ []) → ⊥
 run_exceeds run [] next rest is before long =
     let short = subst (λ it. size (it ∷ []) ≤ item_limit) (sym (head_tail (sym is ∙ run.says)).0) run.short in omega (arith, short, long)
@@ -65,25 +64,25 @@ run_exceeds run (first ∷ front) next rest is (inl e) long = absurd (no e)
     no h = cc
 run_exceeds run (first ∷ front) next rest is (inr lacks) long = no_open run first front (next ∷ rest) is lacks
 
-pub run_goes_on : {moment : Moment} {lines behind : List Line} {course : Course} → IsRun moment lines behind course → (item : Item) (others : List Line)
+pub run_goes_on : {moment : Moment} {lines behind : List Line} {course : Course} → SaysAside moment lines behind course → (item : Item) (others : List Line)
     → MaySay moment item → skipped lines ≡ item_lines item ++ others → ⊥
 run_goes_on {moment = moment} run item others may is =
     no_item_line moment item run.it may run.may (head_tail (sym is ∙ run.says)).0
 
--- two live runs that the same lines say are one
-pub one_run : {moment : Moment} {lines behind beside : List Line} {course other : Course} → ArePresent moment.state.texts → IsRun moment lines behind course
-    → IsRun moment lines beside other → (behind ≡ beside) × (course ≡ other)
+-- what the same lines say is one, and so is what comes of it
+pub one_run : {moment : Moment} {lines behind beside : List Line} {course other : Course} → ArePresent moment.state.texts → SaysAside moment lines behind course
+    → SaysAside moment lines beside other → (behind ≡ beside) × (course ≡ other)
 one_run {moment = moment} {course = course} {other = other} present run also =
     let both = head_tail (sym run.says ∙ also.says) in
-    let same = one_live run.it also.it run.may also.may both.0 in (
+    let same = one_aside run.it also.it run.may also.may both.0 in (
       both.1,
-      hosted_runs_are_one moment.devices moment.state run.it.owner run.it.definition run.it.fuel course other present run.hosted
-          (subst (λ it. IsHosted moment.devices moment.state it.owner it.definition it.fuel other) (sym same) also.hosted),
+      courses_are_one moment.devices moment.state run.it course other present run.comes
+          (subst (λ it. IsCourseOf moment.devices moment.state it other) (sym same) also.comes),
     )
 
-pub run_steady : {moment : Moment} {lines behind : List Line} {course : Course} → IsRun moment lines behind course → IsSteady course
+pub run_steady : {moment : Moment} {lines behind : List Line} {course : Course} → SaysAside moment lines behind course → IsSteady course
 run_steady {moment = moment} {course = course} run =
-    hosted_runs_are_steady moment.devices moment.state run.it.owner run.it.definition run.it.fuel course run.hosted
+    courses_are_steady moment.devices moment.state run.it course run.comes
 
 -- two fronts of one list
 fronts : (front other rest behind : List Line) → front ++ rest ≡ other ++ behind

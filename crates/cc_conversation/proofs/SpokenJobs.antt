@@ -12,7 +12,7 @@ use Rattle.cc_answers.specs.Requests.{request_of}
 use Rattle.cc_replies.specs.Outputs.{IsOutput}
 use Rattle.cc_replies.specs.ReplyTexts.{Reply, reply_text, is_refusal}
 use Rattle.cc_replies.specs.Requests.{JobState, no_module}
-use Rattle.cc_conversation.specs.Conversations.{IsWithoutRun, Moment, Says, IsSpoken, Rests, spoken_reply, behind}
+use Rattle.cc_conversation.specs.Conversations.{IsWithoutAside, Moment, Says, IsSpoken, Rests, spoken_reply, behind}
 use Rattle.cc_item_reading.specs.Sayings.{size, item_limit}
 use Rattle.cc_conversation.specs.Conversations.Says.{rests, goes_on, runs, stops}
 use Rattle.cc_conversation.specs.Conversations.IsSpoken.{opened}
@@ -132,7 +132,7 @@ record Rested (moment : Moment) (lines : List Line) : Type 0 where
   names : IsDistinct bytes_eq (names_of (moment.devices ++ devices))
 
 rested : {total : ℕ} {moment : Moment} {lines : List Line} {text : List ℕ} {refused : Bool} → length moment.devices ≤ 16
-    → IsDistinct bytes_eq (names_of moment.devices) → (said : Says total moment lines text refused Rests) → IsWithoutRun said → Rested moment lines
+    → IsDistinct bytes_eq (names_of moment.devices) → (said : Says total moment lines text refused Rests) → IsWithoutAside said → Rested moment lines
 rested {moment = moment} few apart (rests empty) without = record {
   devices = [];
   commands = [];

@@ -11,13 +11,13 @@ use Rattle.cc_replies.specs.ReplyTexts.{is_refusal}
 use Rattle.cc_verdicts.specs.PresentTexts.{ArePresent}
 use Rattle.cc_answers.proofs.Answering.{none_present}
 use Rattle.cc_conversation.specs.ConversationLaws.{LinesHaveOneAnswer, AnswersStay}
-use Rattle.cc_conversation.specs.Conversations.{spoken_reply, Moment, MaySay, GoesOn, IsOpen, IsRun, Answers, Standing, EndedAt, Overlong, StandsIn, Says, behind, under_way}
+use Rattle.cc_conversation.specs.Conversations.{spoken_reply, Moment, MaySay, GoesOn, IsOpen, SaysAside, Answers, Standing, EndedAt, Overlong, StandsIn, Says, behind, under_way}
 use Rattle.cc_item_reading.specs.Sayings.{size, item_limit}
 use Rattle.cc_item_reading.proofs.Hearing.{size_both}
 use Rattle.cc_conversation.specs.Conversations.IsSpoken.{nothing, overlong, stranger, opened as opened_by}
 use Rattle.cc_conversation.specs.Conversations.Says.{rests, begins, ends, exceeds, goes_on, runs, stops}
 use Rattle.cc_conversation.proofs.RunsOnce.{run_rests, run_begins, run_ends, run_exceeds, run_goes_on, one_run, run_steady, over_once, over_stands, stands_once, stands_then_over, stands_then_stands}
-use Rattle.cc_item_reading.specs.Sayings.{live_line}
+use Rattle.cc_item_reading.specs.Sayings.{aside_line}
 use Rattle.cc_live.specs.LiveRuns.{Course, Over}
 
 -- an item that may be said is one
@@ -282,14 +282,14 @@ item_more : (item : Item) (lines others more : List Line) → skipped lines ≡ 
 item_more (Declares device) lines others more e = skipped_more lines more _ _ e ∙ append_assoc (item_lines (Declares device)) others more
 item_more (Commands command) lines others more e = skipped_more lines more _ _ e ∙ append_assoc (item_lines (Commands command)) others more
 
-run_more : {moment : Moment} {lines behind : List Line} {course : Course} (more : List Line) → IsRun moment lines behind course
-    → IsRun moment (lines ++ more) (behind ++ more) course
+run_more : {moment : Moment} {lines behind : List Line} {course : Course} (more : List Line) → SaysAside moment lines behind course
+    → SaysAside moment (lines ++ more) (behind ++ more) course
 run_more {lines = lines} {behind = behind} more run = record {
   it = run.it;
   may = run.may;
   short = run.short;
-  says = skipped_more lines more (live_line run.it) behind run.says;
-  hosted = run.hosted;
+  says = skipped_more lines more (aside_line run.it) behind run.says;
+  comes = run.comes;
 }
 
 stays : {total beyond : ℕ} {moment : Moment} {lines : List Line} (more : List Line) {text other : List ℕ} {refused later : Bool}

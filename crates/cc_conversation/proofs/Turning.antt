@@ -17,16 +17,16 @@ use Rattle.cc_item_reading.specs.declared.reading.Heard.TheVariants as heard
 use Rattle.cc_item_reading.specs.declared.reading.NotHeard.{NotHeard}
 use Rattle.cc_item_reading.specs.declared.reading.NotHeard.TheVariants as errors
 use Rattle.cc_item_reading.proofs.Hearing.{hears_both}
-use Rattle.cc_conversation.specs.Conversations.{Moment, Answers, AreShort, beginning, behind, under_way}
+use Rattle.cc_conversation.specs.Conversations.{Moment, Answers, IsCourseOf, AreShort, beginning, behind, under_way}
 use Rattle.cc_conversation.specs.Progress.{HasSaid}
-use Rattle.cc_conversation.specs.Progress.HasSaid.{nothing, blank, item, played as HasSaid_played}
-use Rattle.cc_hosting.specs.HostedRuns.{IsHosted}
-use Rattle.cc_item_reading.specs.Sayings.{Live, live_line}
+use Rattle.cc_conversation.specs.Progress.HasSaid.{nothing, blank, item, aside}
+use Rattle.cc_item_reading.specs.Sayings.{aside_line}
+use Rattle.cc_item_reading.specs.declared.asides.Aside.{Aside}
 use Rattle.cc_live.specs.LiveEnds.{AreWithin, RunsLive}
 use Rattle.cc_live.specs.LiveRuns.{Standing as LiveStanding, Over, Waits, Breaks, Course}
 use Rattle.cc_conversation.specs.declared.conversing.Order.{Order}
 use Rattle.cc_conversation.specs.declared.conversing.Order.TheVariants as orders
-use Rattle.cc_conversation.specs.Turns.{Talks, StopsHearing, HearsOrder, Awaits, IsSaid, IsPlayed, AreAlike, opening, behind_order, closed_as, closed_course}
+use Rattle.cc_conversation.specs.Turns.{Talks, StopsHearing, HearsOrder, Awaits, IsSaid, IsAsideTold, AreAlike, opening, behind_order, closed_as, closed_course}
 
 -- an empty line more
 pub talks_blank : (devices : List DeviceDecl) (begun : Bool) (start now new : Held) (left there later before written : Option (List ℕ))
@@ -114,49 +114,46 @@ over_of course host told refused e =
     let it = closed_over (course host).standing (course host).text told refused e in
     (ap (λ s. record { text = (course host).text; standing = s }) it.0, it.1)
 
--- what was hosted at one moment was at another that is alike
-pub hosted_alike : (one other : Moment) (owner definition : List ℕ) (fuel : ℕ) (course : Course) → AreAlike one other
-    → IsHosted other.devices other.state owner definition fuel course → IsHosted one.devices one.state owner definition fuel course
-hosted_alike one other owner definition fuel course alike hosted =
-    subst (λ state. IsHosted one.devices state owner definition fuel course) (sym alike.1)
-    (subst (λ devices. IsHosted devices other.state owner definition fuel course) (sym alike.0) hosted)
+-- the same comes of what a job cannot say at moments that are alike
+pub course_alike : (one other : Moment) (it : Aside) (course : Course) → AreAlike one other
+    → IsCourseOf other.devices other.state it course → IsCourseOf one.devices one.state it course
+course_alike one other it course alike comes =
+    subst (λ state. IsCourseOf one.devices state it course) (sym alike.1)
+    (subst (λ devices. IsCourseOf devices other.state it course) (sym alike.0) comes)
 
 -- lines that are short
 pub are_short : (lines : List Line) → AreWithin lines → AreShort lines
 are_short [] within = tt
 are_short (line ∷ lines) within = (omega (arith, within.0, length-append line (10 ∷ [])), are_short lines within.1)
 
--- a live run was over
-pub talks_played : (start new : Held) (left later before written last : Option (List ℕ)) (number behind : ℕ) (refused second : Bool) (moment other : Moment)
-    (owner definition : List ℕ) (fuel : ℕ) (between : Held) (source : Option (List ℕ))
-    → HearsOrder start between left source before written number refused moment (orders.Live owner definition fuel)
-    → AreAlike moment other → IsPlayed other owner definition fuel between new source later number behind written last (Ok second)
+-- what a job cannot say was answered to its end
+pub talks_aside : (start new : Held) (left later before written last : Option (List ℕ)) (number behind : ℕ) (refused second : Bool) (moment other : Moment)
+    (it : Aside) (between : Held) (source : Option (List ℕ))
+    → HearsOrder start between left source before written number refused moment (orders.Aside it)
+    → AreAlike moment other → IsAsideTold other it between new source later number behind written last (Ok second)
     → Talks start new left later before last behind (refused || second) (under_way moment)
-talks_played start new left later before written last number behind refused second moment other owner definition fuel between source
-    (now, there, place, talks, (next, counted)) alike played = record {
-      lines = talks.lines ++ live_line it ∷ runs.heard;
+talks_aside start new left later before written last number behind refused second moment other it between source
+    (now, there, place, talks, (next, counted)) alike answered = record {
+      lines = talks.lines ++ aside_line it ∷ runs.heard;
       text = talks.text ++ (own ++ 10 ∷ []);
-      hears = subst (λ ls. Hears start new left later (first_line ∷ ls)) (append_assoc talks.lines (live_line it ∷ []) runs.heard)
-          (hears_both start between new left source later (first_line ∷ (talks.lines ++ live_line it ∷ [])) runs.heard
-          (hears_both start now between left there source (first_line ∷ talks.lines) (live_line it ∷ []) talks.hears next.hears) runs.listens);
-      said = HasSaid_played it played.course runs.heard own second talks.said next.may next.short
-          (hosted_alike moment other owner definition fuel played.course alike played.hosted) (are_short runs.heard runs.within) over.0;
+      hears = subst (λ ls. Hears start new left later (first_line ∷ ls)) (append_assoc talks.lines (aside_line it ∷ []) runs.heard)
+          (hears_both start between new left source later (first_line ∷ (talks.lines ++ aside_line it ∷ [])) runs.heard
+          (hears_both start now between left there source (first_line ∷ talks.lines) (aside_line it ∷ []) talks.hears next.hears) runs.listens);
+      said = aside it answered.course runs.heard own second talks.said next.may next.short
+          (course_alike moment other it answered.course alike answered.comes) (are_short runs.heard runs.within) over.0;
       appends = subst (λ t. Appends before last (talks.text ++ t)) over.1
           (Appends-trans before written last talks.text runs.text talks.appends runs.tells);
-      counted = omega (arith, runs.counts, counted, talks.counted, length-append talks.lines (live_line it ∷ runs.heard));
+      counted = omega (arith, runs.counts, counted, talks.counted, length-append talks.lines (aside_line it ∷ runs.heard));
     }
   where
-    it : Live
-    it = record { owner = owner; definition = definition; fuel = fuel }
-
-    runs : RunsLive (closed_course played.course) between new source later number behind written last (Ok second)
-    runs = played.runs
+    runs : RunsLive (closed_course answered.course) between new source later number behind written last (Ok second)
+    runs = answered.runs
 
     own : List ℕ
-    own = (played.course runs.heard).text
+    own = (answered.course runs.heard).text
 
-    over : (played.course runs.heard ≡ record { text = own; standing = Over second [] }) × (runs.text ≡ own ++ 10 ∷ [])
-    over = over_of played.course runs.heard runs.text second runs.comes
+    over : (answered.course runs.heard ≡ record { text = own; standing = Over second [] }) × (runs.text ≡ own ++ 10 ∷ [])
+    over = over_of answered.course runs.heard runs.text second runs.comes
 
 -- moments that are alike stay so
 pub alike_behind : (moment other last : Moment) (order : Order) → AreAlike moment other → last ≡ behind_order other order
@@ -164,7 +161,7 @@ pub alike_behind : (moment other last : Moment) (order : Order) → AreAlike mom
 alike_behind moment other last (orders.Command command) alike is =
     subst (AreAlike (behind moment (Commands command))) (sym is)
     (alike.0, ap (λ state. (behind (record { devices = moment.devices; begun = moment.begun; state = state }) (Commands command)).state) alike.1)
-alike_behind moment other last (orders.Live owner definition fuel) alike is = subst (AreAlike (under_way moment)) (sym is) alike
+alike_behind moment other last (orders.Aside it) alike is = subst (AreAlike (under_way moment)) (sym is) alike
 
 -- what was taken of an order for which memory lacks
 pub order_lost : (start new : Held) (left later before written : Option (List ℕ)) (number : ℕ) (refused : Bool) (moment : Moment) (order : Order)
@@ -172,5 +169,5 @@ pub order_lost : (start new : Held) (left later before written : Option (List �
     → StopsHearing start new left later before written number refused errors.NoMemory
 order_lost start new left later before written number refused moment (orders.Command command) (now, there, place, talks, (next, counted)) =
     (now, there, place, moment, talks, (next.hears.takes.read, next.hears.takes.consumed))
-order_lost start new left later before written number refused moment (orders.Live owner definition fuel) (now, there, place, talks, (next, counted)) =
+order_lost start new left later before written number refused moment (orders.Aside it) (now, there, place, talks, (next, counted)) =
     (now, there, place, moment, talks, (next.hears.takes.read, next.hears.takes.consumed))

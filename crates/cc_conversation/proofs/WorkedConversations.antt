@@ -3,8 +3,8 @@ use Rattle.std.proofs.Common.{◌≡◌, ◌≤◌, true, false, List, [], ◌�
 use Rattle.std.specs.Prelude.{codes, nat_le}
 use Rattle.std.proofs.lemmas.Bool.Decides.{nat_tests}
 use Rattle.cc_item_reading.specs.Sayings.{size, item_limit}
-use Rattle.cc_item_reading.specs.LiveLines.{live_with, live_of}
-use Rattle.cc_item_reading.proofs.LiveWords.{none_live}
+use Rattle.cc_item_reading.specs.AsideLines.{aside_with, aside_of}
+use Rattle.cc_item_reading.proofs.AsideWords.{none_aside}
 use Rattle.std.specs.Fmt.{digits}
 use Rattle.std.specs.Str.{bytes_eq}
 use Rattle.unicode_ident.proofs.Computing.{unicode_ident}
@@ -80,13 +80,13 @@ says_nothing moment line none goes =
     sym (head_of-item goes.0 (is_item moment goes.0 goes.2)) ∙ ap head_of (first_line_is goes.3) ∙ none in
     cc
 
-not_live : live_of (codes "policy  0") ≡ None
-unfolding live_of live_with
-not_live = refl
+no_aside : aside_of (codes "policy  0") ≡ None
+unfolding aside_of aside_with
+no_aside = refl
 
-console_is_not_live : live_of (codes "device out console") ≡ None
-unfolding live_of live_with
-console_is_not_live = refl
+console_is_no_aside : aside_of (codes "device out console") ≡ None
+unfolding aside_of aside_with
+console_is_no_aside = refl
 
 two_spaces : head_of (codes "policy  0") ≡ None
 unfolding head_of head_with command_with device_of put_of verify_of policy_of replay_of drop_of check_of sig_of derive_of run_of tasks_of audit_of guard_of explain_of
@@ -118,9 +118,9 @@ bad_lines_end_it = record {
   words = opened
       (goes_on {moment = beginning} (Commands (Policy [])) ([] ∷ codes "policy  0" ∷ codes "policy 0" ∷ []) (text (codes "policy 0" ∷ [] ∷ []))
       [] false false (tt, omega arith) refl (fits (item_lines (Commands (Policy []))) refl) (PolicySet 0, refl, refl, refl)
-      (ends [] (codes "policy  0") (codes "policy 0" ∷ []) 4 refl (inl refl) (λ _. none_live (codes "policy  0") not_live) (says_nothing (behind beginning (Commands (Policy []))) _ two_spaces) (fits (codes "policy  0" ∷ []) refl) refl));
+      (ends [] (codes "policy  0") (codes "policy 0" ∷ []) 4 refl (inl refl) (λ _. none_aside (codes "policy  0") no_aside) (says_nothing (behind beginning (Commands (Policy []))) _ two_spaces) (fits (codes "policy  0" ∷ []) refl) refl));
   device = opened
       (goes_on {moment = beginning} (Commands (Policy [])) (codes "device out console" ∷ []) (text (codes "policy 0" ∷ [] ∷ []))
       [] false false (tt, omega arith) refl (fits (item_lines (Commands (Policy []))) refl) (PolicySet 0, refl, refl, refl)
-      (ends [] (codes "device out console") [] 3 refl (inl refl) (λ _. none_live (codes "device out console") console_is_not_live) (late_device (behind beginning (Commands (Policy []))) _ _ refl console) (fits (codes "device out console" ∷ []) refl) refl));
+      (ends [] (codes "device out console") [] 3 refl (inl refl) (λ _. none_aside (codes "device out console") console_is_no_aside) (late_device (behind beginning (Commands (Policy []))) _ _ refl console) (fits (codes "device out console" ∷ []) refl) refl));
 }

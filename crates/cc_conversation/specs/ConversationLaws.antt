@@ -10,7 +10,7 @@ use Rattle.cc_answers.specs.Requests.{requests_of}
 use Rattle.cc_replies.specs.Outputs.{IsOutput}
 use Rattle.cc_replies.specs.ReplyTexts.{Reply, reply_text}
 use Rattle.cc_replies.specs.Requests.{no_module}
-use Rattle.cc_conversation.specs.Conversations.{Standing, Rests, Says, IsWithoutRun, IsSpoken, IsHeard, beginning, spoken_reply}
+use Rattle.cc_conversation.specs.Conversations.{Standing, Rests, Says, IsWithoutAside, IsSpoken, IsHeard, beginning, spoken_reply}
 use Rattle.cc_item_reading.specs.Sayings.{item_limit}
 
 -- The lines of each job that is no longer than a job may be are answered as the job is: by the same replies, each with an empty line behind it. Nothing is
@@ -22,11 +22,12 @@ JobsAreSpoken =
     → (replies : List Reply) × (text ≡ flat_map (reply_text (device_names job.devices)) replies)
     × IsSpoken (lines_of bytes) (flat_map (spoken_reply job.devices) replies) refused Rests
 
--- Where nothing is open behind the first line, and no live run was said, the lines are those of a job.
+-- Where nothing is open behind the first line, and nothing was said that a job cannot say, no live run and no question, the
+-- lines are those of a job.
 abbrev pub RestingLinesAreAJob : Type 0
 RestingLinesAreAJob =
     (lines : List Line) (text : List ℕ) (refused : Bool) (said : Says (suc (length lines)) beginning lines text refused Rests)
-    → IsWithoutRun said
+    → IsWithoutAside said
     → (job : Job) × AreItems lines (items_of job) × (length job.devices ≤ 16)
     × IsDistinct bytes_eq (map (λ device. device.name) job.devices)
 

@@ -6,16 +6,20 @@ use Rattle.std.specs.List.{AllByRecursion}
 use Rattle.cc_base.specs.declared.device.DeviceDecl.{DeviceDecl}
 use Rattle.cc_job.specs.Jobs.{Item, Declares, Commands, item_lines, skipped, first_line}
 use Rattle.cc_item_reading.specs.Sayings as sayings
-use Rattle.cc_item_reading.specs.Sayings.{Live, IsLive, IsLiveLine, live_line, size, item_limit}
+use Rattle.cc_item_reading.specs.Sayings.{IsAside, IsAsideLine, aside_line, size, item_limit}
+use Rattle.cc_item_reading.specs.declared.asides.Aside.{Aside}
+use Rattle.cc_item_reading.specs.declared.asides.Aside.TheVariants as asides
 use Rattle.cc_hosting.specs.HostedRuns.{IsHosted}
 use Rattle.cc_live.specs.LiveRuns.{Live as Told, Course, Over, Waits, Breaks}
 use Rattle.cc_mnf.specs.ElaboratedModules.{device_names}
+use Rattle.cc_module_reasons.specs.WhyAnswers.{Why, IsWhy}
 use Rattle.cc_words.specs.Lines.{Line, lines_of, AreWholeLines}
 use Rattle.cc_words.specs.Words.{cut_at}
 use Rattle.cc_answers.specs.Requests.{request_of}
 use Rattle.cc_replies.specs.Replies.{Replies, after}
 use Rattle.cc_replies.specs.ReplyTexts.{Reply, reply_text, is_refusal}
 use Rattle.cc_replies.specs.Requests.{JobState, no_module}
+use Rattle.cc_why.specs.WhyTexts.{why_text, is_refusal as is_refused}
 
 -- what was said so far: the devices, whether a command was given, and what the commands changed
 pub record Moment : Type 0 where
@@ -49,7 +53,7 @@ Answers moment (Commands command) text refused =
     (reply : Reply) × Replies moment.devices moment.state (request_of command) reply
     × (text ≡ spoken_reply moment.devices reply) × (refused ≡ is_refusal reply)
 
--- what has been said behind a live run: no more than that a command was given
+-- What has been said behind something that a job cannot say: no more than that a command was given.
 abbrev pub under_way : Moment → Moment
 under_way moment = record { devices = moment.devices; begun = true; state = moment.state }
 
@@ -57,13 +61,25 @@ under_way moment = record { devices = moment.devices; begun = true; state = mome
 abbrev pub AreShort : List Line → Type 0
 AreShort lines = AllByRecursion (λ line. size (line ∷ []) ≤ item_limit) lines
 
--- That a definition is run on the devices of the host was said, and lines behind it; and this is what comes of those.
-pub record IsRun (moment : Moment) (lines behind : List Line) (course : Course) : Type 0 where
-  pub it : Live
-  pub may : IsLive it
-  pub short : size (live_line it ∷ []) ≤ item_limit
-  pub says : skipped lines ≡ live_line it ∷ behind
-  pub hosted : IsHosted moment.devices moment.state it.owner it.definition it.fuel course
+-- the answer to the question why a module is refused, for which no line of the host is taken
+abbrev pub why_course : List ℕ → Why → Course
+why_course name answer lines = record { text = why_text name answer; standing = Over (is_refused answer) lines }
+
+-- What comes of what a job cannot say, beside the devices and in this state, by the lines of the host behind it: the course of a
+-- run on its devices, or the answer to a question.
+abbrev pub IsCourseOf : List DeviceDecl → JobState → Aside → Course → Type 0
+IsCourseOf devices state (asides.Live owner definition fuel) course =
+    IsHosted devices state owner definition fuel course
+IsCourseOf devices state (asides.Why name) course =
+    (answer : Why) × IsWhy devices state.texts name answer × (course ≡ why_course name answer)
+
+-- Something was said that a job cannot say, and lines behind it; and this is what comes of those.
+pub record SaysAside (moment : Moment) (lines behind : List Line) (course : Course) : Type 0 where
+  pub it : Aside
+  pub may : IsAside it
+  pub short : size (aside_line it ∷ []) ≤ item_limit
+  pub says : skipped lines ≡ aside_line it ∷ behind
+  pub comes : IsCourseOf moment.devices moment.state it course
 
 -- some item may be said at the moment whose lines begin with these
 abbrev pub GoesOn : Moment → List Line → Type 0
@@ -92,13 +108,14 @@ pub data StandsIn (total : ℕ) (it : Told) : List Line → List ℕ → Standin
   floods : {next : Line} {rest : List Line} {text : List ℕ} → it ≡ record { text = text; standing = Waits }
       → item_limit < size (next ∷ []) → StandsIn total it (next ∷ rest) text Overlong
 
--- What is written for the last of so many lines, whether a reply is a refusal, and how the conversation stands then.
+-- What is written for the last of so many lines, whether a reply is a refusal, and how the conversation stands then. What a
+-- job cannot say runs to its end by some lines of the host, as a question does by none, or it stops behind them.
 pub data Says (total : ℕ) : Moment → List Line → List ℕ → Bool → Standing → Type 0 where
   rests : {moment : Moment} {lines : List Line} → skipped lines ≡ [] → Says total moment lines [] false Rests
   begins : {moment : Moment} {lines : List Line} → skipped lines ≢ [] → IsOpen moment (skipped lines)
       → size (skipped lines) ≤ item_limit → Says total moment lines [] false (Begun (size (skipped lines)))
   ends : {moment : Moment} {lines : List Line} (front : List Line) (bad : Line) (rest : List Line) (place : ℕ)
-      → skipped lines ≡ front ++ bad ∷ rest → (front ≡ []) ⊎ IsOpen moment front → (front ≡ [] → IsLiveLine bad → ⊥)
+      → skipped lines ≡ front ++ bad ∷ rest → (front ≡ []) ⊎ IsOpen moment front → (front ≡ [] → IsAsideLine bad → ⊥)
       → (GoesOn moment (front ++ bad ∷ []) → ⊥) → size (front ++ bad ∷ []) ≤ item_limit → place + length rest ≡ total
       → Says total moment lines [] false (EndedAt place)
   exceeds : {moment : Moment} {lines : List Line} (front : List Line) (next : Line) (rest : List Line)
@@ -111,24 +128,24 @@ pub data Says (total : ℕ) : Moment → List Line → List ℕ → Bool → Sta
       → Says total (behind moment item) others rest later standing
       → Says total moment lines (text ++ rest) (refused || later) standing
   runs : {moment : Moment} {lines : List Line} {standing : Standing} (course : Course) (host others : List Line)
-      (text rest : List ℕ) (refused later : Bool) → IsRun moment lines (host ++ others) course → AreShort host
+      (text rest : List ℕ) (refused later : Bool) → SaysAside moment lines (host ++ others) course → AreShort host
       → course host ≡ record { text = text; standing = Over refused [] }
       → Says total (under_way moment) others rest later standing
       → Says total moment lines ((text ++ 10 ∷ []) ++ rest) (refused || later) standing
   stops : {moment : Moment} {lines : List Line} {standing : Standing} (course : Course) (host others : List Line)
-      (text : List ℕ) → IsRun moment lines (host ++ others) course → AreShort host
+      (text : List ℕ) → SaysAside moment lines (host ++ others) course → AreShort host
       → StandsIn total (course host) others text standing → Says total moment lines text false standing
 
--- no live run was said
-abbrev pub IsWithoutRun : {total : ℕ} {moment : Moment} {lines : List Line} {text : List ℕ} {refused : Bool} {standing : Standing}
+-- nothing was said that a job cannot say
+abbrev pub IsWithoutAside : {total : ℕ} {moment : Moment} {lines : List Line} {text : List ℕ} {refused : Bool} {standing : Standing}
     → Says total moment lines text refused standing → Type 0
-IsWithoutRun (rests empty) = Unit {0}
-IsWithoutRun (begins some lacks short) = Unit {0}
-IsWithoutRun (ends front bad rest place is before unlike none short at) = Unit {0}
-IsWithoutRun (exceeds front next rest is before less long) = Unit {0}
-IsWithoutRun (goes_on item others text rest refused later may is short answers said) = IsWithoutRun said
-IsWithoutRun (runs course host others text rest refused later run short over said) = ⊥
-IsWithoutRun (stops course host others text run short stands) = ⊥
+IsWithoutAside (rests empty) = Unit {0}
+IsWithoutAside (begins some lacks short) = Unit {0}
+IsWithoutAside (ends front bad rest place is before unlike none short at) = Unit {0}
+IsWithoutAside (exceeds front next rest is before less long) = Unit {0}
+IsWithoutAside (goes_on item others text rest refused later may is short answers said) = IsWithoutAside said
+IsWithoutAside (runs course host others text rest refused later run short over said) = ⊥
+IsWithoutAside (stops course host others text run short stands) = ⊥
 
 -- The same from the first line on.
 pub data IsSpoken : List Line → List ℕ → Bool → Standing → Type 0 where

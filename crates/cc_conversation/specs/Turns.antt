@@ -9,9 +9,9 @@ use Rattle.cc_job.specs.declared.job.Command.{Command}
 use Rattle.cc_job.specs.Jobs.{Commands, first_line, item_lines}
 use Rattle.cc_words.specs.Lines.{Line}
 use Rattle.cc_line_reading.specs.LineReading.{Held, Hears, HearsPart, IsOver, IsDrained}
-use Rattle.cc_hosting.specs.HostedRuns.{IsHosted}
-use Rattle.cc_item_reading.specs.Sayings.{Live, size, item_limit}
-use Rattle.cc_item_reading.specs.ItemReading.{HearsItem, HearsLive, HearsNextItem, ReadItemCause}
+use Rattle.cc_item_reading.specs.Sayings.{size, item_limit}
+use Rattle.cc_item_reading.specs.declared.asides.Aside.{Aside}
+use Rattle.cc_item_reading.specs.ItemReading.{HearsItem, HearsAside, HearsNextItem, ReadItemCause}
 use Rattle.cc_live.specs.LiveEnds.{RunsLive, ReadsBy, WritesBy}
 use Rattle.cc_live.specs.LiveRuns.{Live as Told, Standing as LiveStanding, Course, Over, Waits as LiveWaits, Breaks}
 use Rattle.cc_live.specs.declared.running.LiveError.{LiveError}
@@ -19,10 +19,12 @@ use Rattle.cc_live.specs.declared.running.LiveError.TheVariants as live_errors
 use Rattle.cc_item_reading.specs.declared.reading.NotHeard.{NotHeard}
 use Rattle.cc_item_reading.specs.declared.reading.NotHeard.TheVariants as errors
 use Rattle.cc_mnf.specs.ElaboratedModules.{device_names}
+use Rattle.cc_module_reasons.specs.WhyAnswers.{Why, IsWhy}
 use Rattle.cc_replies.specs.Requests.{no_module, holding_under}
 use Rattle.cc_verdicts.specs.ModuleLaws.{NamesOfDevicesDiffer}
 use Rattle.cc_verdicts.specs.PresentTexts.{ArePresent}
 use Rattle.cc_answers.specs.KeptEntries.{IsKeptFor}
+use Rattle.cc_why.specs.WhyTexts.{why_text, is_refusal as is_refused}
 use Rattle.cc_conversation.specs.declared.conversing.Ended.{Ended}
 use Rattle.cc_conversation.specs.declared.conversing.Ended.TheVariants as endings
 use Rattle.cc_conversation.specs.declared.conversing.Stopped.{Stopped}
@@ -30,7 +32,7 @@ use Rattle.cc_conversation.specs.declared.conversing.Stopped.TheVariants as stop
 use Rattle.cc_conversation.specs.declared.saying.Conversation.{Conversation}
 use Rattle.cc_conversation.specs.declared.conversing.Order.{Order}
 use Rattle.cc_conversation.specs.declared.conversing.Order.TheVariants as orders
-use Rattle.cc_conversation.specs.Conversations.{Moment, Answers, beginning, behind, under_way}
+use Rattle.cc_conversation.specs.Conversations.{Moment, Answers, IsCourseOf, beginning, behind, under_way}
 use Rattle.cc_conversation.specs.Progress.{HasSaid}
 
 -- what a conversation is at behind its first command
@@ -62,6 +64,14 @@ pub record IsSaid (moment : Moment) (command : Command) (old new : Option (List 
   pub written : WritesWhole old new result text
   pub told : IfOk result (λ it. it ≡ refused)
 
+-- The answer to the question why a module is refused was written, with an empty line behind it, or a front of that; it is told
+-- whether the question is refused.
+pub record IsExplained (moment : Moment) (name : List ℕ) (old new : Option (List ℕ)) (result : Result Bool WriteAll) : Type 0 where
+  pub answer : Why
+  pub is : IsWhy moment.devices moment.state.texts name answer
+  pub written : WritesWhole old new result (why_text name answer ++ 10 ∷ [])
+  pub told : IfOk result (λ it. it ≡ is_refused answer)
+
 abbrev pub closed_as : LiveStanding → List ℕ → Told
 closed_as (Over refused rest) text = record { text = text ++ 10 ∷ []; standing = Over refused rest }
 closed_as LiveWaits text = record { text = text; standing = LiveWaits }
@@ -74,11 +84,11 @@ closed it = closed_as it.standing it.text
 abbrev pub closed_course : Course → Course
 closed_course course lines = closed (course lines)
 
--- that was answered, by the lines of the host that were taken
-pub record IsPlayed (moment : Moment) (owner definition : List ℕ) (fuel : ℕ) (old new : Held) (left later : Option (List ℕ)) (count counted : ℕ)
+-- what a job cannot say was answered, by the lines of the host that were taken
+pub record IsAsideTold (moment : Moment) (it : Aside) (old new : Held) (left later : Option (List ℕ)) (count counted : ℕ)
     (before after : Option (List ℕ)) (result : Result Bool LiveError) : Type 0 where
   pub course : Course
-  pub hosted : IsHosted moment.devices moment.state owner definition fuel course
+  pub comes : IsCourseOf moment.devices moment.state it course
   pub runs : RunsLive (closed_course course) old new left later count counted before after result
 
 -- the moment behind the devices
@@ -110,8 +120,8 @@ abbrev pub HearsLines : Moment → Held → Held → Option (List ℕ) → Optio
 HearsLines moment now new there later number behind (orders.Command command) =
     HearsItem moment.devices moment.begun now new there later (Commands command)
     × (behind ≡ number + length (item_lines (Commands command)))
-HearsLines moment now new there later number behind (orders.Live owner definition fuel) =
-    HearsLive now new there later (record { owner = owner; definition = definition; fuel = fuel }) × (behind ≡ number + 1)
+HearsLines moment now new there later number behind (orders.Aside it) =
+    HearsAside now new there later it × (behind ≡ number + 1)
 
 -- An order was heard behind that.
 abbrev pub HearsOrder : Held → Held → Option (List ℕ) → Option (List ℕ) → Option (List ℕ) → Option (List ℕ) → ℕ → Bool → Moment → Order → Type 0
@@ -123,7 +133,7 @@ HearsOrder start new left later before written behind refused moment order =
 -- what has been said behind an order
 abbrev pub behind_order : Moment → Order → Moment
 behind_order moment (orders.Command command) = behind moment (Commands command)
-behind_order moment (orders.Live owner definition fuel) = under_way moment
+behind_order moment (orders.Aside it) = under_way moment
 
 -- What comes of waiting for the next order at a moment: none comes, and nothing is left; one does; or reading stops.
 abbrev pub Awaits : Held → Held → Option (List ℕ) → Option (List ℕ) → Option (List ℕ) → Option (List ℕ) → ℕ → Bool → Moment → Result (Option Order) NotHeard → Type 0
@@ -147,8 +157,8 @@ StopsWriting start new left later before last error =
     × HearsOrder start new left later before written behind refused moment (orders.Command command) × AreAlike moment other
     × IsSaid other command written last (Err error)
 
--- A live run stopped: that of the last order.
-pub record StopsPlaying (start new : Held) (left later before last : Option (List ℕ)) (behind : ℕ) (error : LiveError) : Type 0 where
+-- What a job cannot say came to no end, or was not answered whole: that of the last order.
+pub record StopsInAside (start new : Held) (left later before last : Option (List ℕ)) (behind : ℕ) (error : LiveError) : Type 0 where
   pub now : Held
   pub there : Option (List ℕ)
   pub written : Option (List ℕ)
@@ -156,10 +166,10 @@ pub record StopsPlaying (start new : Held) (left later before last : Option (Lis
   pub refused : Bool
   pub moment : Moment
   pub other : Moment
-  pub it : Live
-  pub hears : HearsOrder start now left there before written number refused moment (orders.Live it.owner it.definition it.fuel)
+  pub it : Aside
+  pub hears : HearsOrder start now left there before written number refused moment (orders.Aside it)
   pub alike : AreAlike moment other
-  pub played : IsPlayed other it.owner it.definition it.fuel now new there later number behind written last (Err error)
+  pub tells : IsAsideTold other it now new there later number behind written last (Err error)
 
 -- How a conversation behind its first line comes to its end: nothing is left; or it stops.
 abbrev pub ComesToEnd : Held → Held → Option (List ℕ) → Option (List ℕ) → Option (List ℕ) → Option (List ℕ) → ℕ → Result Bool Stopped → Type 0
@@ -169,8 +179,8 @@ ComesToEnd start new left later before written behind (Err (stops.Hearing error)
     (refused : Bool) × StopsHearing start new left later before written behind refused error
 ComesToEnd start new left later before written behind (Err (stops.Writing error)) =
     StopsWriting start new left later before written error
-ComesToEnd start new left later before written behind (Err (stops.Playing error)) =
-    StopsPlaying start new left later before written behind error
+ComesToEnd start new left later before written behind (Err (stops.Aside error)) =
+    StopsInAside start new left later before written behind error
 
 -- What carrying out an order does: more was said and answered, or it stops.
 abbrev pub CarriesOn : Held → Held → Option (List ℕ) → Option (List ℕ) → Option (List ℕ) → Option (List ℕ) → ℕ → Bool → Moment → Order → Result Bool Stopped → Type 0
@@ -198,7 +208,7 @@ StopCause reads later writes behind (Err (stops.Hearing error)) =
     ReadItemCause {T = Bool} reads later (Err error) × (behind ≡ writes)
 StopCause reads later writes behind (Err (stops.Writing error)) =
     (later ≡ reads) × WriteAllCause {T = Bool} writes behind (Err error)
-StopCause reads later writes behind (Err (stops.Playing error)) =
+StopCause reads later writes behind (Err (stops.Aside error)) =
     ReadsBy {T = Bool} reads later (Err error) × WritesBy {T = Bool} writes behind (Err error)
 
 -- the ending that this is
@@ -213,10 +223,10 @@ ending_of (Err (stops.Hearing errors.ReadFault)) lines = endings.ReadFault
 ending_of (Err (stops.Hearing errors.NoMemory)) lines = endings.NoMemory
 ending_of (Err (stops.Writing write_errors.WriteFault)) lines = endings.WriteFault
 ending_of (Err (stops.Writing write_errors.NoMemory)) lines = endings.NoMemory
-ending_of (Err (stops.Playing live_errors.ReadFault)) lines = endings.ReadFault
-ending_of (Err (stops.Playing live_errors.TooLong)) lines = endings.TooLong
-ending_of (Err (stops.Playing live_errors.NoMemory)) lines = endings.NoMemory
-ending_of (Err (stops.Playing live_errors.WriteFault)) lines = endings.WriteFault
-ending_of (Err (stops.Playing live_errors.Ended)) lines =
+ending_of (Err (stops.Aside live_errors.ReadFault)) lines = endings.ReadFault
+ending_of (Err (stops.Aside live_errors.TooLong)) lines = endings.TooLong
+ending_of (Err (stops.Aside live_errors.NoMemory)) lines = endings.NoMemory
+ending_of (Err (stops.Aside live_errors.WriteFault)) lines = endings.WriteFault
+ending_of (Err (stops.Aside live_errors.Ended)) lines =
     if nat_lt (lines + 1) (2 ^ 64) then endings.BadLine (lines + 1) else endings.NoMemory
-ending_of (Err (stops.Playing live_errors.BadLine)) lines = endings.BadLine lines
+ending_of (Err (stops.Aside live_errors.BadLine)) lines = endings.BadLine lines

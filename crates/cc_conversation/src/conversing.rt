@@ -10,9 +10,9 @@ ghost use Rattle.cc_conversation.specs.Turns.{HearsFirst, Talks, HearsOrder, Awa
 
 use crate::saying::Conversation;
 use cc_base::device::DeviceDecl;
-use cc_base::name::Name;
 use cc_base::steps::Steps;
 use cc_io::{ReadAll, Sink, Source, WriteAll};
+use cc_item_reading::asides::Aside;
 use cc_item_reading::reading::{Heard, NotHeard, hear};
 use cc_job::job::Command;
 use cc_line_reading::lines::LineReader;
@@ -48,8 +48,8 @@ pub enum Ended {
 pub enum Order {
     /// A command.
     Command(Command),
-    /// That the definition of a module is run on the devices of the host, for at most so many steps.
-    Live(Name, Name, u32),
+    /// Something that a job cannot say.
+    Aside(Aside),
 }
 
 /// Why a conversation stopped before its end.
@@ -59,8 +59,8 @@ pub enum Stopped {
     Hearing(NotHeard),
     /// An answer was not written whole.
     Writing(WriteAll),
-    /// A live run came to no end.
-    Playing(LiveError),
+    /// What a job cannot say came to no end, or was not answered whole.
+    Aside(LiveError),
 }
 
 // Reads the first line, which is that of each conversation, and counts it.
@@ -122,7 +122,7 @@ fn hear_next<S: Source>(
             Ok(None)
         }
         Ok(Heard::Command(command)) => Ok(Some(Some(Order::Command(command)))),
-        Ok(Heard::Live(module, def, fuel)) => Ok(Some(Some(Order::Live(module, def, fuel)))),
+        Ok(Heard::Aside(aside)) => Ok(Some(Some(Order::Aside(aside)))),
         Err(error) => Err(error),
     }
 }
@@ -192,7 +192,7 @@ fn hear_order<S: Source>(
             Ok(Heard::Empty) => {}
             Ok(Heard::Device(_)) => unreachable!(),
             Ok(Heard::Command(command)) => return Ok(Some(Order::Command(command))),
-            Ok(Heard::Live(module, def, fuel)) => return Ok(Some(Order::Live(module, def, fuel))),
+            Ok(Heard::Aside(aside)) => return Ok(Some(Order::Aside(aside))),
             Err(error) => return Err(error),
         }
     }
@@ -227,12 +227,10 @@ fn carry_out<S: Source, K: Sink, L: Ledger>(
             Ok(refused) => Ok(refused),
             Err(error) => Err(Stopped::Writing(error)),
         },
-        Order::Live(module, def, fuel) => {
-            match conversation.play(
-                alloc, &module, &def, fuel, reader, source, lines, sink, steps,
-            ) {
+        Order::Aside(aside) => {
+            match conversation.tell(alloc, aside, reader, source, lines, sink, steps) {
                 Ok(refused) => Ok(refused),
-                Err(error) => Err(Stopped::Playing(error)),
+                Err(error) => Err(Stopped::Aside(error)),
             }
         }
     }
@@ -350,15 +348,15 @@ fn ending_of(told: Result<bool, Stopped>, lines: u64) -> Ended
         Err(Stopped::Hearing(NotHeard::NoMemory)) => Ended::NoMemory,
         Err(Stopped::Writing(WriteAll::WriteFault)) => Ended::WriteFault,
         Err(Stopped::Writing(WriteAll::NoMemory)) => Ended::NoMemory,
-        Err(Stopped::Playing(LiveError::ReadFault)) => Ended::ReadFault,
-        Err(Stopped::Playing(LiveError::TooLong)) => Ended::TooLong,
-        Err(Stopped::Playing(LiveError::NoMemory)) => Ended::NoMemory,
-        Err(Stopped::Playing(LiveError::WriteFault)) => Ended::WriteFault,
-        Err(Stopped::Playing(LiveError::Ended)) => match lines.checked_add(1) {
+        Err(Stopped::Aside(LiveError::ReadFault)) => Ended::ReadFault,
+        Err(Stopped::Aside(LiveError::TooLong)) => Ended::TooLong,
+        Err(Stopped::Aside(LiveError::NoMemory)) => Ended::NoMemory,
+        Err(Stopped::Aside(LiveError::WriteFault)) => Ended::WriteFault,
+        Err(Stopped::Aside(LiveError::Ended)) => match lines.checked_add(1) {
             Some(number) => Ended::BadLine(number),
             None => Ended::NoMemory,
         },
-        Err(Stopped::Playing(LiveError::BadLine)) => Ended::BadLine(lines),
+        Err(Stopped::Aside(LiveError::BadLine)) => Ended::BadLine(lines),
     }
 }
 

@@ -7,7 +7,8 @@ ghost use Rattle.cc_job.specs.Jobs.{Commands};
 ghost use Rattle.cc_answers.specs.Requests.{request_of};
 ghost use Rattle.cc_replies.specs.Replies.{rules_after};
 ghost use Rattle.cc_conversation.specs.Conversations.{behind};
-ghost use Rattle.cc_conversation.specs.Turns.{IsUnderWay, IsSaid, IsPlayed, moment_of, beginning_with};
+ghost use Rattle.cc_conversation.specs.Turns.{IsUnderWay, IsSaid, IsExplained, IsAsideTold, moment_of, beginning_with};
+ghost use Rattle.cc_item_reading.specs.declared.asides.Aside.TheVariants as asides;
 ghost use Rattle.cc_live.specs.LiveEnds.{ReadsBy, WritesBy};
 ghost use Rattle.std.specs.Prelude.{IsTrue};
 ghost use Rattle.std.specs.Io.KnownBytes.{IsAtEnd};
@@ -19,6 +20,7 @@ use cc_base::name::Name;
 use cc_base::steps::Steps;
 use cc_hosting::hosting::host;
 use cc_io::{Sink, Source, WriteAll, write_all};
+use cc_item_reading::asides::Aside;
 use cc_job::job::Command;
 use cc_line_reading::lines::LineReader;
 use cc_live::running::LiveError;
@@ -26,6 +28,7 @@ use cc_policy::policy::Policy;
 use cc_print::Names;
 use cc_replies::signatures::names_of;
 use cc_session::session::Session;
+use cc_why::tell_why;
 use std::alloc::{AllocError, Global};
 use std::sync::ledger::Ledger;
 
@@ -128,8 +131,8 @@ impl Conversation {
         requires writes { K.faults sink.old < 2 ^ 64 - 1 }
         requires known { IsTrue reader.old.ended → IsAtEnd (S.left source.old) }
         requires under_way { IsUnderWay self.old }
-        ensures played { IsPlayed (moment_of self.old) «module».now def.now fuel reader.old reader.new (S.left source.old) (S.left source.new)
-            lines.old lines.new (K.written sink.old) (K.written sink.new) result }
+        ensures told { IsAsideTold (moment_of self.old) (asides.Live «module».now def.now fuel) reader.old reader.new
+            (S.left source.old) (S.left source.new) lines.old lines.new (K.written sink.old) (K.written sink.new) result }
         ensures under_way { IfOk result (λ _. IsUnderWay self.new) }
         ensures moment { IfOk result (λ _. moment_of self.new ≡ moment_of self.old) }
         ensures known { IsTrue reader.new.ended → IsAtEnd (S.left source.new) }
@@ -159,6 +162,75 @@ impl Conversation {
             Ok(()) => Ok(refused),
             Err(WriteAll::WriteFault) => Err(LiveError::WriteFault),
             Err(WriteAll::NoMemory) => Err(LiveError::NoMemory),
+        }
+    }
+
+    /// Tells why the module of the name is refused, and writes an empty line behind it. It tells whether the question is refused,
+    /// as it is where no such module is present.
+    ///
+    /// `WriteFault`: a write failed, and the count of faults rose. `NoMemory`: memory lacked. At an error a front was written.
+    pub fn explain<K: Sink, L: Ledger>(
+        &mut self,
+        alloc: Global,
+        name: &Name,
+        sink: &mut K,
+        steps: &mut Steps<L>,
+    ) -> Result<bool, WriteAll>
+        requires count { K.faults sink.old < 2 ^ 64 - 1 }
+        requires under_way { IsUnderWay self.old }
+        ensures explained { IsExplained (moment_of self.old) name.now (K.written sink.old) (K.written sink.new) result }
+        ensures under_way { IfOk result (λ _. IsUnderWay self.new) }
+        ensures moment { IfOk result (λ _. moment_of self.new ≡ moment_of self.old) }
+        ensures cause { WriteAllCause (K.faults sink.old) (K.faults sink.new) result }
+    {
+        let told = tell_why(alloc, &mut self.session, name, &mut *sink, steps);
+        let refused = match told {
+            Ok(refused) => refused,
+            Err(error) => return Err(error),
+        };
+        match write_all(sink, b"\n") {
+            Ok(()) => Ok(refused),
+            Err(error) => Err(error),
+        }
+    }
+
+    /// Answers what a job cannot say, with an empty line behind it: a live run as `play` does, and a question as `explain`
+    /// does. It tells whether that was refused, or a run cut short.
+    ///
+    /// Errors are those of `play`; for a question there is `WriteFault` and `NoMemory` alone.
+    pub fn tell<S: Source, K: Sink, L: Ledger>(
+        &mut self,
+        alloc: Global,
+        aside: Aside,
+        reader: &mut LineReader,
+        source: &mut S,
+        lines: &mut u64,
+        sink: &mut K,
+        steps: &mut Steps<L>,
+    ) -> Result<bool, LiveError>
+        requires reads { S.faults source.old < 2 ^ 64 - 1 }
+        requires writes { K.faults sink.old < 2 ^ 64 - 1 }
+        requires known { IsTrue reader.old.ended → IsAtEnd (S.left source.old) }
+        requires under_way { IsUnderWay self.old }
+        ensures told { IsAsideTold (moment_of self.old) aside reader.old reader.new (S.left source.old) (S.left source.new)
+            lines.old lines.new (K.written sink.old) (K.written sink.new) result }
+        ensures under_way { IfOk result (λ _. IsUnderWay self.new) }
+        ensures moment { IfOk result (λ _. moment_of self.new ≡ moment_of self.old) }
+        ensures known { IsTrue reader.new.ended → IsAtEnd (S.left source.new) }
+        ensures reads { ReadsBy (S.faults source.old) (S.faults source.new) result }
+        ensures writes { WritesBy (K.faults sink.old) (K.faults sink.new) result }
+    {
+        match aside {
+            Aside::Live(module, def, fuel) => {
+                self.play(
+                    alloc, &module, &def, fuel, reader, source, lines, sink, steps,
+                )
+            }
+            Aside::Why(name) => match self.explain(alloc, &name, sink, steps) {
+                Ok(refused) => Ok(refused),
+                Err(WriteAll::WriteFault) => Err(LiveError::WriteFault),
+                Err(WriteAll::NoMemory) => Err(LiveError::NoMemory),
+            },
         }
     }
 }

@@ -73,7 +73,7 @@ not_past verdicts at source stands past =
     let low = place_low verdicts at source stands in
     omega arith
 
-keys_same : (verdicts : List (List ℕ × DeclaredVerdict)) (texts : Texts) (all : List ℕ → ModuleVerdict)
+pub keys_same : (verdicts : List (List ℕ × DeclaredVerdict)) (texts : Texts) (all : List ℕ → ModuleVerdict)
     → named_verdicts verdicts ≡ map (λ one. (one.0, all one.0)) texts → keys_of verdicts ≡ keys_of texts
 keys_same [] [] all are = refl
 keys_same [] (one ∷ texts) all are = cc

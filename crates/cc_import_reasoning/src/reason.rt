@@ -45,8 +45,9 @@ pub struct MissingImport {
     pub cause: ImportCause,
 }
 
-// The refusal of the module, if it is present and refused.
-fn refusal(verdicts: &[(Name, ModuleVerdict)], source: &Name) -> Option<Diag>
+/// The refusal of the module, if it is present and refused. The verdicts are those of all present texts, in order. It takes no
+/// memory.
+pub fn refusal(verdicts: &[(Name, ModuleVerdict)], source: &Name) -> Option<Diag>
     requires { IsStrictlySortedBy compare_names (keys_of verdicts.now) }
     ensures { (texts : Texts) (all : List ℕ → judged.ModuleVerdict) → named_verdicts verdicts.now ≡ map (λ one. (one.0, all one.0)) texts → TellsRefusal texts all source.now result }
 {

@@ -1,4 +1,4 @@
 pub mod Hearing
-pub mod LiveWords
+pub mod AsideWords
 pub mod ItemFronts
 pub mod NextItems

@@ -17,11 +17,11 @@ use Rattle.cc_item_reading.specs.declared.reading.Heard.{Heard}
 use Rattle.cc_item_reading.specs.declared.reading.Heard.TheVariants as heard
 use Rattle.cc_item_reading.specs.declared.reading.NotHeard.{NotHeard}
 use Rattle.cc_item_reading.specs.declared.reading.NotHeard.TheVariants as errors
-use Rattle.cc_item_reading.specs.Sayings.{GoesOn, IsLiveLine, size, item_limit}
-use Rattle.cc_item_reading.specs.ItemReading.{HearsLine, HearsText, HearsRules, HearsBehind, HearsItem, HearsNextItem, IsItemHeard, IsLiveHeard, AreDeclared, item_with}
+use Rattle.cc_item_reading.specs.Sayings.{GoesOn, IsAsideLine, size, item_limit}
+use Rattle.cc_item_reading.specs.ItemReading.{HearsLine, HearsText, HearsRules, HearsBehind, HearsItem, HearsNextItem, IsItemHeard, IsAsideHeard, AreDeclared, item_with}
 use Rattle.cc_item_reading.proofs.Hearing.{hears_none, hears_both, line_put}
 use Rattle.cc_item_reading.proofs.ItemFronts.{IsWhole, whole_item, open_front, none_says, none_rules}
-use Rattle.cc_item_reading.proofs.LiveWords.{live_gives, none_live}
+use Rattle.cc_item_reading.proofs.AsideWords.{aside_gives, none_aside}
 
 -- a text of no lines, or no rules
 no_both : (head : Head) (lines : List Line) (rules : List Rule) (room : ℕ) → length lines ≡ text_size head → length rules ≡ rule_count head
@@ -188,7 +188,7 @@ next_empty devices begun old now left there before mid bytes line first empty =
     (subst (λ it. Hears old now left there (it ∷ [])) empty first.hears, first.counted)
 
 pub next_bad : (devices : List DeviceDecl) (begun : Bool) (old now : Held) (left there : Option (List ℕ)) (before mid : ℕ)
-    (bytes line : List ℕ) → First old now left there before mid bytes line → line ≢ [] → (IsLiveLine line → ⊥)
+    (bytes line : List ℕ) → First old now left there before mid bytes line → line ≢ [] → (IsAsideLine line → ⊥)
     → (GoesOn devices begun (line ∷ []) → ⊥)
     → HearsNextItem devices begun old now left there before mid (Err errors.BadLine)
 next_bad devices begun old now left there before mid bytes line first some other none = (
@@ -206,13 +206,13 @@ next_bad devices begun old now left there before mid bytes line first some other
 -- what comes of a line that is no item's
 pub next_unlike : (devices : List DeviceDecl) (begun : Bool) (old now : Held) (left there : Option (List ℕ)) (before mid : ℕ)
     (bytes line : List ℕ) (result : Result Heard NotHeard) → First old now left there before mid bytes line → line ≢ [] → head_of line ≡ None
-    → IsLiveHeard line result → HearsNextItem devices begun old now left there before mid result
+    → IsAsideHeard line result → HearsNextItem devices begun old now left there before mid result
 next_unlike devices begun old now left there before mid bytes line (Ok heard.End) first some none told = absurd told
 next_unlike devices begun old now left there before mid bytes line (Ok heard.Empty) first some none told = absurd told
 next_unlike devices begun old now left there before mid bytes line (Ok (heard.Device device)) first some none told = absurd told
 next_unlike devices begun old now left there before mid bytes line (Ok (heard.Command command)) first some none told = absurd told
-next_unlike devices begun old now left there before mid bytes line (Ok (heard.Live owner definition fuel)) first some none told =
-    let gives = live_gives line (owner, definition, fuel) told in (
+next_unlike devices begun old now left there before mid bytes line (Ok (heard.Aside it)) first some none told =
+    let gives = aside_gives line it told in (
       record {
         may = gives.0;
         short = subst (λ it. size (it ∷ []) ≤ item_limit) gives.1 (omega (arith, first.short, ap length first.bytes_are, length-append line (10 ∷ [])));
@@ -221,7 +221,7 @@ next_unlike devices begun old now left there before mid bytes line (Ok (heard.Li
       first.counted,
     )
 next_unlike devices begun old now left there before mid bytes line (Err errors.BadLine) first some none told =
-    next_bad devices begun old now left there before mid bytes line first some (none_live line told) (none_says devices begun line none)
+    next_bad devices begun old now left there before mid bytes line first some (none_aside line told) (none_says devices begun line none)
 next_unlike devices begun old now left there before mid bytes line (Err errors.CutShort) first some none told = absurd told
 next_unlike devices begun old now left there before mid bytes line (Err errors.TooLong) first some none told = absurd told
 next_unlike devices begun old now left there before mid bytes line (Err errors.ReadFault) first some none told = absurd told
@@ -272,7 +272,7 @@ next_behind_so devices begun old now new left there later before mid behind byte
     at : (it : Heard) → IsItemHeard it item → HearsNextItem devices begun old new left later before behind (Ok it)
     at heard.End h = absurd h
     at heard.Empty h = absurd h
-    at (heard.Live owner definition fuel) h = absurd h
+    at (heard.Aside said) h = absurd h
     at (heard.Device device) h =
         (subst (HearsItem devices begun old new left later) h so, counted ∙ ap (λ it. before + length (item_lines it)) h)
     at (heard.Command command) h =

@@ -12,12 +12,13 @@ use Rattle.cc_job.specs.declared.head.Head.TheVariants as heads
 use Rattle.cc_job.specs.declared.job.Command.TheVariants.{Put, Verify, Policy, Replay}
 use Rattle.cc_words.specs.Lines.{Line}
 use Rattle.cc_line_reading.specs.LineReading.{Held, Hears, HearsPart, IsOver, IsDrained}
+use Rattle.cc_item_reading.specs.declared.asides.Aside.{Aside}
 use Rattle.cc_item_reading.specs.declared.reading.Heard.{Heard}
 use Rattle.cc_item_reading.specs.declared.reading.Heard.TheVariants as heard
 use Rattle.cc_item_reading.specs.declared.reading.NotHeard.{NotHeard}
 use Rattle.cc_item_reading.specs.declared.reading.NotHeard.TheVariants as errors
-use Rattle.cc_item_reading.specs.LiveLines.{live_of}
-use Rattle.cc_item_reading.specs.Sayings.{MaySay, GoesOn, IsOpen, Live, IsLive, IsLiveLine, live_line, size, item_limit}
+use Rattle.cc_item_reading.specs.AsideLines.{aside_of}
+use Rattle.cc_item_reading.specs.Sayings.{MaySay, GoesOn, IsOpen, IsAside, IsAsideLine, aside_line, size, item_limit}
 
 -- the lines of an item have begun, or none has
 abbrev pub HasBegun : List DeviceDecl → Bool → List Line → Type 0
@@ -40,16 +41,16 @@ pub record HearsItem (devices : List DeviceDecl) (begun : Bool) (old new : Held)
   pub short : size (item_lines item) ≤ item_limit
   pub hears : Hears old new left later (item_lines item)
 
--- that a definition is run on the devices of the host was heard
-pub record HearsLive (old new : Held) (left later : Option (List ℕ)) (it : Live) : Type 0 where
-  pub may : IsLive it
-  pub short : size (live_line it ∷ []) ≤ item_limit
-  pub hears : Hears old new left later (live_line it ∷ [])
+-- something was heard that a job cannot say
+pub record HearsAside (old new : Held) (left later : Option (List ℕ)) (it : Aside) : Type 0 where
+  pub may : IsAside it
+  pub short : size (aside_line it ∷ []) ≤ item_limit
+  pub hears : Hears old new left later (aside_line it ∷ [])
 
 -- What comes of reading the next item, where so many lines were taken before and behind it: nothing is left; an empty line; an
--- item; that a definition is run on the devices of the host; a line with which no item goes on, nor says that, behind those of
--- an item that has begun; the end behind such lines; a line with which an item is too long; a read fault, where nothing is
--- held that was read before; or memory lacked.
+-- item; something that a job cannot say; a line with which no item goes on, nor says that, behind those of an item that has
+-- begun; the end behind such lines; a line with which an item is too long; a read fault, where nothing is held that was read
+-- before; or memory lacked.
 abbrev pub HearsNextItem : List DeviceDecl → Bool → Held → Held → Option (List ℕ) → Option (List ℕ) → ℕ → ℕ → Result Heard NotHeard → Type 0
 HearsNextItem devices begun old new left later before behind (Ok heard.End) =
     Hears old new left later [] × IsOver new × IsAtEnd later × (behind ≡ before)
@@ -61,11 +62,11 @@ HearsNextItem devices begun old new left later before behind (Ok (heard.Device d
 HearsNextItem devices begun old new left later before behind (Ok (heard.Command command)) =
     HearsItem devices begun old new left later (Commands command)
     × (behind ≡ before + length (item_lines (Commands command)))
-HearsNextItem devices begun old new left later before behind (Ok (heard.Live owner definition fuel)) =
-    HearsLive old new left later (record { owner = owner; definition = definition; fuel = fuel }) × (behind ≡ before + 1)
+HearsNextItem devices begun old new left later before behind (Ok (heard.Aside it)) =
+    HearsAside old new left later it × (behind ≡ before + 1)
 HearsNextItem devices begun old new left later before behind (Err errors.BadLine) =
     (front : List Line) × (bad : Line) × Hears old new left later (front ++ bad ∷ []) × HasBegun devices begun front
-    × (front ≡ [] → bad ≢ []) × (front ≡ [] → IsLiveLine bad → ⊥) × (GoesOn devices begun (front ++ bad ∷ []) → ⊥)
+    × (front ≡ [] → bad ≢ []) × (front ≡ [] → IsAsideLine bad → ⊥) × (GoesOn devices begun (front ++ bad ∷ []) → ⊥)
     × (size (front ++ bad ∷ []) ≤ item_limit) × (behind ≡ before + (length front + 1))
 HearsNextItem devices begun old new left later before behind (Err errors.CutShort) =
     (front : List Line) × Hears old new left later front × (front ≢ []) × IsOpen devices begun front
@@ -154,7 +155,7 @@ item_with (heads.Command command) text rules = Commands command
 abbrev pub IsItemHeard : Heard → Item → Type 0
 IsItemHeard heard.End item = ⊥
 IsItemHeard heard.Empty item = ⊥
-IsItemHeard (heard.Live owner definition fuel) item = ⊥
+IsItemHeard (heard.Aside it) item = ⊥
 IsItemHeard (heard.Device device) item = item ≡ Declares device
 IsItemHeard (heard.Command command) item = item ≡ Commands command
 
@@ -212,14 +213,14 @@ abbrev pub AreDeclared : List DeviceDecl → Type 0
 AreDeclared devices = (length devices ≤ 16) × IsDistinct bytes_eq (map (λ it. it.name) devices)
 
 -- what comes of a line that is no item's, where there is memory
-abbrev pub IsLiveHeard : Line → Result Heard NotHeard → Type 0
-IsLiveHeard line (Ok heard.End) = ⊥
-IsLiveHeard line (Ok heard.Empty) = ⊥
-IsLiveHeard line (Ok (heard.Device device)) = ⊥
-IsLiveHeard line (Ok (heard.Command command)) = ⊥
-IsLiveHeard line (Ok (heard.Live owner definition fuel)) = live_of line ≡ Some (owner, definition, fuel)
-IsLiveHeard line (Err errors.BadLine) = live_of line ≡ None
-IsLiveHeard line (Err errors.CutShort) = ⊥
-IsLiveHeard line (Err errors.TooLong) = ⊥
-IsLiveHeard line (Err errors.ReadFault) = ⊥
-IsLiveHeard line (Err errors.NoMemory) = Unit {0}
+abbrev pub IsAsideHeard : Line → Result Heard NotHeard → Type 0
+IsAsideHeard line (Ok heard.End) = ⊥
+IsAsideHeard line (Ok heard.Empty) = ⊥
+IsAsideHeard line (Ok (heard.Device device)) = ⊥
+IsAsideHeard line (Ok (heard.Command command)) = ⊥
+IsAsideHeard line (Ok (heard.Aside it)) = aside_of line ≡ Some it
+IsAsideHeard line (Err errors.BadLine) = aside_of line ≡ None
+IsAsideHeard line (Err errors.CutShort) = ⊥
+IsAsideHeard line (Err errors.TooLong) = ⊥
+IsAsideHeard line (Err errors.ReadFault) = ⊥
+IsAsideHeard line (Err errors.NoMemory) = Unit {0}

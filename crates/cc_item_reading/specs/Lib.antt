@@ -1,3 +1,3 @@
 pub mod Sayings
-pub mod LiveLines
+pub mod AsideLines
 pub mod ItemReading

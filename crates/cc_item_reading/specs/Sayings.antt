@@ -1,5 +1,5 @@
 -- What may be said next in a conversation, of which so many devices were declared so far: items, line by line.
-use Rattle.std.specs.Prelude.{◌≡◌, ℕ, ◌<◌, ◌≤◌, Bool, false, codes, List, [], ◌∷◌, ◌++◌, length, map}
+use Rattle.std.specs.Prelude.{◌≡◌, ℕ, ◌<◌, ◌≤◌, Bool, false, codes, encode_utf8_all, List, [], ◌∷◌, ◌++◌, length, map}
 use Rattle.std.specs.Fmt.{decimal}
 use Rattle.std.specs.List.{IsDistinct}
 use Rattle.std.specs.Str.{bytes_eq}
@@ -8,6 +8,8 @@ use Rattle.cc_base.specs.declared.device.DeviceDecl.{DeviceDecl}
 use Rattle.cc_job.specs.Jobs.{Item, Declares, Commands, IsItem, item_lines, text}
 use Rattle.cc_words.specs.Lines.{Line}
 use Rattle.cc_words.specs.Words.{joined, pair_text}
+use Rattle.cc_item_reading.specs.declared.asides.Aside.{Aside}
+use Rattle.cc_item_reading.specs.declared.asides.Aside.TheVariants as asides
 
 -- A device may be declared before the first command, where there are fewer than 16, by a name that none of them has.
 pub record MayDeclare (devices : List DeviceDecl) (begun : Bool) (device : DeviceDecl) : Type 0 where
@@ -31,23 +33,24 @@ IsOpen devices begun lines =
     (item : Item) × (next : Line) × (missing : List Line) × MaySay devices begun item
     × (item_lines item ≡ lines ++ next ∷ missing)
 
--- What a job cannot say: that a definition is run on the devices of the host, for at most so many steps.
-pub record Live : Type 0 where
-  pub owner : List ℕ
-  pub definition : List ℕ
-  pub fuel : ℕ
+-- What a job cannot say, as it may be said: that a definition is run on the devices of the host, for at most so many steps; or
+-- the question why the module of a name is refused.
+abbrev pub IsAside : Aside → Type 0
+IsAside (asides.Live owner definition fuel) = (IsName owner × IsName definition) × (fuel ≤ 1000000)
+IsAside (asides.Why name) = IsName name
 
--- as a run may be
-abbrev pub IsLive : Live → Type 0
-IsLive it = (IsName it.owner × IsName it.definition) × (it.fuel ≤ 1000000)
+-- the words of its line
+abbrev pub aside_words : Aside → List (List ℕ)
+aside_words (asides.Live owner definition fuel) = codes "live" ∷ pair_text (owner, definition) ∷ decimal fuel ∷ []
+aside_words (asides.Why name) = codes "why" ∷ encode_utf8_all name ∷ []
 
 -- its line
-abbrev pub live_line : Live → Line
-live_line it = joined 32 (codes "live" ∷ pair_text (it.owner, it.definition) ∷ decimal it.fuel ∷ [])
+abbrev pub aside_line : Aside → Line
+aside_line it = joined 32 (aside_words it)
 
--- the line says that
-abbrev pub IsLiveLine : Line → Type 0
-IsLiveLine line = (it : Live) × IsLive it × (line ≡ live_line it)
+-- the line says something of that
+abbrev pub IsAsideLine : Line → Type 0
+IsAsideLine line = (it : Aside) × IsAside it × (line ≡ aside_line it)
 
 -- how many bytes lines have, each with its line feed
 abbrev pub size : List Line → ℕ

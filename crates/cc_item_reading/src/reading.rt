@@ -6,11 +6,10 @@ ghost use Rattle.std.specs.Str.{bytes_eq};
 ghost use Rattle.std.specs.Io.KnownBytes.{IsAtEnd};
 ghost use Rattle.cc_job.specs.Reading.{head_of, may_stand, text_size, rule_count};
 ghost use Rattle.cc_item_reading.specs.Sayings.{item_limit};
-ghost use Rattle.cc_item_reading.specs.ItemReading.{HearsNextItem, HearsLine, HearsText, HearsRules, PutsRule, HearsBehind, ReadItemCause, IsItemHeard, IsLiveHeard, item_with, AreDeclared};
+ghost use Rattle.cc_item_reading.specs.ItemReading.{HearsNextItem, HearsLine, HearsText, HearsRules, PutsRule, HearsBehind, ReadItemCause, IsItemHeard, IsAsideHeard, item_with, AreDeclared};
 
-use crate::live::live_of;
+use crate::asides::{Aside, aside_of};
 use cc_base::device::DeviceDecl;
-use cc_base::name::Name;
 use cc_base::text::Text;
 use cc_io::{ReadAll, Source};
 use cc_job::head::{Head, head_of};
@@ -35,8 +34,8 @@ pub enum Heard {
     Device(DeviceDecl),
     /// A command is given.
     Command(Command),
-    /// The definition of a module is run on the devices of the host, for at most so many steps.
-    Live(Name, Name, u32),
+    /// Something is said that a job cannot say.
+    Aside(Aside),
 }
 
 /// Why nothing was heard next.
@@ -237,12 +236,12 @@ fn hear_behind<S: Source>(
     }
 }
 
-// What a line that is no item's says, if it has a definition run on the devices of the host.
-fn hear_live(alloc: Global, line: &[u8]) -> Result<Heard, NotHeard>
-    ensures { IsLiveHeard line.now result }
+// What a line that is no item's says, if a conversation may say it.
+fn hear_aside(alloc: Global, line: &[u8]) -> Result<Heard, NotHeard>
+    ensures { IsAsideHeard line.now result }
 {
-    match live_of(alloc, line) {
-        Ok(Some((module, definition, fuel))) => Ok(Heard::Live(module, definition, fuel)),
+    match aside_of(alloc, line) {
+        Ok(Some(aside)) => Ok(Heard::Aside(aside)),
         Ok(None) => Err(NotHeard::BadLine),
         Err(AllocError) => Err(NotHeard::NoMemory),
     }
@@ -250,7 +249,8 @@ fn hear_live(alloc: Global, line: &[u8]) -> Result<Heard, NotHeard>
 
 /// Hears the next item, behind these devices, where a command was given or none.
 ///
-/// That a definition is run on the devices of the host is heard as an item is.
+/// What a job cannot say is heard as an item is: that a definition is run on the devices of the host, and the question why a
+/// module is refused.
 ///
 /// `BadLine`: no item goes on with the last line that was taken. `CutShort`: the end came where lines of an item are missing.
 /// `TooLong`: the lines of the item have more than 4,194,304 bytes. `ReadFault`: a read failed, and the count of faults rose.
@@ -295,7 +295,7 @@ pub fn hear<S: Source>(
             }
             hear_behind(alloc, head, ITEM_LIMIT - bytes.len(), reader, source, lines)
         }
-        Ok(None) => hear_live(alloc, line),
+        Ok(None) => hear_aside(alloc, line),
         Err(AllocError) => Err(NotHeard::NoMemory),
     }
 }

@@ -17,3 +17,4 @@ pub mod PutPlans
 pub mod ScheduledPlans
 pub mod SettledJudgements
 pub mod StillFound
+pub mod FoundAgain

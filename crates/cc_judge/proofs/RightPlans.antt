@@ -167,6 +167,43 @@ plan_right devices texts last place plan all found sorted within are is_found is
     (findings_for texts all (name_at texts place) (text_at texts place)) is.one.verdict (all (name_at texts place)) has
     (are (name_at texts place) (text_at texts place) (text_of_place texts sorted place within))))
 
+-- the module at a place, as the program reads it
+module _ (devices : List DeviceDecl) (texts : Texts) (sorted : ArePresent texts) (readings : List (List ℕ))
+    (read : AreRead texts readings) (last : List Judgement) (place : ℕ) (within : place < length texts)
+    (entry : List ℕ × List ℕ) (is_entry : entry ≡ get_or texts place entry) (reading : List ℕ)
+    (is_reading : reading ≡ get_or readings place reading) where
+  at_entry : entry ≡ entry_at texts place
+  at_entry = is_entry ∙ get_or_default texts place entry ([], []) within
+
+  at_text : reading ≡ text_at texts place
+  at_text =
+      reading_of_place texts readings read place (entry_at texts place) reading within
+      (get_or_default texts place ([], []) (entry_at texts place) within) is_reading
+
+  pub made_judged : (judged : List (Option ℕ)) → AreJudgedBefore last texts judged
+      → (before : Option ℕ) → before ≡ get_or judged place before → IsJudgedBefore last entry.0 reading before
+  made_judged judged are before is =
+      let is_before : before ≡ get_or judged place None = is ∙ get_or_default judged place before None
+      (omega (arith, within, are.count)) in
+      let P : List ℕ × List ℕ → Type 0 = λ e. IsJudgedBefore last e.0 reading before in
+      let Q : List ℕ → Type 0 = λ t. IsJudgedBefore last (name_at texts place) t before in
+      let R : Option ℕ → Type 0 = λ o. IsJudgedBefore last (name_at texts place) (text_at texts place) o in
+      subst P (sym at_entry) (subst Q (sym at_text) (subst R (sym is_before) (are.each place within)))
+
+  -- a judgement on what is found by the present verdicts stays
+  pub stays_right : AreJudged devices last → (at : ℕ)
+      → ((all : List ℕ → ModuleVerdict) → AreVerdicts devices texts all
+      → IsJudgedAt last entry.0 reading (findings_for texts all entry.0 reading) at)
+      → IsRightPlan devices texts last place (Keep at)
+  stays_right judged at stays all are =
+      let P : List ℕ × List ℕ → Type 0 = λ e. IsJudgedAt last e.0 reading (findings_for texts all e.0 reading) at in
+      let Q : List ℕ → Type 0 = λ t. IsJudgedAt last (name_at texts place) t (findings_for texts all (name_at texts place) t) at in
+      plan_right devices texts last place (Keep at) all (findings_for texts all (name_at texts place) (text_at texts place))
+      sorted within are refl
+      (kept_plan devices last (name_at texts place) (text_at texts place)
+      (findings_for texts all (name_at texts place) (text_at texts place)) at judged
+      (subst Q at_text (subst P at_entry (stays all are))))
+
 -- the plan for the module at a place, as the program makes it
 module _ (devices : List DeviceDecl) (texts : Texts) (differ : NamesOfDevicesDiffer devices)
     (sorted : ArePresent texts) (readings : List (List ℕ)) (read : AreRead texts readings)
@@ -176,16 +213,18 @@ module _ (devices : List DeviceDecl) (texts : Texts) (differ : NamesOfDevicesDif
     (is_entry : entry ≡ get_or texts place entry) (reading : List ℕ) (is_reading : reading ≡ get_or readings place reading)
     (imports : Option (List ImportSyntax)) (are_imports : imports ≡ imports_of reading) (found : List Finding)
     (zip : AreFoundFor texts verdicts plans entry.0 (unwrap_or imports []) found) where
-  at_entry : entry ≡ entry_at texts place
-  at_entry = is_entry ∙ get_or_default texts place entry ([], []) within
+  its_entry : entry ≡ entry_at texts place
+  its_entry =
+      at_entry devices texts sorted readings read (judgements_from verdicts grounds) place within entry is_entry reading
+      is_reading
 
-  at_text : reading ≡ text_at texts place
-  at_text =
-      reading_of_place texts readings read place (entry_at texts place) reading within
-      (get_or_default texts place ([], []) (entry_at texts place) within) is_reading
+  its_text : reading ≡ text_at texts place
+  its_text =
+      at_text devices texts sorted readings read (judgements_from verdicts grounds) place within entry is_entry reading
+      is_reading
 
   its_imports : imports ≡ imports_of (text_at texts place)
-  its_imports = are_imports ∙ ap imports_of at_text
+  its_imports = are_imports ∙ ap imports_of its_text
 
   found_zip : AreFoundFor texts verdicts plans (name_at texts place) (unwrap_or (imports_of (text_at texts place)) [])
       found
@@ -193,41 +232,29 @@ module _ (devices : List DeviceDecl) (texts : Texts) (differ : NamesOfDevicesDif
       let P : List ℕ × List ℕ → Type 0 = λ e. AreFoundFor texts verdicts plans e.0 (unwrap_or imports []) found in
       let Q : Option (List ImportSyntax) → Type 0 = λ o. AreFoundFor texts verdicts plans (name_at texts place)
       (unwrap_or o []) found in
-      subst Q its_imports (subst P at_entry zip)
+      subst Q its_imports (subst P its_entry zip)
 
   pub made_fits : AreFit devices reading found
   made_fits =
       let P : List ℕ → Type 0 = λ t. AreFit devices t found in
-      subst P (sym at_text)
+      subst P (sym its_text)
       (found_fits devices texts verdicts grounds plans differ sorted planned place found within asked found_zip)
 
   pub made_found : (all : List ℕ → ModuleVerdict) → AreVerdicts devices texts all
       → found ≡ findings_for texts all entry.0 reading
   made_found all are =
       found_right texts verdicts grounds plans all (planned all are) place found asked found_zip
-      ∙ sym (ap (λ e. findings_for texts all e.0 (text_at texts place)) at_entry)
-      ∙ sym (ap (findings_for texts all entry.0) at_text)
+      ∙ sym (ap (λ e. findings_for texts all e.0 (text_at texts place)) its_entry)
+      ∙ sym (ap (findings_for texts all entry.0) its_text)
 
   pub made_stale : (all : List ℕ → ModuleVerdict) → AreVerdicts devices texts all
       → is_stale (judgements_from verdicts grounds) entry.0 reading found
       ≡ is_stale_at (judgements_from verdicts grounds) texts all place
   made_stale all are =
-      ap (λ e. is_stale (judgements_from verdicts grounds) e.0 reading found) at_entry
-      ∙ ap (λ t. is_stale (judgements_from verdicts grounds) (name_at texts place) t found) at_text
+      ap (λ e. is_stale (judgements_from verdicts grounds) e.0 reading found) its_entry
+      ∙ ap (λ t. is_stale (judgements_from verdicts grounds) (name_at texts place) t found) its_text
       ∙ ap (is_stale (judgements_from verdicts grounds) (name_at texts place) (text_at texts place))
       (found_right texts verdicts grounds plans all (planned all are) place found asked found_zip)
-
-  pub made_judged : (judged : List (Option ℕ)) → AreJudgedBefore (judgements_from verdicts grounds) texts judged
-      → (before : Option ℕ) → before ≡ get_or judged place before
-      → IsJudgedBefore (judgements_from verdicts grounds) entry.0 reading before
-  made_judged judged are before is =
-      let is_before : before ≡ get_or judged place None = is ∙ get_or_default judged place before None
-      (omega (arith, within, are.count)) in
-      let P : List ℕ × List ℕ → Type 0 = λ e. IsJudgedBefore (judgements_from verdicts grounds) e.0 reading before in
-      let Q : List ℕ → Type 0 = λ t. IsJudgedBefore (judgements_from verdicts grounds) (name_at texts place) t before in
-      let R : Option ℕ → Type 0 = λ o. IsJudgedBefore (judgements_from verdicts grounds) (name_at texts place)
-      (text_at texts place) o in
-      subst P (sym at_entry) (subst Q (sym at_text) (subst R (sym is_before) (are.each place within)))
 
   pub made_right : (plan : Plan)
       → IsPlanFor devices (judgements_from verdicts grounds) entry.0 reading
@@ -239,7 +266,7 @@ module _ (devices : List DeviceDecl) (texts : Texts) (differ : NamesOfDevicesDif
       plan in
       plan_right devices texts (judgements_from verdicts grounds) place plan all found sorted within are
       (found_right texts verdicts grounds plans all (planned all are) place found asked found_zip)
-      (subst Q at_text (subst P at_entry is))
+      (subst Q its_text (subst P its_entry is))
 
 pub plans_counted : (devices : List DeviceDecl) (texts : Texts) (last : List Judgement) (plans : List (Option Plan))
     → NamesOfDevicesDiffer devices → ArePresent texts → ArePlans devices texts last plans

@@ -40,7 +40,7 @@ use Rattle.cc_judge.specs.Kept.{judgements_from}
 use Rattle.cc_judge.specs.Places.{entry_at, name_at}
 use Rattle.cc_judge.specs.Plans.{plan_at, IsRight, ArePlans}
 use Rattle.cc_judge.specs.SameFindings.{kind_of, same_finding}
-use Rattle.cc_judge.specs.Settled.{IsFoundLast, AreFoundLast, AreSettled, IsStillFound, AreStillFound}
+use Rattle.cc_judge.specs.Settled.{found_last, IsFoundLast, AreFoundLast, AreSettled, IsStillFound, AreStillFound}
 use Rattle.cc_judge.specs.Settled.{AreOneIfFound}
 use Rattle.cc_judge.proofs.JudgedBefore.{findings_at}
 use Rattle.cc_judge.proofs.SettledJudgements.{found_present}
@@ -99,13 +99,14 @@ module _ (devices : List DeviceDecl) (texts : Texts) (verdicts : List (List ℕ 
   abbrev last : List Judgement
   last = judgements_from verdicts grounds
 
-  -- what is found in a module that keeps its verdict is still found
-  pub kept_found : IsStrictlySortedBy compare_names (keys_of verdicts) → length grounds ≡ length verdicts
+  -- what is found in a module that keeps its verdict is found in its last one
+  pub kept_last : IsStrictlySortedBy compare_names (keys_of verdicts) → length grounds ≡ length verdicts
       → (plans : List (Option Plan)) → ArePlans devices texts last plans → (place at : ℕ) → place < length texts
       → plan_at plans place ≡ Some (Keep at) → (name : List ℕ)
-      → IsStillFound devices texts last (name_at texts place) name
-  kept_found sorted one_each plans are place at within keeps name =
-      λ all is signature found.
+      → (all : List ℕ → ModuleVerdict) → AreVerdicts devices texts all
+      → found_last last (name_at texts place) name ≡ Some (finding_in (all (name_at texts place)) name)
+  kept_last sorted one_each plans are place at within keeps name =
+      λ all is.
       let P : Option Plan → Type 0 = λ o. IsRight last (judgement_in texts all (entry_at texts place)) o in
       let stands = subst P keeps ((are all is).right place within) in
       let Q : List (List ℕ) → Type 0 = λ ks. IsStrictlySortedBy compare_names ks in
@@ -114,7 +115,15 @@ module _ (devices : List DeviceDecl) (texts : Texts) (verdicts : List (List ℕ 
       (lookup_from_place nat_list_eq_equiv (verdicts_of last) at (name_at texts place) (all (name_at texts place))
       (distinct_keys (verdicts_of last) in_order)
       (named_verdicts_at last at (judgement_in texts all (entry_at texts place)) stands))
-      ∙ ap Some found
+
+  -- so it is still found
+  pub kept_found : IsStrictlySortedBy compare_names (keys_of verdicts) → length grounds ≡ length verdicts
+      → (plans : List (Option Plan)) → ArePlans devices texts last plans → (place at : ℕ) → place < length texts
+      → plan_at plans place ≡ Some (Keep at) → (name : List ℕ)
+      → IsStillFound devices texts last (name_at texts place) name
+  kept_found sorted one_each plans are place at within keeps name =
+      λ all is signature found.
+      kept_last sorted one_each plans are place at within keeps name all is ∙ ap Some found
 
 all_any : (P : List ℕ → Type 0) (names : List (List ℕ)) (name : List ℕ) → AllByRecursion P names
     → list_any (bytes_eq name) names ≡ true → P name

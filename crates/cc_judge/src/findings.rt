@@ -80,8 +80,8 @@ pub(crate) enum Source {
     At(usize),
 }
 
-// Where the module stands that the module of the name imports from.
-fn source_of(
+/// Where the module stands that the module of the name imports from.
+pub(crate) fn source_of(
     texts: &[(Name, SharedText)],
     graph: &ImportGraph,
     name: &Name,
@@ -103,8 +103,8 @@ fn source_of(
     }
 }
 
-// The same, where it is known of one module already, which may be this one.
-fn source_again(
+/// The same, where it is known of one module already, which may be this one.
+pub(crate) fn source_again(
     texts: &[(Name, SharedText)],
     graph: &ImportGraph,
     name: &Name,

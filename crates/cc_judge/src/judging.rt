@@ -17,6 +17,7 @@ ghost use Rattle.cc_judge.specs.Settled.{AreStillFound};
 use crate::carrying::carry_out;
 use crate::dependencies::{Dependencies, find_dependencies};
 use crate::findings::findings;
+use crate::found_again::place_that_stays;
 use crate::grounds::SharedText;
 use crate::last::Last;
 use crate::plans::{Plan, plan_module};
@@ -105,6 +106,11 @@ fn plan_new<L: Ledger>(
 {
     let name = &texts[place].0;
     let text = &dependencies.readings[place];
+    let judged = dependencies.judged[place];
+    let graph = &dependencies.graph.graph;
+    if let Some(at) = place_that_stays(devices, texts, graph, last, plans, name, text, judged) {
+        return Ok(Plan::Keep(at));
+    }
     let found = findings_of(
         alloc,
         texts,
@@ -114,7 +120,6 @@ fn plan_new<L: Ledger>(
         name,
         text.imports(),
     )?;
-    let judged = dependencies.judged[place];
     plan_module(
         alloc, devices, texts, last, plans, known, name, text, judged, found, steps,
     )

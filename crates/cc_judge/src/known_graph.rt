@@ -102,8 +102,10 @@ fn push_module(
     }
 }
 
-// The modules among the texts, with their imports.
-fn modules_of(
+/// The modules among the texts, which were read, with their imports.
+///
+/// Fails only for want of memory.
+pub fn modules_of(
     alloc: Global,
     texts: &[(Name, SharedText)],
     readings: &[ReadText],

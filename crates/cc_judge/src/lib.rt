@@ -6,6 +6,7 @@ mod carrying;
 pub mod dependencies;
 pub mod finding_laws;
 pub mod findings;
+mod found_again;
 pub mod grounds;
 pub mod importing;
 pub mod judging;

@@ -40,8 +40,8 @@ pub(crate) fn no_names(alloc: Global, count: usize) -> Result<Vec<Names>, AllocE
     Ok(known)
 }
 
-// Whether the verdict stays.
-fn keeps(plan: &Option<Plan>) -> bool
+/// Whether the verdict stays.
+pub(crate) fn keeps(plan: &Option<Plan>) -> bool
     ensures { IsTrue result → (at : ℕ) × (plan.now ≡ Some (Keep at)) }
 {
     match plan {

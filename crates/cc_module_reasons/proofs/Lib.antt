@@ -1,3 +1,4 @@
 pub mod MissingImports
 pub mod NearestWays
 pub mod OneModuleReason
+pub mod WhyAnswered

@@ -3,3 +3,4 @@
 
 pub mod import_laws;
 pub mod module_laws;
+pub mod why_laws;

@@ -1,1 +1,2 @@
+pub mod WorkedQuestions
 pub mod WorkedRuns

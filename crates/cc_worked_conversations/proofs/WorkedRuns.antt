@@ -16,6 +16,7 @@ use Rattle.cc_entry_laws.proofs.MadeEntries.{made_entry}
 use Rattle.cc_graph.specs.Graph.{ImportMap, IsOrder}
 use Rattle.cc_hosting.specs.HostedRuns.{hosted, refused_course, refusal_text, IsHostedAs}
 use Rattle.cc_item_reading.specs.Sayings.{size, item_limit}
+use Rattle.cc_item_reading.specs.declared.asides.Aside.TheVariants.{Live}
 use Rattle.cc_job.specs.Jobs.{Declares, Commands, item_lines, text}
 use Rattle.cc_job.specs.declared.job.Command.TheVariants.{Put, Drop, Policy}
 use Rattle.cc_job.specs.JobExamples.{rule}
@@ -29,7 +30,7 @@ use Rattle.cc_verdicts.specs.PresentTexts.{Texts, text_of}
 use Rattle.cc_words.specs.Lines.{Line}
 use Rattle.cc_worked_replies.proofs.ComputedReplies.{AreJudged, are_judged, quick_imports, same_imports, entry_by, reply_computing}
 use Rattle.cc_worked_replies.proofs.WorkedRuns.{verdicts_of}
-use Rattle.cc_conversation.specs.Conversations.{beginning, behind, under_way, Moment, IsRun, Rests, Asks, EndedAt, Says, IsSpoken}
+use Rattle.cc_conversation.specs.Conversations.{beginning, behind, under_way, Moment, SaysAside, Rests, Asks, EndedAt, Says, IsSpoken}
 use Rattle.cc_conversation.specs.Conversations.IsSpoken.{opened}
 use Rattle.cc_conversation.specs.Conversations.Says.{rests, goes_on, runs, stops}
 use Rattle.cc_conversation.specs.Conversations.StandsIn.{asks, breaks}
@@ -124,14 +125,14 @@ one_rule allow = rule allow (Some tools) (Some (codes "out")) ∷ []
 abbrev ready : Bool → Moment
 ready allow = behind (behind (behind beginning (Declares out)) (Commands (Put tools tools_text))) (Commands (Policy (one_rule allow)))
 
-run_of : (allow : Bool) (lines : List Line) → IsRun (ready allow) (codes "live tools.main 100" ∷ lines) lines (course (one_rule allow))
+run_of : (allow : Bool) (lines : List Line) → SaysAside (ready allow) (codes "live tools.main 100" ∷ lines) lines (course (one_rule allow))
 unfolding encode digits
 run_of allow lines = record {
-  it = record { owner = tools; definition = main; fuel = 100 };
+  it = Live tools main 100;
   may = ((tools_is, main_is), omega arith);
   short = fits (codes "live tools.main 100" ∷ []) refl;
   says = refl;
-  hosted = (verdicts, judged.are, hosted_by (one_rule allow) (started_in texts verdicts tools main) refl);
+  comes = (verdicts, judged.are, hosted_by (one_rule allow) (started_in texts verdicts tools main) refl);
 }
 
 abbrev policy_line : Bool → Line

@@ -1,1 +1,2 @@
 pub mod LiveConversations
+pub mod QuestionConversations

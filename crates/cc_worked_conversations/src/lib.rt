@@ -1,4 +1,5 @@
-//! Worked conversations with live runs, line by line. The functions do nothing.
+//! Worked conversations with live runs and with questions, line by line. The functions do nothing.
 #![tactic(auto)]
 
 pub mod conversations;
+pub mod questions;

@@ -43,7 +43,7 @@ of_broken text before rest reason at code is there e (is_unwanted tokens front m
 of_broken text before rest reason at code is there e (is_too_high tokens front more has is' low high) = cc
 
 -- a text that is refused where this rest begins, which is of no number
-broken : (text before rest : List ℕ) (at : Place) → quick_reading text ≡ IsNoModule E02 at → chars text ≡ before ++ rest
+pub broken : (text before rest : List ℕ) (at : Place) → quick_reading text ≡ IsNoModule E02 at → chars text ≡ before ++ rest
     → at ≡ place_past start before → first_passes is_ascii_digit rest ≡ false → HasTextReason text (Broken (told rest)) at
 broken text before rest at reads is there e =
     let (reason, code, it) = refused_texts_have_a_reason text E02 at ((text_has_one_reading text (IsNoModule E02 at)).1 (sym reads ∙ sym (same_reading text))) in

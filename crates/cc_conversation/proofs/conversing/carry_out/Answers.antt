@@ -1,5 +1,5 @@
 use Rattle.std.proofs.Common.{◌||◌, sym, subst}
-use Rattle.cc_conversation.proofs.Turning.{talks_said, talks_played}
+use Rattle.cc_conversation.proofs.Turning.{talks_said, talks_aside}
 use Rattle.cc_conversation.proofs.conversing.carry_out.Goals as goal
 use Rattle.cc_conversation.specs.Turns.{Talks, HearsOrder, behind_order, moment_of}
 
@@ -10,8 +10,8 @@ returns-in-Ok-clause-carries g c = λ start left before refused moment alike hea
     (talks_said start c.args.reader.now left (g.S.Source.left c.args.source.now) before (g.K.Sink.written c.args.sink.now) (g.K.Sink.written c.say.new.sink) c.args.lines.now refused c.in-Ok.refused moment
     (moment_of c.args.conversation.now) c.in-Command.command (subst (λ o. HearsOrder start c.args.reader.now left (g.S.Source.left c.args.source.now) before (g.K.Sink.written c.args.sink.now) c.args.lines.now refused moment o) c.in-Command.is hears) alike c.in-Ok.ensures.said)
 
-pub returns-in-Command-clause-carries : goal.returns-in-Command-clause-carries
-returns-in-Command-clause-carries g c = λ start left before refused moment alike hears. (
+pub returns-in-Err-clause-carries : goal.returns-in-Err-clause-carries
+returns-in-Err-clause-carries g c = λ start left before refused moment alike hears. (
   (g.K.Sink.written c.args.sink.now),
   c.args.lines.now,
   refused,
@@ -23,16 +23,16 @@ returns-in-Command-clause-carries g c = λ start left before refused moment alik
   c.in-Err.ensures.said,
 )
 
-pub returns-in-Ok-play-clause-carries : goal.returns-in-Ok-play-clause-carries
-returns-in-Ok-play-clause-carries g c = λ start left before refused moment alike hears.
-    subst (λ o. Talks start c.play.new.reader left (g.S.Source.left c.play.new.source) before (g.K.Sink.written c.play.new.sink) c.play.new.lines
-    (refused || c.in-Ok-play.refused) (behind_order moment o)) (sym c.in-Live.is)
-    (talks_played start c.play.new.reader left (g.S.Source.left c.play.new.source) before (g.K.Sink.written c.args.sink.now) (g.K.Sink.written c.play.new.sink) c.args.lines.now c.play.new.lines
-    refused c.in-Ok-play.refused moment (moment_of c.args.conversation.now) c.in-Live.«module» c.in-Live.def c.in-Live.fuel c.args.reader.now (g.S.Source.left c.args.source.now)
-    (subst (λ o. HearsOrder start c.args.reader.now left (g.S.Source.left c.args.source.now) before (g.K.Sink.written c.args.sink.now) c.args.lines.now refused moment o) c.in-Live.is hears) alike c.in-Ok-play.ensures.played)
+pub returns-in-Ok-tell-clause-carries : goal.returns-in-Ok-tell-clause-carries
+returns-in-Ok-tell-clause-carries g c = λ start left before refused moment alike hears.
+    subst (λ o. Talks start c.tell.new.reader left (g.S.Source.left c.tell.new.source) before (g.K.Sink.written c.tell.new.sink) c.tell.new.lines
+    (refused || c.in-Ok-tell.refused) (behind_order moment o)) (sym c.in-Aside.is)
+    (talks_aside start c.tell.new.reader left (g.S.Source.left c.tell.new.source) before (g.K.Sink.written c.args.sink.now) (g.K.Sink.written c.tell.new.sink) c.args.lines.now c.tell.new.lines
+    refused c.in-Ok-tell.refused moment (moment_of c.args.conversation.now) c.in-Aside.aside c.args.reader.now (g.S.Source.left c.args.source.now)
+    (subst (λ o. HearsOrder start c.args.reader.now left (g.S.Source.left c.args.source.now) before (g.K.Sink.written c.args.sink.now) c.args.lines.now refused moment o) c.in-Aside.is hears) alike c.in-Ok-tell.ensures.told)
 
-pub returns-clause-carries : goal.returns-clause-carries
-returns-clause-carries g c = λ start left before refused moment alike hears. record {
+pub returns-in-Err-tell-clause-carries : goal.returns-in-Err-tell-clause-carries
+returns-in-Err-tell-clause-carries g c = λ start left before refused moment alike hears. record {
   now = c.args.reader.now;
   there = (g.S.Source.left c.args.source.now);
   written = (g.K.Sink.written c.args.sink.now);
@@ -40,8 +40,8 @@ returns-clause-carries g c = λ start left before refused moment alike hears. re
   refused = refused;
   moment = moment;
   other = (moment_of c.args.conversation.now);
-  it = record { owner = c.in-Live.«module»; definition = c.in-Live.def; fuel = c.in-Live.fuel };
-  hears = (subst (λ o. HearsOrder start c.args.reader.now left (g.S.Source.left c.args.source.now) before (g.K.Sink.written c.args.sink.now) c.args.lines.now refused moment o) c.in-Live.is hears);
+  it = c.in-Aside.aside;
+  hears = (subst (λ o. HearsOrder start c.args.reader.now left (g.S.Source.left c.args.source.now) before (g.K.Sink.written c.args.sink.now) c.args.lines.now refused moment o) c.in-Aside.is hears);
   alike = alike;
-  played = c.in-Err-play.ensures.played;
+  tells = c.in-Err-tell.ensures.told;
 }

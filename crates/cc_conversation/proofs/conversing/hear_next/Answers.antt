@@ -1,5 +1,5 @@
 use Rattle.std.proofs.Common.{false, Ok, Err, refl, sym, ◌∙◌, subst}
-use Rattle.cc_conversation.proofs.HearingOn.{awaits_end, awaits_command, awaits_live, awaits_stop}
+use Rattle.cc_conversation.proofs.HearingOn.{awaits_end, awaits_command, awaits_aside, awaits_stop}
 use Rattle.cc_conversation.proofs.Turning.{talks_blank, talks_device, device_lost}
 use Rattle.cc_conversation.proofs.conversing.hear_next.Goals as goal
 use Rattle.cc_conversation.specs.Turns.{Talks, opening}
@@ -29,9 +29,9 @@ pub returns-in-Ok-Command-clause-turns : goal.returns-in-Ok-Command-clause-turns
 returns-in-Ok-Command-clause-turns g c = λ start left before written talks.
     awaits_command (opening c.args.devices.now.items) c.in-Ok-Command.command start c.args.reader.now c.hear.new.reader left (g.S.Source.left c.args.source.now) (g.S.Source.left c.hear.new.source) before written c.args.lines.now c.hear.new.lines false talks (subst (λ ds. HearsNextItem ds false c.args.reader.now c.hear.new.reader (g.S.Source.left c.args.source.now) (g.S.Source.left c.hear.new.source) c.args.lines.now c.hear.new.lines (Ok (heard.Command c.in-Ok-Command.command))) c.as_slice.ensures.value (subst (λ t. HearsNextItem c.as_slice.result.now false c.args.reader.now c.hear.new.reader (g.S.Source.left c.args.source.now) (g.S.Source.left c.hear.new.source) c.args.lines.now c.hear.new.lines (Ok t)) c.in-Ok-Command.field-0-is c.in-Ok-Command.ensures.heard))
 
-pub returns-in-Ok-Live-clause-turns : goal.returns-in-Ok-Live-clause-turns
-returns-in-Ok-Live-clause-turns g c = λ start left before written talks.
-    awaits_live (opening c.args.devices.now.items) c.in-Ok-Live.«module» c.in-Ok-Live.def c.in-Ok-Live.fuel start c.args.reader.now c.hear.new.reader left (g.S.Source.left c.args.source.now) (g.S.Source.left c.hear.new.source) before written c.args.lines.now c.hear.new.lines false talks (subst (λ ds. HearsNextItem ds false c.args.reader.now c.hear.new.reader (g.S.Source.left c.args.source.now) (g.S.Source.left c.hear.new.source) c.args.lines.now c.hear.new.lines (Ok (heard.Live c.in-Ok-Live.«module» c.in-Ok-Live.def c.in-Ok-Live.fuel))) c.as_slice.ensures.value (subst (λ t. HearsNextItem c.as_slice.result.now false c.args.reader.now c.hear.new.reader (g.S.Source.left c.args.source.now) (g.S.Source.left c.hear.new.source) c.args.lines.now c.hear.new.lines (Ok t)) c.in-Ok-Live.field-0-is c.in-Ok-Live.ensures.heard))
+pub returns-in-Ok-Aside-clause-turns : goal.returns-in-Ok-Aside-clause-turns
+returns-in-Ok-Aside-clause-turns g c = λ start left before written talks.
+    awaits_aside (opening c.args.devices.now.items) c.in-Ok-Aside.aside start c.args.reader.now c.hear.new.reader left (g.S.Source.left c.args.source.now) (g.S.Source.left c.hear.new.source) before written c.args.lines.now c.hear.new.lines false talks (subst (λ ds. HearsNextItem ds false c.args.reader.now c.hear.new.reader (g.S.Source.left c.args.source.now) (g.S.Source.left c.hear.new.source) c.args.lines.now c.hear.new.lines (Ok (heard.Aside c.in-Ok-Aside.aside))) c.as_slice.ensures.value (subst (λ t. HearsNextItem c.as_slice.result.now false c.args.reader.now c.hear.new.reader (g.S.Source.left c.args.source.now) (g.S.Source.left c.hear.new.source) c.args.lines.now c.hear.new.lines (Ok t)) c.in-Ok-Aside.field-0-is c.in-Ok-Aside.ensures.heard))
 
 pub returns-in-Err-clause-turns : goal.returns-in-Err-clause-turns
 returns-in-Err-clause-turns g c = λ start left before written talks.

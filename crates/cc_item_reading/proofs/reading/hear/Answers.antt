@@ -1,6 +1,6 @@
 use Rattle.std.proofs.Common.{◌-◌, ◌==◌, ℕ, List, length, take, sym, ap, ◌∙◌, arith}
 use Rattle.cc_item_reading.proofs.ItemFronts.{none_stands}
-use Rattle.cc_item_reading.proofs.LiveWords.{no_head}
+use Rattle.cc_item_reading.proofs.AsideWords.{no_head}
 use Rattle.cc_item_reading.proofs.NextItems.{first_failed, first_came, next_bad, next_unlike, next_behind}
 use Rattle.cc_item_reading.proofs.reading.hear.Goals as goal
 
@@ -13,16 +13,16 @@ returns-then-not-may_stand-clause-heard g c =
     next_bad c.args.devices.now c.args.begun _ _ _ _ _ _ _ _
     (first_came _ _ _ _ _ _ c.new-bytes.result.items c.next.new.bytes.items c.without_feed-line.result.now _ c.new-bytes.ensures.items c.in-Ok-true.field-0-test
     c.in-Ok-true.ensures.heard (c.without_feed-line.ensures ∙ ap (λ it. take (length it - 1) it) c.deref.ensures.value)) (λ h. let is = sym c.if-is_empty.false ∙ c.is_empty.ensures ∙ ap (λ (it : List ℕ). length it == 0) h in cc)
-    (λ live. let clash = sym (no_head c.without_feed-line.result.now live) ∙ (sym c.in-Ok-Some.ensures ∙ c.in-Ok-Some.field-0-is) in cc)
+    (λ aside. let clash = sym (no_head c.without_feed-line.result.now aside) ∙ (sym c.in-Ok-Some.ensures ∙ c.in-Ok-Some.field-0-is) in cc)
     (none_stands c.args.devices.now c.args.begun c.without_feed-line.result.now c.in-Ok-Some.head (sym c.in-Ok-Some.ensures ∙ c.in-Ok-Some.field-0-is)
     (sym c.may_stand.ensures ∙ c.if-not-may_stand.true))
 
 pub returns-in-Ok-None-clause-heard : goal.returns-in-Ok-None-clause-heard
 returns-in-Ok-None-clause-heard g c =
-    next_unlike c.args.devices.now c.args.begun _ _ _ _ _ _ _ _ c.hear_live.result
+    next_unlike c.args.devices.now c.args.begun _ _ _ _ _ _ _ _ c.hear_aside.result
     (first_came _ _ _ _ _ _ c.new-bytes.result.items c.next.new.bytes.items c.without_feed-line.result.now _ c.new-bytes.ensures.items c.in-Ok-true.field-0-test
     c.in-Ok-true.ensures.heard (c.without_feed-line.ensures ∙ ap (λ it. take (length it - 1) it) c.deref.ensures.value)) (λ h. let is = sym c.if-is_empty.false ∙ c.is_empty.ensures ∙ ap (λ (it : List ℕ). length it == 0) h in cc)
-    (sym c.in-Ok-None.ensures ∙ c.in-Ok-None.field-0-is) c.hear_live.ensures
+    (sym c.in-Ok-None.ensures ∙ c.in-Ok-None.field-0-is) c.hear_aside.ensures
 
 pub returns-in-Ok-Some-clause-heard : goal.returns-in-Ok-Some-clause-heard
 returns-in-Ok-Some-clause-heard g c =

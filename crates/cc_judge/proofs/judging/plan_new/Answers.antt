@@ -4,7 +4,7 @@ use Rattle.std.specs.Option.{option_map}
 use Rattle.cc_module.specs.Findings.{finding_of}
 use Rattle.cc_parse.specs.Trees.{imports_syntax}
 use Rattle.cc_judge.proofs.Graphs.{read_length}
-use Rattle.cc_judge.proofs.RightPlans.{made_fits, made_found, made_judged, made_stale, made_right, plans_counted}
+use Rattle.cc_judge.proofs.RightPlans.{made_fits, made_found, made_judged, made_stale, made_right, plans_counted, stays_right}
 use Rattle.cc_judge.specs.Kept.{judgements_of}
 use Rattle.cc_judge.proofs.judging.plan_new.Goals as goal
 
@@ -80,11 +80,29 @@ index-judged-requires g c =
 
 pub plan_module-requires-clause-judged : goal.plan_module-requires-clause-judged
 plan_module-requires-clause-judged g c =
-    made_judged c.args.devices.now c.args.texts.now c.requires.differ c.requires.present
-    c.args.dependencies.now.readings.items c.requires.found.read c.args.last.now.verdicts.items
-    c.args.last.now.grounds.items c.args.plans.now c.requires.plans c.args.place c.requires.within c.requires.asked
+    made_judged c.args.devices.now c.args.texts.now c.requires.present c.args.dependencies.now.readings.items
+    c.requires.found.read (judgements_of c.args.last.now) c.args.place c.requires.within
     (get_or c.args.texts.now c.args.place c.index-texts-place.result)
     (ap (get_or c.args.texts.now c.args.place) c.index-texts-place.is) c.index-text.result.now c.index-text.ensures
-    (option_map imports_syntax c.imports.result.now) c.imports.ensures
-    (map finding_of c.in_ok-found.found.items) c.in_ok-found.ensures c.args.dependencies.now.judged.items
-    c.requires.found.judged c.index-judged.result.now c.index-judged.ensures
+    c.args.dependencies.now.judged.items c.requires.found.judged c.index-judged.result.now c.index-judged.ensures
+
+pub place_that_stays-requires-clause-count : goal.place_that_stays-requires-clause-count
+place_that_stays-requires-clause-count g c =
+    plans_counted c.args.devices.now c.args.texts.now (judgements_of c.args.last.now) c.args.plans.now
+    c.requires.differ c.requires.present c.requires.plans
+
+pub place_that_stays-requires-clause-judged : goal.place_that_stays-requires-clause-judged
+place_that_stays-requires-clause-judged g c =
+    made_judged c.args.devices.now c.args.texts.now c.requires.present c.args.dependencies.now.readings.items
+    c.requires.found.read (judgements_of c.args.last.now) c.args.place c.requires.within
+    (get_or c.args.texts.now c.args.place c.index-texts-place.result)
+    (ap (get_or c.args.texts.now c.args.place) c.index-texts-place.is) c.index-text.result.now c.index-text.ensures
+    c.args.dependencies.now.judged.items c.requires.found.judged c.index-judged.result.now c.index-judged.ensures
+
+pub returns-in-Some-clause-plan : goal.returns-in-Some-clause-plan
+returns-in-Some-clause-plan g c =
+    stays_right c.args.devices.now c.args.texts.now c.requires.present c.args.dependencies.now.readings.items
+    c.requires.found.read (judgements_of c.args.last.now) c.args.place c.requires.within
+    (get_or c.args.texts.now c.args.place c.index-texts-place.result)
+    (ap (get_or c.args.texts.now c.args.place) c.index-texts-place.is) c.index-text.result.now c.index-text.ensures
+    c.requires.kept.judged c.in-Some.at c.in-Some.ensures

@@ -1,0 +1,4 @@
+pub mod FilledSets
+pub mod FormedCauses
+pub mod LabelledChains
+pub mod TellableReasons

@@ -1,0 +1,2 @@
+pub mod LabelledChains
+pub mod ReasonLines
