@@ -5,10 +5,14 @@ Each block of indented lines that begins with `def` or `import` is a module that
 `| CODE | .. | `TEXT` .. | LINE:COL |`, or with one more cell, is a module that has to be refused so; and each row
 `| CODE | .. | `COMMAND` .. | .. |` a command that has to be. Beside the modules stand the devices `out console`,
 `in file 1 2` and `hits counter`. In docs/codes.md each code of a module has such a row but E18.
-Usage: .ci/documents.py [--test] PROGRAM ..
+Where the last cell of a table is `Why`, it has the lines with which `capi` has to tell why the module is refused, each between
+backticks. In docs/language.md each code of a module has such a row but E18.
+Usage: .ci/documents.py [--test] [--capi PROGRAM] PROGRAM ..
 Prints a line for each example that is answered otherwise, and ends with 1 where there is one. With --test each row of
-docs/codes.md is bent, by another code and by another place, and has to be found.
+docs/codes.md is bent, by another code and by another place, and has to be found; and with --capi each line of a reason, by
+another one, by none and by one more. Without --capi no reason is tried.
 """
+import argparse
 import os
 import re
 import subprocess
@@ -35,6 +39,15 @@ def verdicts(program, modules):
     return dict(line[2:].split(" ", 1) for line in lines if line.startswith("  "))
 
 
+def told(capi, modules):
+    """The lines that tell why the last module is refused, behind its code and place."""
+    name = modules[-1][0]
+    talk = b"capc 1\n" + DEVICES + b"".join(put(*one) for one in modules) + b"why %s\n" % name
+    run = subprocess.run([capi], input=talk, capture_output=True, timeout=120)
+    head, _, answer = run.stdout.rpartition(b"why %s\n" % name)
+    return [line.removeprefix("  ") for line in answer.decode().splitlines()[:-1]] if head else [run.stderr.decode().strip()]
+
+
 def refusal(program, command, text):
     """The code with which the command is refused, beside the module `m` of the text."""
     job = b"capc 1\n" + DEVICES + (put(b"m", text) if text is not None else b"") + command + b"\n"
@@ -59,16 +72,19 @@ def commands(text):
 
 
 def examples(text):
-    """The modules of a page's text, each with the line where it stands and the verdict that it has to have."""
+    """The modules of a page's text, each with the line where it stands, the verdict that it has to have, and the lines that have
+    to tell why, if its table has them."""
     block = []
-    code = ""
+    code, has_reasons = "", False
     for number, line in enumerate(text.splitlines() + [""], 1):
         if line.startswith("    ") and (block or re.match(r"    (def|import) ", line)):
             block.append(line[4:])
             continue
         if block:
-            yield number - len(block), [(b"example", "\n".join(block).encode())], "ok"
+            yield number - len(block), [(b"example", "\n".join(block).encode())], "ok", None
             block = []
+        if line.startswith("| Code |"):
+            has_reasons = line.endswith("| Why |")
         row = ROW.match(line)
         if row:
             code = row.group(1).strip() or code
@@ -85,14 +101,15 @@ def examples(text):
                 module += bytes([int(bytes_behind.group(1), 16)])
             if times:
                 module += times.group(2).encode() * int(times.group(1)) + times.group(3).encode()
-            yield number, others + [(name, module)], code + " " + place
+            reason = re.findall("`([^`]+)`", line.split(" | ")[-1]) if has_reasons else None
+            yield number, others + [(name, module)], code + " " + place, reason
 
 
 def wrong(program, text, only=None):
     """How many examples the text has, and the lines of those that are answered otherwise, with the answers; those of one line alone
     where it is named."""
     count, found = 0, []
-    for line, modules, wanted in examples(text):
+    for line, modules, wanted, _ in examples(text):
         if only not in (None, line):
             continue
         count += 1
@@ -107,6 +124,30 @@ def wrong(program, text, only=None):
         if answer != wanted:
             found.append((line, f"{answer}, not {wanted}"))
     return count, found
+
+
+def wrong_reasons(capi, text, only=None):
+    """The codes whose reasons the text tells, and the lines of those that are told otherwise, with what is told."""
+    codes, found = set(), []
+    for line, modules, wanted, reason in examples(text):
+        if reason is None or only not in (None, line):
+            continue
+        codes.add(wanted.split()[0])
+        answer = told(capi, modules)
+        if answer != [wanted] + reason:
+            found.append((line, f"why: {answer}, not {[wanted] + reason}"))
+    return codes, found
+
+
+def bent_reasons(text):
+    """The text with one line of a reason bent, and where it stands."""
+    lines = text.split("\n")
+    for number, _, _, reason in examples(text):
+        front = lines[number - 1].rpartition(" | ")[0]
+        for at in range(len(reason or [])):
+            for way in (reason[:at] + [reason[at] + "s"] + reason[at + 1 :], reason[:at] + reason[at + 1 :], reason[:at] + ["more"] + reason[at:]):
+                row = front + " | " + ", ".join(f"`{one}`" for one in way) + " |"
+                yield number, "\n".join([*lines[: number - 1], row, *lines[number:]])
 
 
 def bent(text):
@@ -124,7 +165,12 @@ def bent(text):
 
 def main():
     failures = []
-    programs = [one for one in sys.argv[1:] if one != "--test"]
+    options = argparse.ArgumentParser(usage=__doc__.split("Usage: ")[1].split("\n")[0])
+    options.add_argument("--test", action="store_true")
+    options.add_argument("--capi")
+    options.add_argument("programs", nargs="+")
+    options = options.parse_args()
+    programs = options.programs
     for program in programs:
         for page in PAGES:
             count, found = wrong(program, read(page))
@@ -132,10 +178,23 @@ def main():
             if count == 0:
                 failures.append(f"{page}: no example was found")
     codes = read("docs/codes.md")
-    shown = {verdict.split()[0] for _, _, verdict in examples(codes)} | {code for _, _, _, code in commands(codes)}
-    lacking = {f"E{number:02}" for number in range(1, 20)} - {"E18"} - shown
-    failures += [f"docs/codes.md: no example of {code}" for code in sorted(lacking)]
-    if "--test" in sys.argv:
+    shown = {verdict.split()[0] for _, _, verdict, _ in examples(codes)} | {code for _, _, _, code in commands(codes)}
+    examined = {f"E{number:02}" for number in range(1, 20)} - {"E18"}
+    failures += [f"docs/codes.md: no example of {code}" for code in sorted(examined - shown)]
+    if options.capi:
+        language = read("docs/language.md")
+        reasons, found = wrong_reasons(options.capi, language)
+        failures += [f"docs/language.md:{line}: {words}" for line, words in found]
+        failures += [f"docs/language.md: no reason of {code}" for code in sorted(examined - reasons)]
+        if options.test:
+            tried = 0
+            for number, text in bent_reasons(language):
+                tried += 1
+                if not wrong_reasons(options.capi, text, number)[1]:
+                    failures.append(f"docs/language.md:{number}: a reason that is bent is not found")
+            if tried < 80:
+                failures.append(f"docs/language.md: only {tried} reasons could be bent")
+    if options.test:
         tried = 0
         for number, text in bent(codes):
             tried += 1
@@ -145,7 +204,7 @@ def main():
             failures.append(f"docs/codes.md: only {tried} rows could be bent")
     for failure in failures:
         print(failure)
-    sys.exit(1 if failures or not programs else 0)
+    sys.exit(1 if failures else 0)
 
 
 main()
