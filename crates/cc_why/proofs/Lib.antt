@@ -1,0 +1,7 @@
+mod FoundAnswers
+mod FoundDefinitions
+mod FoundImports
+mod FoundReasons
+mod FoundTrees
+mod InsideNames
+mod SessionFacts

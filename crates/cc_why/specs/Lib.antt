@@ -1,1 +1,2 @@
+pub mod ToldReasons
 pub mod WhyTexts
