@@ -397,8 +397,13 @@ def tests_of():
 
 
 def cases_of(folders):
+    """The same of the jobs of folders, each beside a file `meta` with the status, that are carried out."""
     for folder in folders:
         for path in sorted(glob.glob(os.path.join(folder, '*', 'job'))):
+            with open(os.path.join(os.path.dirname(path), 'meta')) as file:
+                meta = file.read().splitlines()
+            if not {'status 0', 'status 1'} & set(meta) or any(line.startswith('words ') for line in meta):
+                continue
             with open(path, 'rb') as file:
                 devices, commands = conversations.pieces_of(file.read())
             yield devices, states_of(commands)
