@@ -178,6 +178,8 @@ class Held:
 
     def fail(self, name, text, words):
         self.wrong.append('%s: %s\n%s' % (name, words, text[:2000]))
+        if not self.bend:
+            print('WRONG ' + self.wrong[-1], flush=True)
 
     def modules(self, devices, texts):
         """Holds what is told of modules that are present together."""
@@ -565,22 +567,23 @@ def main():
     held.jobs(cases_of(options.cases))
     wrong = held.wrong
     counts = held.counts
-    print(', '.join('%d %s' % (counts[one], one) for one in ('modules', 'fronts', 'sets', 'elements', 'whole sets')))
+    print(', '.join('%d %s' % (counts[one], one) for one in ('modules', 'fronts', 'sets', 'elements', 'others', 'whole sets')))
     print('refused: ' + ', '.join('%s %d' % one for one in sorted(counts.items()) if re.match('E[0-9]', one[0])))
-    if min(counts[one] for one in ('fronts', 'sets', 'elements', 'whole sets')) < 20:
-        wrong.append('too little was held')
+    more = []
+    if min(counts[one] for one in ('fronts', 'sets', 'elements', 'whole sets')) < 20 or counts['others'] < 5:
+        more.append('too little was held')
     if options.test:
         for name, bend in bends():
             bent = Held(options.capi, bend)
             bent.jobs(tests_of())
             if not bent.wrong:
-                wrong.append('what is bent is not found: ' + name)
+                more.append('what is bent is not found: ' + name)
     if not options.no_times:
-        wrong += measured(options.capi)
-    for words in wrong:
+        more += measured(options.capi)
+    for words in more:
         print('WRONG ' + words)
-    print('%d wrong' % len(wrong))
-    sys.exit(1 if wrong else 0)
+    print('%d wrong' % len(wrong + more))
+    sys.exit(1 if wrong + more else 0)
 
 
 if __name__ == '__main__':
