@@ -1,8 +1,8 @@
 mod CapturedOccurrences
-mod DirectedDefinitions
+pub mod DirectedDefinitions
 mod DirectedTyping
-mod FilledMatches
-mod FoundDirected
-mod FoundWhereDirected
+pub mod FilledMatches
+pub mod FoundDirected
+pub mod FoundWhereDirected
 mod LeastAvoiding
 mod NotLeast

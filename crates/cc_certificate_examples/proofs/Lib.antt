@@ -1,5 +1,5 @@
-mod ComputedAnswers
-mod ComputedLines
+pub mod ComputedAnswers
+pub mod ComputedLines
 mod WorkedCanonical
 mod WorkedClaimForms
 mod WorkedComparisons

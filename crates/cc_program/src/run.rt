@@ -3,10 +3,12 @@ ghost use Rattle.std.specs.String.{string_bytes};
 ghost use Rattle.cc_arguments.specs.Words.{AsksFor};
 ghost use Rattle.cc_program.specs.Calls.{IsCall};
 ghost use Rattle.cc_program.specs.Outcome.{Outcome, ends};
-ghost use Rattle.cc_program.specs.SoundJobs.{EveryJobIsSound};
 ghost use Rattle.cc_program.specs.UniqueAnswers.{AnswersAreUnique};
+ghost use Rattle.cc_sound_laws.specs.EntriesByTypes.{PresentEntriesAreAccepted};
+ghost use Rattle.cc_sound_laws.specs.SoundTexts.{PresentTextsAreSound};
+ghost use Rattle.cc_sound_laws.specs.VerdictsByTypes.{VerdictsAreByTypes};
 
-use crate::job_laws::{answers_are_unique, every_job_is_sound, every_output_is_sound};
+use crate::job_laws::{answers_are_unique, every_output_is_sound};
 use crate::status::Status;
 use crate::workload::summarize;
 use cc_answers::commands::carry_out;
@@ -15,6 +17,9 @@ use cc_base::steps::Steps;
 use cc_io::{ReadAll, Sink, Source, WriteAll, read_all};
 use cc_job::job::JobError;
 use cc_job::read::read_job;
+use cc_sound_laws::text_laws::{
+    entries_are_by_types, present_texts_are_sound, verdicts_are_by_types,
+};
 use std::alloc::Global;
 use std::sync::ledger::Ledger;
 
@@ -73,9 +78,14 @@ pub fn capc<S: Source, K: Sink, L: Ledger>(
     // The words are bad exactly where they ask for nothing.
     ensures words { (result ≡ Status.BadWords) ↔ AsksFor (map string_bytes words.now) Asked.Nothing }
 
-    // The files of every job are sound, at every moment of it: what definitions deserve and what their runs do. Of this
-    // job's replies `call` says that what each of them tells is so.
-    ensures sound { EveryJobIsSound }
+    // Present texts are sound, whatever is written in them: which modules are accepted by their types, that each other one
+    // which may be asked for its types has none, and that the programs of accepted modules run together.
+    ensures sound { PresentTextsAreSound }
+
+    // What `call` names as verdicts and as entries of present texts are those of `sound`: a verdict is accepted exactly where
+    // the module is, as the same definitions, and each entry is one of accepted modules.
+    ensures verdicts { VerdictsAreByTypes }
+    ensures entries { PresentEntriesAreAccepted }
 
     // What the other clauses name by its existence is one thing alone: what the words ask for, the job of bytes or their
     // bad line, the output of a job, and how many modules it finds stale.
@@ -87,7 +97,9 @@ pub fn capc<S: Source, K: Sink, L: Ledger>(
         (ends (S.left source.new) (S.faults source.new) (K.written sink.new) (K.faults sink.new) steps.new)
         (map string_bytes words.now) result }
 {
-    every_job_is_sound();
+    present_texts_are_sound();
+    verdicts_are_by_types();
+    entries_are_by_types();
     answers_are_unique();
     match asked_by(words) {
         Asked::Job => carry_out_source(alloc, source, sink, steps),

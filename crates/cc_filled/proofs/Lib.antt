@@ -1,0 +1,3 @@
+pub mod DecidedFillings
+pub mod FilledValues
+mod WorkedFillings

@@ -1,0 +1,4 @@
+pub mod FilledTerms
+pub mod FilledTests
+pub mod FilledLaws
+pub mod FilledExamples

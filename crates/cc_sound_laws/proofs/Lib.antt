@@ -1,0 +1,11 @@
+pub mod AcceptedAs
+pub mod AcceptedEntries
+pub mod AcceptedSoundness
+pub mod Defined
+pub mod DefinedLaws
+pub mod JudgedModules
+pub mod ListedModules
+pub mod ReadTexts
+pub mod Running
+pub mod SoundTexts
+pub mod WorkedTexts

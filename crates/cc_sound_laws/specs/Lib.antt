@@ -1,0 +1,11 @@
+pub mod AcceptedEntries
+pub mod AcceptedModules
+pub mod DefinedAs
+pub mod DefinedLaws
+pub mod EntriesByTypes
+pub mod ExampleTexts
+pub mod ModuleTexts
+pub mod RunningTogether
+pub mod SingleRuns
+pub mod SoundTexts
+pub mod VerdictsByTypes

@@ -1,0 +1,9 @@
+pub mod SubmissionHeads
+pub mod ItemFronts
+pub mod NextItems
+pub mod LastNames
+pub mod SaidItems
+pub mod OneReading
+pub mod SubmissionLines
+pub mod FoundItems
+pub mod WorkedSubmissions

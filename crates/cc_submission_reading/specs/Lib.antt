@@ -1,0 +1,5 @@
+pub mod Submitting
+pub mod HeadReading
+pub mod SubmissionReading
+pub mod SubmissionReadingLaws
+pub mod SubmissionExamples

@@ -1,0 +1,6 @@
+mod ClaimedBytes
+mod DifferentBinds
+mod KnownDefinitions
+mod OwnSpots
+mod SignedBinds
+mod StandingOutcomes

@@ -1,0 +1,4 @@
+pub mod BindViews
+pub mod KnownOutcomes
+pub mod OutcomeLaws
+pub mod VouchViews

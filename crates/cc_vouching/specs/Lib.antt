@@ -1,0 +1,6 @@
+pub mod Submissions
+pub mod VouchedDefinitions
+pub mod ClaimedOutcomes
+pub mod VouchedModules
+pub mod VouchingReplies
+pub mod VouchingLaws

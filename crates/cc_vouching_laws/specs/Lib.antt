@@ -1,0 +1,5 @@
+pub mod Completeness
+pub mod FilledRightLaws
+pub mod Orders
+pub mod SignatureLaws
+pub mod SubmissionLaws

@@ -1,0 +1,3 @@
+mod ComputedReplies
+mod WorkedReasons
+mod WorkedVouching

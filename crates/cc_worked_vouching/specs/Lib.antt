@@ -1,0 +1,2 @@
+pub mod SubmittedTexts
+pub mod VouchingExamples
