@@ -1,19 +1,21 @@
 """Measures certificates that are dear to read or to judge, each at its full size and at half of it.
 
 For each it prints the processor's time of `certify` in milliseconds at half the size and at the full one, the start of
-the process among it, what the one is to the other, and the greatest memory in megabytes. It fails where an answer is
-another one, and where a full size takes more than its bar.
+the process among it, what the one is to the other, and the greatest memory in megabytes. Binds whose names have one hash
+stand beside as many others. It fails where an answer is another one, where a full size takes more than its bar, and where
+names of one hash take more than one and a half times as long as others. All run on a stack of 512 KB.
 Usage: certify.py PROGRAM RUNS [WORD ..] for those whose names have one of the words
 """
 import resource
 import sys
 
+import hashing
 import measuring
 
 program, runs, words = sys.argv[1], int(sys.argv[2]), sys.argv[3:]
 failed = False
-# What walks over terms and types has this stack.
-resource.setrlimit(resource.RLIMIT_STACK, (8 << 20, resource.getrlimit(resource.RLIMIT_STACK)[1]))
+# All of them are judged on a stack of 512 KB.
+resource.setrlimit(resource.RLIMIT_STACK, (512 << 10, resource.getrlimit(resource.RLIMIT_STACK)[1]))
 
 UNIT = 'term unit\n1 t-lit [] : Unit\n'
 
@@ -34,6 +36,11 @@ def all_of(count):
 
 def many_binds(count):
     return binds(count) + UNIT
+
+
+def binds_of(names):
+    """A bind of each name."""
+    return 'cert 1\n' + ''.join('bind %s: Unit\n' % name for name in names) + UNIT
 
 
 def one_set(count):
@@ -184,6 +191,26 @@ def shown(name, make, count, answer, bar):
         failed = True
 
 
+def beside(name, count):
+    """One row of binds whose names have one hash, beside as many others, which take turns."""
+    global failed
+    if words and not any(word in name for word in words):
+        return
+    texts, best = [binds_of(names(count)) for names in (hashing.names_of_one_hash, hashing.other_names)], [None, None]
+    for _ in range(runs):
+        for at, text in enumerate(texts):
+            took, most, _, line = measuring.measured(program, text, 1)
+            best[at] = took if best[at] is None else min(best[at], took)
+            if line != 'valid Unit':
+                print('another answer:', line[:80])
+                failed = True
+    print('%-40s %8d bytes         %7.0f ms  %5.2f times other names  %5.0f MB'
+          % (name, len(texts[0]), best[0], best[0] / best[1], most))
+    if best[0] > 1.5 * best[1]:
+        print('  more than 1.5 times')
+        failed = True
+
+
 def always(line):
     return lambda count: line
 
@@ -191,6 +218,8 @@ def always(line):
 shown('40,000 binds', many_binds, 40000, always('valid Unit'), 300)
 shown('130,000 binds', many_binds, 130000, always('valid Unit'), 600)
 shown('4 MiB of binds', many_binds, 226000, always('valid Unit'), 1000)
+beside('24,000 binds of one hash', 24000)
+beside('4 MiB of binds of one hash', 95000)
 shown('a set of 40,000 names', one_set, 40000, always('valid Unit'), 300)
 shown('40,000 names in four sets', unboxed, 40000, lambda count: 'valid Unit^' + all_of(count), 300)
 shown('40,000 names below nothing', set_without_premises, 40000, always('bad node 1'), 300)

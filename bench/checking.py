@@ -1,10 +1,11 @@
 """Measures the verdicts of the texts that are dearest to judge, each at its full size and at half of it.
 
 For each it prints the processor time in milliseconds, the greatest memory in megabytes, and what each is to that of the
-half. The start of the process is counted too, and memory below that of this program itself is shown as that. It fails
-where a verdict is another one, where a text has more than 65,536 bytes, and where the full size takes more than the
-bar of its text.
-Usage: checking.py PROGRAM RUNS [WORD ..] for the texts whose names have one of the words
+half. The start of the process is counted too, and memory below that of this program itself is shown as that. Where
+another program is named, it prints what that takes for the full size, and how many times that the time is; the two take
+turns. It fails where a verdict is another one, where a text has more than 65,536 bytes, and where the full size takes
+more than the bar of its text.
+Usage: checking.py PROGRAM RUNS [--beside OTHER] [WORD ..] for the texts whose names have one of the words
 """
 import os
 import subprocess
@@ -381,6 +382,67 @@ def results_by_own_values(count):
     return results_by_parameter(0) + ''.join('def d%d=fun(u:Unit^{cap})=>val v=u;f(v)\n' % at for at in range(count))
 
 
+def tree(height):
+    """The type of functions from such a type of one level less to the same."""
+    return '(a:%s)->%s' % (tree(height - 1), tree(height - 1)) if height else 'Unit'
+
+
+def large_value():
+    """A function that gives a value of a type of size 3,593, in which a type of size 511 stands seven times."""
+    takes = ''.join('fun(%s:X)=>' % name for name in 'abcdefg')
+    return 'def t=fun[X<:Any]=>%s1\ndef b=fun(u:Unit)=>t[%s]\n' % (takes, tree(8))
+
+
+def each_of(count, right, head):
+    """So many definitions of functions that each have this body."""
+    return head + ''.join('def d%d=fun(u:Unit)=>%s\n' % (at, right) for at in range(count))
+
+
+def given_again(count):
+    """So many definitions that each give such a value through 95 `val`s."""
+    return each_of(count, 'val a=b;' + 'val a=a;' * 94 + 'a', large_value())
+
+
+def boxed_again(count):
+    """So many definitions that each box such a value and take it out 46 times."""
+    return each_of(count, 'val a=b;' + 'val a=box a;val a=unbox a;' * 46 + 'a', large_value())
+
+
+def called_again(count):
+    """So many definitions that each have 95 calls that give such a value."""
+    return each_of(count, 'val a=b(u);' * 95 + 'a', large_value())
+
+
+def called_again_written(count):
+    """The same, where the value's type has a size of 1,025 and stands in the text."""
+    return each_of(count, 'val a=f(u);' * 95 + 'a', 'def b=fun(x:%s)=>unit\ndef f=fun(u:Unit)=>b\n' % tree(9))
+
+
+def avoided_at_each(count):
+    """So many definitions of 94 `val`s in a row, behind which a large type names the last one, which each of them avoids."""
+    head = 'def v=fun[X<:Any]=>fun(k:(y:%s)->Unit)=>unit\n' % functions(functions('X', 15, 'X'), 25, 'X')
+    vals = 'val c0=c;' + ''.join('val c%d=c%d;' % (at, at - 1) for at in range(1, 94))
+    return head + ''.join('def d%d=fun(c:Unit^{cap})=>%sv[Box[Unit^{c93}]]\n' % (at, vals) for at in range(count))
+
+
+def all_bounds_by_turns(count):
+    """A chain of forty type parameters below a large bound, which are all compared with it by turns, so many times."""
+    bound = functions(functions('Unit', 14, 'Unit'), 64, 'Unit')
+    chain = ''.join('fun[X%d<:X%d]=>' % (at, at - 1) for at in range(1, 40))
+    turns = summed(['(val a=t[X%d];1)' % (at % 40) for at in range(count)])
+    return 'def t=fun[Z<:%s]=>1\ndef f=fun[X0<:%s]=>%sfun(u:Unit)=>%s\n' % (bound, bound, chain, turns)
+
+
+def instances_by_modules(count):
+    """So many modules of 1,600 definitions that each give one of 24 instances of a type function, each of size 1,027 or
+    more."""
+    shapes = ['Int', 'Bool', 'Unit', 'Str', 'Any', 'Console', 'File', 'Counter']
+    shapes = [form % shape for form in ('Box[%s]', 'Exit[%s]', 'Box[Box[%s]]') for shape in shapes]
+    text = 'def t=fun[X<:Any]=>fun(y:%s)=>1\n' % functions(functions('X', 19, 'X'), 25, 'X')
+    text += ''.join('def d%d=fun(u:Unit)=>t[%s]\n' % (at, shapes[at % 24]) for at in range(1600))
+    return [text] * count
+
+
 # Bars: so many milliseconds and so many megabytes.
 CHAIN, COMPARED, KEPT, LARGE, DEAR = (50, 50), (300, 50), (400, 50), (600, 50), (1000, 200)
 
@@ -428,14 +490,22 @@ TEXTS = [
     ('a pair of large types behind definitions', a_pair_behind_definitions, 2050, 2054, DEAR),
     ('large results that name a parameter', results_by_parameter, 56, 58, DEAR),
     ('large results that name own values', results_by_own_values, 1480, 1482, (1000, 300)),
+    ('40 bounds of one large type by turns', all_bounds_by_turns, 2200, 2, (100, 50)),
+    ('values of a large type given again', given_again, 80, 82, DEAR),
+    ('values of a large type boxed again', boxed_again, 50, 52, DEAR),
+    ('calls that give such values', called_again, 58, 60, DEAR),
+    ('the same of a type that stands in the text', called_again_written, 52, 54, DEAR),
+    ('a large type avoided at each val', avoided_at_each, 45, 46, DEAR),
+    ('modules of large instances', instances_by_modules, 4, 1601, None),
 ]
 
 
-def used(program, text, want):
-    """The processor time in seconds and the greatest memory in megabytes of one job that puts and checks the text."""
+def used(program, texts, want):
+    """The processor time in seconds and the greatest memory in megabytes of one job that puts and checks the texts."""
     devices = 'device out console\ndevice hits counter\ndevice log file\n'
+    puts = ''.join('put m%s %d\n%s' % (at or '', text.count('\n'), text) for at, text in enumerate(texts))
     job = subprocess.Popen([program], stdin=subprocess.PIPE, stdout=subprocess.PIPE, stderr=subprocess.STDOUT)
-    job.stdin.write(('capc 1\n%sput m %d\n%scheck\n' % (devices, text.count('\n'), text)).encode())
+    job.stdin.write(('capc 1\n%s%scheck\n' % (devices, puts)).encode())
     job.stdin.close()
     output = job.stdout.read()
     _, _, usage = os.wait4(job.pid, 0)
@@ -444,17 +514,20 @@ def used(program, text, want):
     return usage.ru_utime + usage.ru_stime, usage.ru_maxrss / 1024
 
 
-def measured(words, make, count, accepted):
-    """The shortest time and the greatest memory of the runs on the text of so many."""
-    text = make(count)
-    if len(text) > LIMIT:
-        sys.exit('bench/checking.py: %s: a text of %d bytes' % (words, len(text)))
+def measured(words, make, count, accepted, programs):
+    """The shortest time and the greatest memory of each program on the text, or the texts, of so many, and their size."""
+    texts = make(count)
+    texts = [texts] if isinstance(texts, str) else texts
+    if max(map(len, texts)) > LIMIT:
+        sys.exit('bench/checking.py: %s: a text of %d bytes' % (words, max(map(len, texts))))
     want = accepted + ' 1:' if isinstance(accepted, str) else 'ok\n'
-    runs = [used(program, text, want) for _ in range(int(times))]
-    return min(time for time, _ in runs), max(memory for _, memory in runs), len(text)
+    runs = [[used(each, texts, want) for each in programs] for _ in range(int(times))]
+    return [(min(time for time, _ in one), max(memory for _, memory in one)) for one in zip(*runs)], sum(map(len, texts))
 
 
-program, times, wanted = sys.argv[1], sys.argv[2], sys.argv[3:]
+program, times, wanted, programs = sys.argv[1], sys.argv[2], sys.argv[3:], sys.argv[1:2]
+if wanted[:1] == ['--beside']:
+    programs, wanted = [program, wanted[1]], wanted[2:]
 dear = []
 print('%-42s %6s %6s %9s %5s %8s %5s' % ('text', 'count', 'bytes', 'ms', 'ratio', 'MB', 'ratio'))
 for words, make, count, accepted, bar in TEXTS:
@@ -463,11 +536,12 @@ for words, make, count, accepted, bar in TEXTS:
     half = count // 2
     each = isinstance(accepted, int) and accepted >= count
     rest = accepted - count if each else 0
-    time, memory, size = measured(words, make, count, accepted)
-    half_time, half_memory, _ = measured(words, make, half, half + rest if each else accepted)
-    print('%-42s %6d %6d %9.1f %5.2f %8.1f %5.2f' % (
-        words, count, size, time * 1000, time / half_time, memory, memory / half_memory), flush=True)
-    if time * 1000 > bar[0] or memory > bar[1]:
+    ((time, memory), *others), size = measured(words, make, count, accepted, programs)
+    ((half_time, half_memory),), _ = measured(words, make, half, half + rest if each else accepted, programs[:1])
+    beside = ''.join('  %.2f times %.1f ms, %.0f MB' % (time / other, other * 1000, much) for other, much in others)
+    print('%-42s %6d %6d %9.1f %5.2f %8.1f %5.2f%s' % (
+        words, count, size, time * 1000, time / half_time, memory, memory / half_memory, beside), flush=True)
+    if bar and (time * 1000 > bar[0] or memory > bar[1]):
         dear.append('%s (more than %d ms or %d MB)' % (words, *bar))
 if dear:
     sys.exit('bench/checking.py: too dear: ' + '; '.join(dear))

@@ -16,19 +16,21 @@ set -u
 program=${1:-$(dirname "$0")/../crates/capc/out/capc}
 [ -x "$program" ] || { echo "bench/jobs.sh: there is no program $program: build it first" >&2; exit 1; }
 PYTHONPATH=$(dirname "$0") PYTHONDONTWRITEBYTECODE=1 exec python3 - "$program" "${2:-5}" "${3:-}" <<'PY'
+import re
 import sys
 
+import corpus
 import measuring
 from rows import link, ordinary, put, row
 
 program, runs, other = sys.argv[1], int(sys.argv[2]), sys.argv[3]
-missed = []
+missed, ratios = [], []
 
 
-def measured(job, last, program=program):
-    """The shortest time of the runs in milliseconds, and the memory in MB; the last line of the output has to be this."""
+def measured(job, last, program=program, runs=runs, wanted=0):
+    """The shortest time of the runs in milliseconds, and the memory in MB; the last line of the output is of this form."""
     best, most, status, line = measuring.measured(program, job, runs)
-    if status != 0 or line != last:
+    if status != wanted or not re.fullmatch(last, line):
         sys.exit('bench/jobs.sh: a wrong answer: status %d, last line %r' % (status, line))
     return best, most
 
@@ -46,19 +48,21 @@ def halves(words, job_of, size, last_of, most=None):
         bar(words, whole, most)
 
 
-def against(words, job, last, took):
-    """Measures the other program, if one is named, by which the job may take half of this at least."""
+def against(words, job, last, most=2, wanted=0):
+    """Measures the program and the other one, if one is named, by turns; the job may take so many times what that takes."""
     if other:
-        theirs = measured(job, last, other)[0]
+        turns = [[measured(job, last, each, 1, wanted)[0] for each in (program, other)] for _ in range(runs)]
+        took, theirs = map(min, zip(*turns))
         print('  %.2f times what the other program takes, which is %.1f ms' % (took / theirs, theirs))
-        bar(words, took, 2 * theirs)
+        ratios.append(took / theirs)
+        bar(words, took, most * theirs)
 
 
 def beside(words, job_of, size, last_of):
     """For so many and for half of them, and the first beside the other program."""
     whole, half = (measured(job_of(n), last_of(n))[0] for n in (size, size // 2))
     print('%s: %.1f ms for %d, %.1f ms for half of them' % (words, whole, size, half))
-    against(words, job_of(size), last_of(size), whole)
+    against(words, job_of(size), last_of(size))
 
 
 # modules of 15,000 bytes with comments and 250 definitions, and empty lines up to the greatest length of a job
@@ -73,7 +77,7 @@ def large(modules):
 took, memory = measured(large(256), '  m255 ok')
 half = measured(large(128), '  m127 ok')[0]
 print('a job of %d bytes with 256 modules: %.1f ms, %.1f MB, %.1f ms for half of them' % (len(large(256)), took, memory, half))
-against('a job of 4 MiB', large(256), '  m255 ok', took)
+against('a job of 4 MiB', large(256), '  m255 ok')
 
 halves('modules in a row of imports', lambda n: 'capc 1\n' + row(n) + 'check\n', 256, lambda n: '  m%03d ok' % (n - 1))
 halves('edits of one module with a check behind each',
@@ -126,6 +130,45 @@ before = measured('capc 1\n' + row(200) + 'check\n', '  m199 ok')[0]
 after = measured('capc 1\n' + row(200) + 'check\n' + link(100, 'x + 2') + 'check\n', '  m199 ok')[0]
 print('an edit of one module among 200 in a row, which keeps its signature: %.1f ms more than %.1f ms' % (after - before, before))
 
+
+
+def large_signatures(edits, of_theirs):
+    """64 modules that import 1,100 definitions of functions that give one of a type of size 1,025, and edits of another module,
+    or of the one that they import from."""
+    wide = 'Unit'
+    for _ in range(9):
+        wide = '(a:%s)->%s' % (wide, wide)
+    lines = ['def b0=fun(x:%s)=>unit' % wide] + ['def b%d=fun(u:Unit)=>b%d' % (i, i - 1) for i in range(1, 1101)]
+    texts = put('a', lines) + ''.join(put('k%02d' % k, ['import a.b%d' % i for i in range(1100)]) for k in range(64))
+    one = (lambda i: put('a', lines + ['def z=%d' % i])) if of_theirs else (lambda i: put('e', ['def f=%d' % i]))
+    return 'capc 1\n' + texts + 'check\n' + ''.join(one(i) + 'check\n' for i in range(edits))
+
+
+for words, of_theirs, most in (('another', False, 200), ('that', True, 1000)):
+    took, memory = measured(large_signatures(2, of_theirs), '  k63 ok')
+    print('imports of large signatures, and two edits of %s module: %.1f ms, %.1f MB' % (words, took, memory))
+    bar('imports of large signatures', took, most)
+
+
+def all_behind(edits):
+    """200 modules of 9,000 bytes, all of which import from the first, and edits of that, which change its signatures."""
+    first = [put('m000', ['def f%d = fun (x: Int) => %s' % (i, body) for i in range(150)])
+             for body in ('out.print(x)', 'val n = hits.tick(); out.print(n)')]
+    texts = ''
+    for number in range(1, 200):
+        lines = ['import m000.f%d' % i for i in range(40)]
+        lines += ['def d%dx%d = fun (x: Int) => val y = f%d(x + %d); f%d(x) // %s'
+                  % (number, i, i % 40, i, (i + 1) % 40, 'x' * 30) for i in range(100)]
+        texts += put('m%03d' % number, lines)
+    return ('capc 1\ndevice out console\ndevice hits counter\n' + first[0] + texts + 'check\n'
+            + ''.join(first[(edit + 1) % 2] + 'check\n' for edit in range(edits)))
+
+
+first, memory = measured(all_behind(0), '  m199 ok')
+changed, most_memory = measured(all_behind(4), '  m199 ok')
+print('a job of %d bytes, all of whose modules import from one: %.1f ms, %.1f MB' % (len(all_behind(0)), first, memory))
+print('an edit of that one with a check: %.1f ms, %.1f MB' % ((changed - first) / 4, most_memory))
+
 devices = 'capc 1\ndevice out console\ndevice keys file 1 2 3\ndevice hits counter\n'
 for parts, size in ((3, '5,000'), (9, '15,000')):
     beside('modules of %s bytes' % size, lambda n: devices + ordinary(n, parts) + 'check\n', 256,
@@ -136,6 +179,17 @@ beside('functions that each call the one before it',
        lambda n: devices + put('m', ['def f0 = fun (x: Int) => out.print(x)']
                                + ['def f%d=fun(x:Int)=>f%d(x)' % (i + 1, i) for i in range(n)]) + 'check\n',
        1700, lambda n: '  m ok')
+(job, last), (edited, _) = corpus.checked(200), corpus.edited(200, 100)
+print('a corpus of 200 modules, %d bytes: %.1f ms, %.1f MB' % (len(job), *measured(job, '  %s ok' % last)))
+against('a corpus of 200 modules', job, '  %s ok' % last)
+print('the same with 100 edits: %.1f ms, %.1f MB' % measured(edited, '  %s ok' % last, wanted=1))
+against('100 edits of a corpus', edited, '  %s ok' % last, wanted=1)
+job, last = corpus.run(200, 40), r'  (done unit|out of fuel) after \d+ steps'
+print('the same with 40 runs: %.1f ms, %.1f MB' % measured(job, last, wanted=1))
+against('40 runs of a corpus', job, last, wanted=1)
+if other:
+    print('ordinary jobs take %.2f times what they take by the other program in the middle, and %.2f times at most'
+          % (sorted(ratios)[len(ratios) // 2], max(ratios)))
 if missed:
     sys.exit('bench/jobs.sh: too slow:\n' + '\n'.join('  ' + line for line in missed))
 PY

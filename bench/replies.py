@@ -1,12 +1,12 @@
 """Measures jobs that run, link, derive, audit and guard, each at its full size and at half of it.
 
-Usage: replies.py PROGRAM RUNS
+Usage: replies.py PROGRAM RUNS [OTHER]
 """
 import sys
 
 import measuring
 
-program, runs = sys.argv[1], int(sys.argv[2])
+program, runs, other = sys.argv[1], int(sys.argv[2]), sys.argv[3] if len(sys.argv) > 3 else ''
 failed = False
 
 
@@ -83,6 +83,60 @@ def wide(count):
             lines += ['def %s = fun (u: Unit) => f%d_0(1)' % (name, k) for name in ('main', 'twin')]
         job += 'put m%d %d\n%s\n' % (k, len(lines), '\n'.join(lines))
     return job + 'check\n'
+
+
+def behind_row(count, definitions):
+    """So many modules in a row, each with so many definitions that call its first one, and one module before them all."""
+    job = 'capc 1\ndevice out console\n'
+    for k in range(count):
+        lines = ['import m%d.z%d' % (k - 1, k - 1)] if k else []
+        lines.append('def z%d = fun (x: Int) => %s' % (k, 'z%d(x)' % (k - 1) if k else 'x + 1'))
+        lines += ['def a%d = fun (x: Int) => z%d(x) * %d + x' % (i, k, i) for i in range(definitions)]
+        job += 'put m%d %d\n%s\n' % (k, len(lines), '\n'.join(lines))
+    return job + 'put app 2\nimport m%d.z%d\ndef main = fun (u: Unit) => z%d(1)\n' % (count - 1, count - 1, count - 1)
+
+
+# A million steps of many kinds: sums, choices, calls, boxes, type functions and functions that are made.
+MIXED = ('''def same = fun [X <: Any] => fun (x: X) => x
+def near = fun (n: Int) => if [Int] n < 700 then n * 3 - 2 else n - 11
+def rec walk: (n: Int) -> Int = fun (n: Int) =>
+  val one = near(n);
+  val kept = box near;
+  val again = unbox kept;
+  val two = again(one);
+  val more = fun (k: Int) => k + one;
+  val all = same[Int];
+  val three = all(more(two));
+  if [Int] one < three then walk(n + 1) else walk(n - 2)
+def main = fun (u: Unit) => walk(1)
+''')
+CALLS = '''def rec walk: (n: Int) -> Int = fun (n: Int) => walk(n)
+def main = fun (u: Unit) => walk(1)
+'''
+
+
+def million(text):
+    """A run of a million steps of the text's `main`."""
+    return 'capc 1\nput m %d\n%srun m.main 1000000\n' % (text.count('\n'), text), 'out of fuel after 1000000 steps'
+
+
+def interleaved():
+    """Eight tasks that print, for a million steps in all."""
+    text, _ = repeating(60000, 'out.print(i)')
+    return '%stasks 1000000 0,1,2,3,4,5,6,7%s\n' % (text, ' m.main' * 8), 'steps'
+
+
+# Commands that ask for a definition of a module, with what the last line of the reply ends with.
+EIGHT = 'tasks 1000 0,1,2,3,4,5,6,7%s\n' % (' app.main' * 8)
+COMMANDS = [('run app.main 10\n', 'steps'), ('audit app.main\n', 'audit app.main'),
+            ('policy 1\nallow * *\nguard app.main 10\n', 'steps'), ('explain app.main\n', 'explain app.main'),
+            ('replay app.main 10 0\n', 'differs at line 1'), ('tasks 10 0,1 app.main app.main\n', 'steps'),
+            ('derive app.main\n', ': (_0: Unit) -> Int'), ('sig app\n', 'main: (_0: Unit) -> Int')]
+
+
+def filled(line, size=4194304):
+    """A job of so many bytes that is full of one command."""
+    return 'capc 1\n' + line * ((size - 7) // len(line))
 
 
 def derived(levels):
@@ -170,6 +224,40 @@ def long_chain(count):
     return 'capc 1\ndevice out console\nput %s %d\n%s\nexplain %s.f%d\n' % (name, len(lines), '\n'.join(lines), name, count), '.f0 out'
 
 
+def against(name, job, last, most=None):
+    """One row of a job by the program and by the other one, if one is named, which take turns; the first may take so many
+    times what the other one takes, if that is said."""
+    global failed
+    best = {}
+    for _ in range(runs):
+        for each in [program, other] if other else [program]:
+            took, _, _, line = measuring.measured(each, job, 1)
+            best[each] = min(took, best.get(each, took))
+            if not line.endswith(last):
+                print('another answer:', line[:100])
+                failed = True
+    print('%-52s         %7.0f ms' % (name, best[program])
+          + ('  %5.2f times %.0f ms' % (best[program] / best[other], best[other]) if other else ''))
+    if other and most and best[program] > most * best[other]:
+        print('  more than %.2f times' % most)
+        failed = True
+
+
+def again(command, last, most):
+    """What 2,000 of a command take behind one, beside 192 modules of 40 definitions: the time of one is within so many
+    microseconds."""
+    global failed
+    modules = behind_row(192, 40)
+    base, _ = measured(modules + command, last)
+    took, memory = measured(modules + command * 2001, last)
+    each = (took - base) / 2
+    name = 'again beside 192 modules: ' + command.strip().split('\n')[-1]
+    print('%-52s         %7.1f us         %6.0f MB' % (name, each, memory))
+    if each > most:
+        print('  more than %d us' % most)
+        failed = True
+
+
 def held(name, job, last):
     """One row of a reply that is large beside its job: its time, and whether its memory is within 64 MB."""
     global failed
@@ -190,6 +278,26 @@ shown('a derivation of 57,330 nodes', derived(11), derived(12), 200)
 shown('a derivation of more than 2^46 nodes', refused(22), refused(45), 150)
 shown('1,400 policies of 256 rules, audits and guards', policies(700), policies(1400), 800)
 shown('320,000 audits of 16 devices by 256 rules', audits(160000), audits(320000), 12000)
+against('a million steps of many kinds', *million(MIXED))
+against('a million steps of calls', *million(CALLS))
+against('332,000 prints', ''.join(repeating(332000, 'out.print(i)')), 'after 996004 steps')
+against('eight tasks that print', *interleaved())
+for line, last in [('check\n', 'check'), ('drop a\n', 'drop a refused E32'), ('put a 0\n', 'put a')]:
+    against('4 MiB of %s' % line.strip(), filled(line), last, 2)
+for line, last in [('run a.b 1\n', 'run a.b refused E32'), ('tasks 1 0 a.b\n', 'tasks refused E32 a.b'),
+                   ('policy 256\n' + 'deny a b\n' * 256, 'policy 256'), ('verify 1\nx\n', 'bad line 1')]:
+    shown('4 MiB of %s' % line.split('\n')[0], measured(filled(line, 2097152), last), measured(filled(line), last), 1000)
+rows = behind_row(48, 60)
+for command, last in COMMANDS:
+    shown('240 times %s beside 48 modules' % command.strip().split('\n')[-1], measured(rows + command * 120, last),
+          measured(rows + command * 240, last), 100)
+for command, last in COMMANDS:
+    again(command, last, 50)
+took, most = measured(behind_row(192, 40) + EIGHT, 'steps')
+print('%-52s         %7.0f ms         %6.0f MB' % ('8 tasks beside 192 modules of 40 definitions', took, most))
+if most > 100:
+    print('  more than 100 MB')
+    failed = True
 base = measured(wide(128), ' ok')[0], measured(wide(256), ' ok')[0]
 shown('linking 256 modules of 200 definitions',
       measured(wide(128) + 'run m127.main 2000\n', 'after 130 steps'),
