@@ -11,7 +11,8 @@
 - In a row of docs/rules.md that has one link to a file, the names between backticks before it stand in that file.
 - docs/codes.md has a row for each code of the programs, and no others, and names each message of `capc` and `certify`;
   docs/conversation.md names each of `capi`.
-- Each clause and function that docs/proved.md and README.md name in a row stands in a file or crate that the row names.
+- Each clause and function that README.md names in a row, and docs/proved.md in what carries a claim, stands in a file
+  or crate that is named there; and each claim of docs/proved.md is carried by something.
 Usage: .ci/pages.py
 Prints a line for each place that is wrong, and ends with 1 where there is one.
 """
@@ -25,7 +26,7 @@ PATH = re.compile(r"^[\w.-]+(?:/[\w.-]+)*/?$")
 ENDINGS = (".antt", ".rt", ".md", ".sh", ".py", ".job", ".cert", ".edit", ".txt", ".c")
 # what is built, and what is in many crates
 BUILT = re.compile(r"(?:^|/)out/")
-OF_MANY = ("src/", "specs/", "proofs/", "must-fail/", "Answers.antt", "Invariants.antt")
+OF_MANY = ("src/", "specs/", "proofs/", "must-fail/", "Answers.antt", "Invariants.antt", "Lib.antt", "proofs/Lib.antt")
 PLACEHOLDER = re.compile(r"(?:^|/)[A-Z_]{2,}(?:[/.]|$)")
 failures = []
 
@@ -177,12 +178,13 @@ def check_tables():
 
 
 def check_clauses(page):
-    """The names in the last cell of a row stand in the code or the definitions of the crates that the row names."""
+    """The names in the last cell of a row, or in a line of what a claim is carried by, stand in the code or the
+    definitions of the crates that the row or line names."""
     texts = {}
     for number, line in enumerate(read(page).split("\n"), 1):
-        if not re.match(r"\| .* \| .*`.* \|$", line):
+        if not re.match(r"\| .* \| .*`.* \|$|Carried by ", line):
             continue
-        cell = line.rsplit(" | ", 1)[1]
+        cell = line.rsplit(" | ", 1)[-1]
         for name in re.findall(r"`([a-zA-Z_:]+)`", cell):
             if is_path(name) or name in CRATES or name in ("specs", "src"):
                 continue
@@ -194,6 +196,14 @@ def check_clauses(page):
                 found = found or all(has_name(part, texts[crate]) for part in name.split("::"))
             if not found:
                 fail(page, number, f"no {name} in {', '.join(crates_in(line))}")
+
+
+def check_claims():
+    """Each section of docs/proved.md that has a claim ends with the line of what carries it."""
+    page = "docs/proved.md"
+    for title, text in re.findall(r"^### (.*)\n((?:(?!#).*\n)*)", read(page), re.M):
+        if not re.match(r"Carried by .*\.$", text.rstrip().split("\n")[-1]):
+            fail(page, 1, f"nothing carries the claim: {title}")
 
 
 def check_codes():
@@ -220,6 +230,7 @@ def main():
     check_tables()
     check_crates()
     check_codes()
+    check_claims()
     check_clauses("docs/proved.md")
     check_clauses("README.md")
     for failure in failures:

@@ -29,6 +29,13 @@ CERTIFY = ("crates/certify/src/run.rt", "certify")
 CAPI = ("crates/capi/src/run.rt", "capi")
 NAME = r"[^\s(){}\[\],;.]+"
 NAME_OF_PATH = r"[^\s(){}\[\],;.:]+"
+# The tiers in which the contract of `capc` can be read: the name of the text of docs/statement, what it says, and what is
+# stated: an item of a file of definitions, or clauses of a function, or all of them. Each is one text, which .ci/statement.py writes.
+TIERS = (
+    ("typed", "Programs of typed modules run safely together, whoever takes the next turn", ("crates/cc_sound_laws/specs/RunningTogether.antt", "ProgramsRunTogether")),
+    ("sound", "The clause `sound`: which texts are modules that are accepted, by their types, and that their programs run so", (*CAPC, ("sound",))),
+    ("call", "The contract of `capc`: what is read and written", (*CAPC, None)),
+)
 # functions of which a law says, of each value, that they give it exactly where a relation holds of it: the function, the law
 # with the file that has both, and the file whose function has the law as its contract
 DETERMINED = {
@@ -494,6 +501,28 @@ def of_clauses(path, function, clauses=None):
     return reading
 
 
+def of_tier(stated):
+    """What the statement of a tier rests on."""
+    if len(stated) == 3:
+        return of_clauses(*stated)
+    reading = Reading()
+    reading.reach(*stated, stated)
+    reading.go()
+    return reading
+
+
+def rows_of_tiers():
+    """A row for each tier: what it says, its lines, and its text."""
+    for name, words, stated in TIERS:
+        reading = of_tier(stated)
+        of_specs, of_types = sum(map(reading.lines_reached, reading.specs())), reading.lines_of_types()
+        where = f"`{stated[1]}` of `{stated[0]}`" if len(stated) == 2 else f"`{stated[0]}`"
+        yield (
+            f"| {words} | {where} | {of_specs:,} in {len(reading.specs())} files | {of_types} | {count_of_names(reading)} "
+            f"| [{name}](statement/{name}.antt.txt) |"
+        )
+
+
 def cited_laws():
     """The files of laws that docs/proved.md cites; a path without a crate is one of the crate before it."""
     found = []
@@ -581,11 +610,23 @@ def page():
         "where a law says that it gives exactly what a relation holds of, which is then read in its place: "
         + "; ".join(f"`{name}` by the law `{law}` (`{path}`)" for (path, name), (law, _) in DETERMINED.items()) + ".",
         "",
+        "## Three tiers",
+        "",
+        "The contract can be read in three tiers, of which each says more than the one before it. The first is about modules that are "
+        "typed, whoever typed them, and wants no grammar: [theorem.md](theorem.md) says what it states and compares it with what is proved "
+        "of the calculus. Each stands as one text, each file of definitions behind those whose items it names, with the items that are "
+        "reached and no others; names of rules are those of the calculus ([rules.md](rules.md) finds them). Lines are those of "
+        "definitions, with their comments and without blank ones; types of the program stand in the texts too.",
+        "",
+        "| What it says | Stated in | Lines | Of types | Of the library | As one text |",
+        "|---|---|---|---|---|---|",
+        *rows_of_tiers(),
+        "",
         "## The contract of `capc`",
         "",
-        f"It rests on {counted(capc, of_capc)}; here they stand by the layers of `crates.txt`. The clause `sound` says of every job what "
-        f"its modules deserve and what their runs do, and rests on {counted(sound, sound.specs())}. The clauses `call` and `words` say "
-        "what is read and written.",
+        f"It rests on {counted(capc, of_capc)}; here they stand by the layers of `crates.txt`. The clause `sound` says of any "
+        f"modules which are accepted and what the programs of these do, and rests on {counted(sound, sound.specs())}. The clauses "
+        "`verdicts` and `entries` say that what `call` names so are these, and the clauses `call` and `words` what is read and written.",
         *table(of_capc, row(capc), head),
         "",
         "## The contract of `certify`",

@@ -164,7 +164,7 @@ def test_paths(copy):
         own = f"crates/cc_base/src/moved_{way}.rt"
         copy.write(own, "pub const MOVED: usize = 3;\n\npub struct Moved {\n    pub line: u32,\n}\n")
         copy.write("crates/cc_base/src/code.rt", use + text.replace(diag, diag + field))
-        check(is_listed(of_sound(), own), f"a type that is named thus is not listed: {use}{field}")
+        check(is_listed(of_contract(), own), f"a type that is named thus is not listed: {use}{field}")
     copy.restore()
 
     # in the view of a type, and in a clause
@@ -182,7 +182,7 @@ def test_paths(copy):
         own = f"crates/cc_base/src/moved_{way}.rt"
         copy.write(own, "pub enum Moved {\n    First,\n}\n")
         copy.write("crates/cc_base/src/text.rt", text.replace(view, use + view.replace("List ℕ", f"List ({named})")))
-        check(is_listed(of_sound(), own), f"a type that a view names thus is not listed: {use}{named}")
+        check(is_listed(of_contract(), own), f"a type that a view names thus is not listed: {use}{named}")
     copy.restore()
 
     run = copy.read(reading.CAPC[0])
@@ -215,8 +215,8 @@ def test_paths(copy):
     copy.restore()
 
 
-def of_sound():
-    return reading.of_clauses(*reading.CAPC, {"sound"})
+def of_contract():
+    return reading.of_clauses(*reading.CAPC)
 
 
 def test_laws(copy):
@@ -277,12 +277,12 @@ def test_laws(copy):
 
 def test_counts(copy):
     """Lines of types and names of the library."""
-    lines = of_sound().lines_of_types()
+    lines = of_contract().lines_of_types()
     copy.change("crates/cc_base/src/device.rt", "    Counter,\n}", "    Counter,\n    Clock,\n}")
-    check(of_sound().lines_of_types() == lines + 1, "a variant more is no line more of the types")
+    check(of_contract().lines_of_types() == lines + 1, "a variant more is no line more of the types")
     copy.restore()
     copy.change("crates/cc_base/src/text.rt", "ghost use Rattle.std.specs.Prelude.{List, ℕ};", "ghost use Rattle.std.specs.Another.{List, ℕ};")
-    after = of_sound()
+    after = reading.of_clauses(*reading.CAPC)
     check(after.library.get("Rattle.std.specs.Another") == {"List", "ℕ"}, "names of the library are not told by their module")
     copy.restore()
 
