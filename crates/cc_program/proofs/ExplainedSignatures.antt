@@ -13,7 +13,8 @@ use Rattle.cc_verdicts.specs.PresentTexts.{Texts, ArePresent, AreVerdicts}
 use Rattle.cc_verdicts.specs.StandingDefinitions.{Standing, standing_in}
 use Rattle.cc_replies.specs.ExplainReplies.{Explains, AreExplained}
 use Rattle.cc_replies.specs.ReplyTexts.{Explanation}
-use Rattle.cc_program.specs.ExplainedSignatures.{HasLine, ExplainsSignature}
+use Rattle.cc_program.specs.ExplainedSignatures.{ExplainsSignature}
+use Rattle.cc_program.specs.TrueReplies.{HasLine, ExplainSet}
 
 some_same : (a b : Elem) → Some a ≡ Some b → a ≡ b
 some_same a b h = cc
@@ -52,6 +53,24 @@ module _ (entry : Target → List Target) (from : Target) where
       (subst (λ es. Contains es one) same among)
 
 -- the explanations of a definition where it stands explain its signature
+pub set_explained : (devices : List DeviceDecl) (texts : Texts) → NamesOfDevicesDiffer devices → ArePresent texts
+    → (verdicts : List ℕ → ModuleVerdict) → AreVerdicts devices texts verdicts
+    → (module_name name : List ℕ) (it : Standing) → standing_in texts verdicts module_name name ≡ Ok it
+    → (explanations : List Explanation)
+    → AreExplained (entry_in devices texts verdicts) (DefinitionOf module_name name) it.definition.accepted.signature.set.list explanations
+    → ExplainSet devices texts verdicts module_name name it explanations
+set_explained devices texts differ sorted verdicts are module_name name it stands explanations explained =
+    let entry = entry_in devices texts verdicts in
+    let from = DefinitionOf module_name name in
+    let set = it.definition.accepted.signature.set in
+    record {
+      lines = λ e. (
+        λ member. has_line entry from set.list explanations explained e ((Member-list e set).0 member),
+        λ line. (Member-list e set).1 (is_listed entry from set.list explanations explained line.0 line.1 e line.2.is_element),
+      );
+      chains = λ e. elements_are_linked devices texts verdicts differ sorted are module_name name it stands e;
+    }
+
 pub explains_at : (devices : List DeviceDecl) (texts : Texts) → NamesOfDevicesDiffer devices → ArePresent texts
     → (verdicts : List ℕ → ModuleVerdict) → AreVerdicts devices texts verdicts
     → (module_name name : List ℕ) (it : Standing) → standing_in texts verdicts module_name name ≡ Ok it
@@ -59,17 +78,5 @@ pub explains_at : (devices : List DeviceDecl) (texts : Texts) → NamesOfDevices
     → AreExplained (entry_in devices texts verdicts) (DefinitionOf module_name name) it.definition.accepted.signature.set.list explanations
     → ExplainsSignature devices texts module_name name explanations
 explains_at devices texts differ sorted verdicts are module_name name it stands explanations explained =
-    let entry = entry_in devices texts verdicts in
-    let from = DefinitionOf module_name name in
-    let set = it.definition.accepted.signature.set in
-    record {
-      verdicts = verdicts;
-      are = are;
-      it = it;
-      stands = stands;
-      lines = λ e. (
-        λ member. has_line entry from set.list explanations explained e ((Member-list e set).0 member),
-        λ line. (Member-list e set).1 (is_listed entry from set.list explanations explained line.0 line.1 e line.2.is_element),
-      );
-      chains = λ e. elements_are_linked devices texts verdicts differ sorted are module_name name it stands e;
-    }
+    let set = set_explained devices texts differ sorted verdicts are module_name name it stands explanations explained in
+    record { verdicts = verdicts; are = are; it = it; stands = stands; lines = set.lines; chains = set.chains }

@@ -24,7 +24,7 @@ use Rattle.cc_program.specs.GuardedRuns.{IsShownGuardedRun, IsNotPermitted}
 use Rattle.cc_program.proofs.SoundJobs.{entry_shown}
 
 -- what holds of all of a list holds of each that is listed
-all_listed : (P : ℕ → Type 0) (numbers : List ℕ) (number : ℕ) → AllByRecursion P numbers → IsListed number numbers → P number
+pub all_listed : (P : ℕ → Type 0) (numbers : List ℕ) (number : ℕ) → AllByRecursion P numbers → IsListed number numbers → P number
 all_listed P [] number all listed = absurd listed
 all_listed P (first ∷ others) number all (inl same) = subst P (sym same) all.0
 all_listed P (first ∷ others) number all (inr later) = all_listed P others number all.1 later

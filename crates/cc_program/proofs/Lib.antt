@@ -9,6 +9,7 @@ mod ExplainedSignatures
 mod ReplayedRuns
 mod VerifiedTexts
 mod SoundReplies
+mod TrueReplies
 mod UniqueAnswers
 mod CallsInBytes
 mod EndingsInWords

@@ -8,7 +8,6 @@ use Rattle.cc_replies.specs.Outputs.{IsOutput}
 use Rattle.cc_replies.specs.Requests.{no_module}
 use Rattle.cc_answers.specs.Carried.{AreAnswered}
 use Rattle.cc_program.specs.Outcome.{Ends, ReadsJob, IsCarriedOut, IsCutOff}
-use Rattle.cc_program.proofs.SoundReplies.{every_output_is_sound}
 use Rattle.cc_answers.specs.Requests.{requests_of}
 
 module _ (before after : Ends) (job : Job) (read : ReadsJob before after job) where
@@ -19,7 +18,6 @@ module _ (before after : Ends) (job : Job) (read : ReadsJob before after job) wh
     read = read;
     text = answered.text;
     output = subst (IsOutput job.devices no_module (requests_of job) answered.text) (sym answered.answer) answered.output;
-    sound = every_output_is_sound read.bytes job read.is_job answered.text answered.refused answered.output;
     written = answered.written;
     no_fault = no_fault;
     judges = record { sum = answered.sum; stale = answered.stale; few = answered.few };
@@ -39,7 +37,6 @@ module _ (before after : Ends) (job : Job) (read : ReadsJob before after job) wh
     text = answered.text;
     refused = answered.refused;
     output = answered.output;
-    sound = every_output_is_sound read.bytes job read.is_job answered.text answered.refused answered.output;
     written = front error answered;
     judges = record { sum = answered.sum; stale = answered.stale; few = answered.few };
   }

@@ -57,6 +57,7 @@ use Rattle.cc_replies.specs.RunReplies.{declared_run, HasEntry, IsRunAnswer}
 use Rattle.cc_words.specs.Lines.{Line, lines_of}
 use Rattle.cc_words.specs.Words.{has_64_bits}
 use Rattle.cc_program.specs.ReplayedRuns.{IsSafeTraceOf, DiffersFirst, ShownRunsAreReplayed}
+use Rattle.cc_program.specs.TrueReplies.{IsSafeTrace}
 
 -- the program of an entry of present texts starts soundly
 module _ (devices : List DeviceDecl) (texts : Texts) (differ : NamesOfDevicesDiffer devices) (sorted : ArePresent texts)
@@ -71,25 +72,40 @@ module _ (devices : List DeviceDecl) (texts : Texts) (differ : NamesOfDevicesDif
       (program_starts (program_entry entry) is_entry (declared_devices devices)
       ((present_files_are_sound devices texts differ sorted).declared ∙ sym entered.shapes)).sound
 
-  pub safe_trace : (fuel : ℕ) (text : List ℕ)
+  -- lines that agree are the trace of a safe run
+  pub trace_kept : (fuel : ℕ) (text : List ℕ)
       → replay (device_names devices) fuel (program_start (program_entry entry)) (lines_of text) ≡ Agrees
-      → IsSafeTraceOf devices texts module_name name fuel text
-  safe_trace fuel text agrees =
+      → IsSafeTrace devices entry fuel (lines_of text)
+  trace_kept fuel text agrees =
       let kept = agreeing_traces_keep_the_authority (program_entry entry) is_entry (device_names devices) fuel (lines_of text) agrees in
       let (it, is_trace, authority, scopes, not_stopped) = kept in
       let safe = (agreeing_traces_are_safe (device_names devices) fuel (program_start (program_entry entry)) (lines_of text)
       starts_soundly.configuration agrees).2 in
       record {
+        it = it;
+        is_trace = is_trace;
+        operates = authority;
+        scoped = scopes;
+        never_stuck = safe.never_stuck;
+        not_stopped = not_stopped;
+      }
+
+  pub safe_trace : (fuel : ℕ) (text : List ℕ)
+      → replay (device_names devices) fuel (program_start (program_entry entry)) (lines_of text) ≡ Agrees
+      → IsSafeTraceOf devices texts module_name name fuel text
+  safe_trace fuel text agrees =
+      let kept = trace_kept fuel text agrees in
+      record {
         verdicts = verdicts;
         are = are;
         entry = entry;
         of_definition = (started, starts, entered);
-        it = it;
-        is_trace = is_trace;
-        authority = authority;
-        scopes = scopes;
-        never_stuck = safe.never_stuck;
-        not_stopped = not_stopped;
+        it = kept.it;
+        is_trace = kept.is_trace;
+        authority = kept.operates;
+        scopes = kept.scoped;
+        never_stuck = kept.never_stuck;
+        not_stopped = kept.not_stopped;
       }
 
 -- what differs first

@@ -74,7 +74,7 @@ module _ (devices : List DeviceDecl) (texts : Texts) (differ : NamesOfDevicesDif
     safe = files.runs entry (as_present devices texts verdicts are module_name name entry has) (declared_devices devices) files.declared fuel;
   }
 
-  all_present : (tasks : List (List ℕ × List ℕ)) (entries : List CheckedEntry) → HaveEntries devices texts verdicts tasks entries
+  pub all_present : (tasks : List (List ℕ × List ℕ)) (entries : List CheckedEntry) → HaveEntries devices texts verdicts tasks entries
       → AllByRecursion (IsPresentEntry devices texts) entries
   all_present [] entries have = subst (AllByRecursion (IsPresentEntry devices texts)) (sym have) tt
   all_present (first ∷ others) entries have =

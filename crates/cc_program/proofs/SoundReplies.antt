@@ -61,7 +61,8 @@ use Rattle.cc_program.specs.ExplainedSignatures.{ExplainedSignaturesAreExplained
 use Rattle.cc_program.specs.GuardedRuns.{ShownGuardedRunsArePermitted, IsNotPermitted, RefusedEntriesAreNotPermitted}
 use Rattle.cc_program.specs.ReplayedRuns.{AgreeingTracesKeepTheAuthority, DiffersFirst, DifferencesAreFirst}
 use Rattle.cc_program.specs.SoundJobs.{NamesDefinition, ShownRunsAreSafe, ShownTasksAreSafe}
-use Rattle.cc_program.specs.SoundReplies.{IsShownDefinition, IsShownRefusal, SaysOfModule, IsNotStarted, IsGuardRefusal, IsDecided, SaysVerdicts, SaysSignatures, SaysDerivation, SaysRun, SaysTasks, SaysAudit, SaysGuarded, SaysExplanation, SaysReplay, SaysFound, Says, IsSoundReply, IsSoundOutput, EveryOutputIsSound}
+use Rattle.cc_program.specs.SoundReplies.{IsShownDefinition, IsShownRefusal, SaysOfModule, IsNotStarted, IsGuardRefusal, SaysVerdicts, SaysSignatures, SaysDerivation, SaysRun, SaysTasks, SaysAudit, SaysGuarded, SaysExplanation, SaysReplay, SaysFound, Says, IsSoundReply, IsSoundOutput, EveryOutputIsSound}
+use Rattle.cc_program.specs.TrueReplies.{IsDecided}
 use Rattle.cc_program.proofs.ExplainedSignatures.{explains_at}
 use Rattle.cc_program.proofs.GuardedRuns.{permitted_shown, not_permitted, not_started_in}
 use Rattle.cc_program.proofs.ReplayedRuns.{safe_trace, first_difference}
@@ -237,7 +238,7 @@ module _ (devices : List DeviceDecl) (state : JobState) (differ : NamesOfDevices
       subst (SaysTasks devices state fuel schedule tasks) (sym same)
       (entries_shown devices state.texts differ sorted verdicts are fuel schedule tasks entries have)
 
-  audit_says : (module_name name : List ℕ) (reply : Reply) (r : Result CheckedDefinition Code)
+  pub audit_says : (module_name name : List ℕ) (reply : Reply) (r : Result CheckedDefinition Code)
       → started_in state.texts verdicts module_name name ≡ r → IsAuditAnswer devices state.rules state.texts verdicts module_name name r reply
       → SaysAudit devices state module_name name reply
   audit_says module_name name reply (Ok started) starts (entry, entered, same) =

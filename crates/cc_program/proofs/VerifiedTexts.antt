@@ -28,6 +28,17 @@ verified_types_are_proved devices state text names type (found, is, says) =
 -- one thing is found of the certificate of a definition that is not too large, and it says the signature's type
 module _ (devices : List DeviceDecl) (texts : Texts) (named : AreNamed devices) (sorted : ArePresent texts)
     (verdicts : List ℕ → ModuleVerdict) (are : AreVerdicts devices texts verdicts) where
+  pub proved_at : (module_name name : List ℕ) (it : Standing) → standing_in texts verdicts module_name name ≡ Ok it
+      → nat_le (derivation_size devices it) 100000 ≡ true
+      → IsFound
+      (lines_text (definition_certificate_lines (standing_names devices it) (standing_context devices it) it.definition.accepted))
+      (ProvesType (standing_names devices it) it.definition.accepted.signature)
+  proved_at module_name name it stands small =
+      (named_prove devices texts verdicts module_name name it named sorted are stands (small_enough (derivation_size devices it) small)).found.is_found
+    where
+      small_enough : (n : ℕ) → nat_le n 100000 ≡ true → n ≤ 100000
+      small_enough n h = grind (arith, nat_tests)
+
   pub valid_at : (module_name name : List ℕ) (it : Standing) → standing_in texts verdicts module_name name ≡ Ok it
       → nat_le (derivation_size devices it) 100000 ≡ true → (found : Found)
       → IsFound
@@ -47,11 +58,11 @@ module _ (devices : List DeviceDecl) (texts : Texts) (named : AreNamed devices) 
       small_enough n h = grind (arith, nat_tests)
 
 -- the certificate is shown, since it is not too large
-record IsShown (b : Bool) (lines told : List (List ℕ)) : Type 0 where
-  small : b ≡ true
-  lines_are : lines ≡ told
+pub record IsShown (b : Bool) (lines told : List (List ℕ)) : Type 0 where
+  pub small : b ≡ true
+  pub lines_are : lines ≡ told
 
-is_shown : (b : Bool) (owner definition m n : List ℕ) (lines told : List (List ℕ))
+pub is_shown : (b : Bool) (owner definition m n : List ℕ) (lines told : List (List ℕ))
     → Derived owner definition lines ≡ (if b then Derived m n told else DerivationRefused m n E36) → IsShown b lines told
 is_shown true owner definition m n lines told e = record { small = refl; lines_are = cc }
 is_shown false owner definition m n lines told e = cc

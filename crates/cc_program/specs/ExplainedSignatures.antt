@@ -1,6 +1,5 @@
 -- What is told of a signature explains it.
 use Rattle.std.specs.Prelude.{◌≡◌, ◌↔◌, ℕ, List, Some, Ok}
-use Rattle.std.specs.List.{Contains}
 use Rattle.cc_base.specs.declared.device.DeviceDecl.{DeviceDecl}
 use Rattle.cc_capture.specs.Sets.{Member}
 use Rattle.cc_capture.specs.declared.var.Elem.{Elem}
@@ -10,16 +9,11 @@ use Rattle.cc_verdicts.specs.ModuleLaws.{NamesOfDevicesDiffer}
 use Rattle.cc_verdicts.specs.ModuleVerdicts.{ModuleVerdict}
 use Rattle.cc_verdicts.specs.PresentTexts.{Texts, ArePresent, AreVerdicts}
 use Rattle.cc_verdicts.specs.StandingDefinitions.{Standing, standing_in}
-use Rattle.cc_replies.specs.ExplainReplies.{Explains}
 use Rattle.cc_replies.specs.Replies.{Replies}
 use Rattle.cc_replies.specs.ReplyTexts.{Explanation, Explained}
 use Rattle.cc_replies.specs.Requests.{JobState, ExplainDefinition, Ask}
 use Rattle.cc_program.specs.SoundJobs.{NamesDefinition}
-
--- There is a line for the element, with the first of the shortest chains that lead to it from another target.
-abbrev pub HasLine : (Target → List Target) → Target → List Explanation → Elem → Type 0
-HasLine entry from explanations element =
-    (one : Explanation) × Contains explanations one × Explains entry from element one
+use Rattle.cc_program.specs.TrueReplies.{HasLine}
 
 -- These are the lines about the outermost set of the signature of a definition of an accepted present module: an element
 -- stands in the set exactly where it has a line, and also exactly where a chain of links leads to it.

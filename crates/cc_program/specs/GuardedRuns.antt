@@ -24,12 +24,7 @@ use Rattle.cc_replies.specs.ReplyTexts.{Guarded, GuardRefused}
 use Rattle.cc_replies.specs.Requests.{JobState, GuardDefinition, Ask}
 use Rattle.cc_replies.specs.RunReplies.{HasEntry}
 use Rattle.cc_program.specs.SoundJobs.{NamesDefinition, IsShownRun}
-
--- the rules allow the module each device that the events operate, where devices have these names
-abbrev pub OperateWhatIsAllowed : List (List ℕ) → List Rule → List ℕ → List Event → Type 0
-OperateWhatIsAllowed names rules module_name events =
-    (device : ℕ) (operation : Op) (literal : Literal) → IsAmong (Operated device operation literal) events
-    → Allows names rules module_name device
+use Rattle.cc_program.specs.TrueReplies.{OperateAllowed}
 
 -- What is shown of a guarded run of the definition of these names, where the rules of the state are in force.
 pub record IsShownGuardedRun (devices : List DeviceDecl) (state : JobState) (module_name name : List ℕ) (fuel : ℕ)
@@ -39,11 +34,11 @@ pub record IsShownGuardedRun (devices : List DeviceDecl) (state : JobState) (mod
   -- the rules allow the module each device of the authority
   pub permitted : AllByRecursion (Allows (device_names devices) state.rules module_name) authority
   -- and each device that is operated in what is shown
-  pub operated : OperateWhatIsAllowed (device_names devices) state.rules module_name events
+  pub operated : OperateAllowed (device_names devices) state.rules module_name events
   -- and each that the program operates up to any moment of its run, however much fuel it has
   pub at_any_moment : (now : State) (before : List Event)
       → Leads (state_of (declared_devices devices) (program_start (program_entry shown.entry))) before now
-      → OperateWhatIsAllowed (device_names devices) state.rules module_name before
+      → OperateAllowed (device_names devices) state.rules module_name before
 
 -- Each reply that tells of a guarded run shows one of which that holds, of the definition that is asked for.
 abbrev pub ShownGuardedRunsArePermitted : Type 0

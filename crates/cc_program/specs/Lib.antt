@@ -1,5 +1,6 @@
 pub mod Status
 pub mod Words
+pub mod TrueReplies
 pub mod SoundJobs
 pub mod GuardedRuns
 pub mod ReplayedRuns

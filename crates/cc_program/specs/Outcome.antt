@@ -10,7 +10,6 @@ use Rattle.cc_replies.specs.StaleModules.{AreStale}
 use Rattle.cc_program.specs.declared.status.Status.{Status}
 use Rattle.cc_program.specs.declared.status.Status.TheVariants as statuses
 use Rattle.cc_answers.specs.Requests.{requests_of}
-use Rattle.cc_program.specs.SoundReplies.{IsSoundOutput}
 
 -- the greatest number of bytes of a job
 abbrev pub job_limit : ℕ
@@ -64,12 +63,11 @@ pub record JudgesStale (before after : Ends) (job : Job) : Type 0 where
   pub stale : AreStale job.devices no_module [] (requests_of job) sum
   pub few : after.judged ≤ before.judged + sum
 
--- The job was read, and its whole output was written; what its replies say is so.
+-- the job was read, and its whole output was written
 pub record IsCarriedOut (before after : Ends) (job : Job) (refused : Bool) : Type 0 where
   pub read : ReadsJob before after job
   pub text : List ℕ
   pub output : IsOutput job.devices no_module (requests_of job) text refused
-  pub sound : IsSoundOutput job.devices no_module (requests_of job) text
   pub written : Appends before.written after.written text
   pub no_fault : after.write_faults ≡ before.write_faults
   pub judges : JudgesStale before after job
@@ -80,7 +78,6 @@ pub record IsCutOff (before after : Ends) (job : Job) : Type 0 where
   pub text : List ℕ
   pub refused : Bool
   pub output : IsOutput job.devices no_module (requests_of job) text refused
-  pub sound : IsSoundOutput job.devices no_module (requests_of job) text
   pub written : AppendsFront before.written after.written text
   pub judges : JudgesStale before after job
 

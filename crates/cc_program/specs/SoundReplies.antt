@@ -34,6 +34,7 @@ use Rattle.cc_program.specs.ExplainedSignatures.{ExplainsSignature}
 use Rattle.cc_program.specs.GuardedRuns.{IsShownGuardedRun, IsNotPermitted}
 use Rattle.cc_program.specs.ReplayedRuns.{IsSafeTraceOf, DiffersFirst}
 use Rattle.cc_program.specs.SoundJobs.{NamesDefinition, IsShownRun, AreShownTasks}
+use Rattle.cc_program.specs.TrueReplies.{IsDecided}
 use Rattle.cc_program.specs.VerifiedTexts.{SaysSignature}
 
 -- ---- verdicts and signatures
@@ -87,13 +88,6 @@ IsGuardRefusal devices state module_name name E37 = IsNotPermitted devices state
 IsGuardRefusal devices state module_name name code = IsNotStarted devices state.texts module_name name code
 
 -- ---- audits
--- the decision about the device is the one of the rules, for the module and the device's name
-pub record IsDecided (names : List (List ℕ)) (rules : List Rule) (module_name : List ℕ) (one : ℕ × Decision) :
-    Type 0 where
-  pub name : List ℕ
-  pub named : slice_get names one.0 ≡ Some name
-  pub decides : Decides rules module_name name one.1
-
 -- What is shown of an audit of the definition of these names: a line for each device of its authority, in order, with
 -- what the rules decide for the module and that device.
 pub record IsShownAudit (devices : List DeviceDecl) (state : JobState) (module_name name : List ℕ)

@@ -6,6 +6,7 @@ ghost use Rattle.cc_program.specs.ExplainedSignatures.{ExplainedSignaturesAreExp
 ghost use Rattle.cc_program.specs.GuardedRuns.{ShownGuardedRunsArePermitted, RefusedEntriesAreNotPermitted};
 ghost use Rattle.cc_program.specs.ReplayedRuns.{AgreeingTracesKeepTheAuthority, DifferencesAreFirst, ShownRunsAreReplayed};
 ghost use Rattle.cc_program.specs.SoundReplies.{EveryOutputIsSound};
+ghost use Rattle.cc_program.specs.TrueReplies.{RepliesAreTrue};
 ghost use Rattle.cc_program.specs.UniqueAnswers.{AnswersAreUnique};
 ghost use Rattle.cc_program.specs.VerifiedTexts.{VerifiedTypesAreProved, ShownCertificatesAreValid};
 ghost use Rattle.cc_program.specs.Exactness.{AJobIsAnswered, WhatIsNoJobIsRefused, WhatIsTooLongIsRefused, AFaultIsTold, OnlyTheOutputIsWritten, OnlyStaleModulesAreJudged, AWorkloadIsSummarized, AFaultOfAWorkloadIsTold};
@@ -68,6 +69,11 @@ pub fn every_job_is_sound()
 /// What the replies to the commands of every job say is so, each in the state in which it is given.
 pub fn every_output_is_sound()
     ensures { EveryOutputIsSound }
+{}
+
+/// What the reply to each question of every job says is true.
+pub fn replies_are_true()
+    ensures { RepliesAreTrue }
 {}
 
 /// What the contract of a call names by its existence is one thing alone.

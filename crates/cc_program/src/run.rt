@@ -3,12 +3,13 @@ ghost use Rattle.std.specs.String.{string_bytes};
 ghost use Rattle.cc_arguments.specs.Words.{AsksFor};
 ghost use Rattle.cc_program.specs.Calls.{IsCall};
 ghost use Rattle.cc_program.specs.Outcome.{Outcome, ends};
+ghost use Rattle.cc_program.specs.TrueReplies.{RepliesAreTrue};
 ghost use Rattle.cc_program.specs.UniqueAnswers.{AnswersAreUnique};
-ghost use Rattle.cc_sound_laws.specs.EntriesByTypes.{PresentEntriesAreAccepted};
+ghost use Rattle.cc_sound_laws.specs.EntriesByTypes.{PresentEntriesAreAccepted, StartedDefinitionsHaveEntries};
 ghost use Rattle.cc_sound_laws.specs.SoundTexts.{PresentTextsAreSound};
 ghost use Rattle.cc_sound_laws.specs.VerdictsByTypes.{VerdictsAreByTypes};
 
-use crate::job_laws::{answers_are_unique, every_output_is_sound};
+use crate::job_laws::{answers_are_unique, replies_are_true};
 use crate::status::Status;
 use crate::workload::summarize;
 use cc_answers::commands::carry_out;
@@ -51,7 +52,6 @@ fn carry_out_source<S: Source, K: Sink, L: Ledger>(
         Err(JobError::BadJob { line }) => return Status::BadJob(line),
         Err(JobError::NoMemory) => return Status::NoMemory,
     };
-    every_output_is_sound();
     match carry_out(alloc, job, sink, steps) {
         Ok(false) => Status::Clean,
         Ok(true) => Status::Refusals,
@@ -83,9 +83,15 @@ pub fn capc<S: Source, K: Sink, L: Ledger>(
     ensures sound { PresentTextsAreSound }
 
     // What `call` names as verdicts and as entries of present texts are those of `sound`: a verdict is accepted exactly where
-    // the module is, as the same definitions, and each entry is one of accepted modules.
+    // the module is, as the same definitions; each entry is one of accepted modules; and each definition that a run would not
+    // refuse has one.
     ensures verdicts { VerdictsAreByTypes }
     ensures entries { PresentEntriesAreAccepted }
+    ensures started { StartedDefinitionsHaveEntries }
+
+    // What the reply to each question of every job says is true: of runs, tasks, guarded runs and audits, of certificates,
+    // explanations and replays.
+    ensures replies { RepliesAreTrue }
 
     // What the other clauses name by its existence is one thing alone: what the words ask for, the job of bytes or their
     // bad line, the output of a job, and how many modules it finds stale.
@@ -100,6 +106,7 @@ pub fn capc<S: Source, K: Sink, L: Ledger>(
     present_texts_are_sound();
     verdicts_are_by_types();
     entries_are_by_types();
+    replies_are_true();
     answers_are_unique();
     match asked_by(words) {
         Asked::Job => carry_out_source(alloc, source, sink, steps),
