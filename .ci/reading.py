@@ -582,13 +582,13 @@ def page():
     of_certify = [path for path in certify.specs() if path not in of_capc]
     of_capi = [path for path in capi.specs() if path not in of_capc + of_certify]
     others = [path for path in laws.specs() if path not in of_capc + of_certify + of_capi]
-    head = ["| File | Lines | Reached | For | What it has |", "|---|---|---|---|---|"]
+    head = ["| File | Lines | Reached | For |", "|---|---|---|---|"]
 
     def row(reading):
         def of_file(path):
             file = reading.file(path)
             wanted = ", ".join(name for name, files in parts.items() if path in files)
-            return f"| `{path}` | {file.lines} | {reading.lines_reached(path)} | {wanted or '-'} | {file.said} |"
+            return f"| `{path}` | {file.lines} | {reading.lines_reached(path)} | {wanted or '-'} |"
 
         return of_file
 
@@ -604,7 +604,7 @@ def page():
         "and no proof to believe the contract of the function `capc` (`crates/cc_program/src/run.rt`). They are found by following each "
         "name of its clauses to the item that it stands for, and so on from there (`.ci/reading.py`, which writes this page; the gate "
         "compares them). A file is listed where an item of it is reached, with the number of all its lines, and of those of the items "
-        "that are. [definitions.md](definitions.md) has the order in which to read them, with all other definitions.",
+        "that are. [definitions.md](definitions.md) has what each is about, and the order in which to read them, with all other definitions.",
         "",
         "Lemmas that definitions cite are not listed: they are proofs of what their statements say. Nor is what a function is defined by "
         "where a law says that it gives exactly what a relation holds of, which is then read in its place: "
