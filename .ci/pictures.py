@@ -42,7 +42,7 @@ JUDGING = [
     ("ask", "crates/cc_answers/src/commands.rt", "each question judges first"),
     ("check", "crates/cc_session/src/session.rt", "verdicts of the present texts"),
     ("judge_all", "crates/cc_judge/src/judging.rt", "finds those that are stale"),
-    ("read", "crates/cc_module/src/reading.rt", "a text whose tree is not kept"),
+    ("read", "crates/cc_text_reading/src/reading.rt", "a text whose tree is not kept"),
     ("lex", "crates/cc_lex/src/lexer.rt", "bytes to tokens"),
     ("parse", "crates/cc_parse/src/parser.rt", "tokens to the one tree"),
     ("order", "crates/cc_graph/src/imports.rt", "imported modules come first"),

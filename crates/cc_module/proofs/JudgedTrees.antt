@@ -24,11 +24,11 @@ use Rattle.cc_verdicts.proofs.ModuleVerdictLaws.{accepted_modules_are_sound}
 use Rattle.cc_verdicts.proofs.ReadingLaws.{text_has_one_reading}
 use Rattle.cc_module.specs.declared.finding.Finding.{Finding as DeclaredFinding}
 use Rattle.cc_module.specs.declared.judgement.ModuleVerdict.{ModuleVerdict as DeclaredVerdict}
-use Rattle.cc_module.specs.declared.reading.TextReading.{TextReading as DeclaredReading}
-use Rattle.cc_module.specs.declared.reading.TextReading.TheVariants as readings
+use Rattle.cc_text_reading.specs.declared.reading.TextReading.{TextReading as DeclaredReading}
+use Rattle.cc_text_reading.specs.declared.reading.TextReading.TheVariants as readings
 use Rattle.cc_module.specs.Findings.{finding_of}
 use Rattle.cc_module.specs.Judgements.{module_verdict_of, refusal_of, IsSoundIfAccepted}
-use Rattle.cc_module.specs.TextReadings.{text_reading_of}
+use Rattle.cc_text_reading.specs.TextReadings.{text_reading_of}
 
 -- elaborated definitions are ready
 pub core_ready : (devices : List DeviceDecl) (tree : Module) (findings : List DeclaredFinding) (core : DeclaredModule)

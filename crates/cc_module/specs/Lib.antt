@@ -1,4 +1,3 @@
 pub mod Findings
 pub mod Judgements
-pub mod TextReadings
 pub mod DefinitionPlaces

@@ -14,14 +14,13 @@ ghost use Rattle.cc_verdicts.specs.Readings.{HasReading, IsTree, reading_of_text
 ghost use Rattle.cc_mnf.specs.CoreModules.{definition_of};
 ghost use Rattle.cc_module.specs.Findings.{finding_of};
 ghost use Rattle.cc_module.specs.Judgements.{module_verdict_of, refusal_of, JudgesAll, JudgesOne, IsSoundIfAccepted};
-ghost use Rattle.cc_module.specs.TextReadings.{text_reading_of};
+ghost use Rattle.cc_text_reading.specs.TextReadings.{text_reading_of};
 ghost use Rattle.cc_parse.specs.Trees.{import_syntax, module_syntax};
 ghost use Rattle.cc_known.specs.Measures.{AreAllMeasuresOf};
 
 use crate::contexts::{declared_context, with_findings, with_signature};
 use crate::finding::{Finding, code_of};
 use crate::judgement::{CheckedDef, ModuleVerdict, accepted, refused};
-use crate::reading::{TextReading, read};
 use cc_base::code::Diag;
 use cc_base::device::DeviceDecl;
 use cc_base::literal::Import;
@@ -32,6 +31,7 @@ use cc_known::Measures;
 use cc_mnf::ElaborateError;
 use cc_mnf::elaborate::elaborate;
 use cc_parse::tree::Module;
+use cc_text_reading::reading::{TextReading, read};
 use cc_type::Instances;
 use std::alloc::{AllocError, Global};
 use std::sync::ledger::Ledger;

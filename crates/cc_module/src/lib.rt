@@ -4,8 +4,6 @@
 pub mod contexts;
 mod definitions;
 pub mod finding;
-pub mod imports;
 pub mod judgement;
 pub mod judging;
-pub mod reading;
 pub mod standing;

@@ -7,9 +7,9 @@ ghost use Rattle.cc_module.specs.Judgements.{module_verdict_of, IsSoundIfAccepte
 use cc_base::device::{DeviceDecl, Kind, Numbers};
 use cc_base::name::{Name, NameError};
 use cc_base::steps::Steps;
-use cc_module::imports::imports_of;
 use cc_module::judgement::ModuleVerdict;
 use cc_module::judging::check_module;
+use cc_text_reading::imports::imports_of;
 use std::alloc::{AllocError, Global};
 use std::marker::Brand;
 use std::sync::ledger::{Blank, Ledger};

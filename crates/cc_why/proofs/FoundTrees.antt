@@ -17,10 +17,10 @@ use Rattle.cc_mnf.specs.ElaboratedModules.{elaboration, device_names, import_nam
 use Rattle.cc_mnf.specs.ElaboratedModules as elaborated
 use Rattle.cc_mnf.specs.declared.elaborate.CoreModule.{CoreModule as DeclaredModule}
 use Rattle.cc_module.specs.Findings.{finding_of}
-use Rattle.cc_module.specs.TextReadings.{text_reading_of}
+use Rattle.cc_text_reading.specs.TextReadings.{text_reading_of}
 use Rattle.cc_module.specs.declared.finding.Finding.{Finding as DeclaredFinding}
-use Rattle.cc_module.specs.declared.reading.TextReading.{TextReading as DeclaredReading}
-use Rattle.cc_module.specs.declared.reading.TextReading.TheVariants as readings
+use Rattle.cc_text_reading.specs.declared.reading.TextReading.{TextReading as DeclaredReading}
+use Rattle.cc_text_reading.specs.declared.reading.TextReading.TheVariants as readings
 use Rattle.cc_parse.specs.Trees.{def_syntax, import_syntax, module_syntax}
 use Rattle.cc_parse.specs.declared.tree.Module.{Module}
 use Rattle.cc_reasons.specs.RefusedDefinitions.{names_of_binders}

@@ -24,10 +24,10 @@ use cc_import_reasoning::reason::refusal;
 use cc_mnf::ElaborateError;
 use cc_mnf::elaborate::elaborate;
 use cc_module::finding::Finding;
-use cc_module::reading::{TextReading, read};
 use cc_parse::tree::Module;
 use cc_session::refusals::NoSuchModule;
 use cc_session::session::Session;
+use cc_text_reading::reading::{TextReading, read};
 use std::alloc::{AllocError, Global};
 
 // The lines of the reason of a tree where a definition is found for each import, if it has one.

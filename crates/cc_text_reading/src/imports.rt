@@ -2,7 +2,7 @@
 
 ghost use Rattle.std.specs.Prelude.{◌≡◌, IfOk, option_map};
 ghost use Rattle.cc_verdicts.specs.Readings as readings;
-ghost use Rattle.cc_module.specs.TextReadings.{text_reading_of};
+ghost use Rattle.cc_text_reading.specs.TextReadings.{text_reading_of};
 ghost use Rattle.cc_parse.specs.Trees.{imports_syntax};
 
 use crate::reading::{TextReading, read};

@@ -1,6 +1,6 @@
 use Rattle.cc_verdicts.proofs.ReadingLaws.{refused_is}
-use Rattle.cc_module.proofs.TextsRead.{text_read}
-use Rattle.cc_module.proofs.reading.read.Goals as goal
+use Rattle.cc_text_reading.proofs.TextsRead.{text_read}
+use Rattle.cc_text_reading.proofs.reading.read.Goals as goal
 
 pub returns-in-Ok : goal.returns-in-Ok
 returns-in-Ok c = text_read _ c.in-Ok.tokens c.read_tokens.result c.in-Ok.ensures c.read_tokens.ensures

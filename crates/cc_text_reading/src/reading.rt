@@ -4,7 +4,7 @@ ghost use Rattle.std.specs.Prelude.{◌≡◌, IfOk};
 ghost use Rattle.cc_grammar.specs.Reading.{reading_of};
 ghost use Rattle.cc_lex.specs.Lexemes.{placed_all};
 ghost use Rattle.cc_verdicts.specs.Readings.{of_tokens, reading_of_text};
-ghost use Rattle.cc_module.specs.TextReadings.{text_reading_of};
+ghost use Rattle.cc_text_reading.specs.TextReadings.{text_reading_of};
 
 use cc_base::code::Diag;
 use cc_lex::error::LexError;

@@ -13,8 +13,8 @@ use Rattle.cc_lex.specs.Lexemes.{placed_of, placed_all}
 use Rattle.cc_lex.specs.Lexical.{start, place_past, spanned_of, spanned_all, without_spans, Lexes}
 use Rattle.cc_verdicts.specs.Readings.{TextReading, IsNoModule, has_tokens, of_tokens, reading_of_text}
 use Rattle.cc_verdicts.proofs.ReadingLaws.{text_has_one_reading}
-use Rattle.cc_module.specs.declared.reading.TextReading.{TextReading as DeclaredReading}
-use Rattle.cc_module.specs.TextReadings.{text_reading_of}
+use Rattle.cc_text_reading.specs.declared.reading.TextReading.{TextReading as DeclaredReading}
+use Rattle.cc_text_reading.specs.TextReadings.{text_reading_of}
 use Rattle.cc_parse.specs.Answers.{refusal_of}
 
 -- refused tokens are no module

@@ -1,5 +1,5 @@
 use Rattle.std.proofs.Common.{◌≡◌, take}
-use Rattle.cc_module.proofs.imports.copy_imports.Given as goal
+use Rattle.cc_text_reading.proofs.imports.copy_imports.Given as goal
 
 -- the copies so far are those of the imports so far
 abbrev pub invariant-loop-import : goal.invariant-loop-import
