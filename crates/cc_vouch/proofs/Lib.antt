@@ -3,4 +3,4 @@ mod DifferentBinds
 mod KnownDefinitions
 mod OwnSpots
 mod SignedBinds
-mod StandingOutcomes
+pub mod StandingOutcomes

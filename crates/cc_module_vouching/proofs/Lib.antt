@@ -1,0 +1,6 @@
+mod AnsweredTrees
+mod ClaimedPlaces
+mod KeptAnswers
+mod KnownBinds
+mod PlacedNames
+mod VouchedInOrder
