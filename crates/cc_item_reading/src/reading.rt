@@ -53,8 +53,8 @@ pub enum NotHeard {
     NoMemory,
 }
 
-// Puts the next line behind the bytes, with its line feed, and counts it. It tells whether there was one.
-fn next<S: Source>(
+/// Puts the next line behind the bytes, with its line feed, and counts it. It tells whether there was one.
+pub fn hear_line<S: Source>(
     alloc: Global,
     reader: &mut LineReader,
     source: &mut S,
@@ -85,16 +85,16 @@ fn next<S: Source>(
     }
 }
 
-// A line without its line feed.
-fn without_feed(line: &[u8]) -> &[u8]
+/// A line without its line feed.
+pub fn without_feed(line: &[u8]) -> &[u8]
     requires { 0 < length line.now }
     ensures { result.now ≡ take (length line.now - 1) line.now }
 {
     &line[..line.len() - 1]
 }
 
-// Reads so many lines of a text, within so many bytes.
-fn hear_text<S: Source>(
+/// Reads so many lines of a text, within so many bytes.
+pub fn hear_text<S: Source>(
     alloc: Global,
     count: u32,
     room: usize,
@@ -112,7 +112,7 @@ fn hear_text<S: Source>(
     ensures cause { ReadItemCause (S.faults source.old) (S.faults source.new) result }
 {
     for _ in 0..count {
-        match next(
+        match hear_line(
             alloc,
             &mut *reader,
             &mut *source,
@@ -163,7 +163,7 @@ fn hear_rules<S: Source>(
     let mut bytes = Vec::new(alloc);
     for _ in 0..count {
         let from = bytes.len();
-        match next(
+        match hear_line(
             alloc,
             &mut *reader,
             &mut *source,
@@ -272,7 +272,7 @@ pub fn hear<S: Source>(
     ensures cause { ReadItemCause (S.faults source.old) (S.faults source.new) result }
 {
     let mut bytes = Vec::new(alloc);
-    match next(
+    match hear_line(
         alloc,
         &mut *reader,
         &mut *source,

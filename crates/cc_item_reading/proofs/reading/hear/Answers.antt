@@ -6,12 +6,12 @@ use Rattle.cc_item_reading.proofs.reading.hear.Goals as goal
 
 pub returns-in-Err-clause-heard : goal.returns-in-Err-clause-heard
 returns-in-Err-clause-heard g c =
-    first_failed c.args.devices.now c.args.begun _ _ _ _ _ _ c.next.new.bytes.items c.new-bytes.result.items c.in-Err.error c.new-bytes.ensures.items c.in-Err.ensures.heard
+    first_failed c.args.devices.now c.args.begun _ _ _ _ _ _ c.hear_line.new.bytes.items c.new-bytes.result.items c.in-Err.error c.new-bytes.ensures.items c.in-Err.ensures.heard
 
 pub returns-then-not-may_stand-clause-heard : goal.returns-then-not-may_stand-clause-heard
 returns-then-not-may_stand-clause-heard g c =
     next_bad c.args.devices.now c.args.begun _ _ _ _ _ _ _ _
-    (first_came _ _ _ _ _ _ c.new-bytes.result.items c.next.new.bytes.items c.without_feed-line.result.now _ c.new-bytes.ensures.items c.in-Ok-true.field-0-test
+    (first_came _ _ _ _ _ _ c.new-bytes.result.items c.hear_line.new.bytes.items c.without_feed-line.result.now _ c.new-bytes.ensures.items c.in-Ok-true.field-0-test
     c.in-Ok-true.ensures.heard (c.without_feed-line.ensures ∙ ap (λ it. take (length it - 1) it) c.deref.ensures.value)) (λ h. let is = sym c.if-is_empty.false ∙ c.is_empty.ensures ∙ ap (λ (it : List ℕ). length it == 0) h in cc)
     (λ aside. let clash = sym (no_head c.without_feed-line.result.now aside) ∙ (sym c.in-Ok-Some.ensures ∙ c.in-Ok-Some.field-0-is) in cc)
     (none_stands c.args.devices.now c.args.begun c.without_feed-line.result.now c.in-Ok-Some.head (sym c.in-Ok-Some.ensures ∙ c.in-Ok-Some.field-0-is)
@@ -20,13 +20,13 @@ returns-then-not-may_stand-clause-heard g c =
 pub returns-in-Ok-None-clause-heard : goal.returns-in-Ok-None-clause-heard
 returns-in-Ok-None-clause-heard g c =
     next_unlike c.args.devices.now c.args.begun _ _ _ _ _ _ _ _ c.hear_aside.result
-    (first_came _ _ _ _ _ _ c.new-bytes.result.items c.next.new.bytes.items c.without_feed-line.result.now _ c.new-bytes.ensures.items c.in-Ok-true.field-0-test
+    (first_came _ _ _ _ _ _ c.new-bytes.result.items c.hear_line.new.bytes.items c.without_feed-line.result.now _ c.new-bytes.ensures.items c.in-Ok-true.field-0-test
     c.in-Ok-true.ensures.heard (c.without_feed-line.ensures ∙ ap (λ it. take (length it - 1) it) c.deref.ensures.value)) (λ h. let is = sym c.if-is_empty.false ∙ c.is_empty.ensures ∙ ap (λ (it : List ℕ). length it == 0) h in cc)
     (sym c.in-Ok-None.ensures ∙ c.in-Ok-None.field-0-is) c.hear_aside.ensures
 
 pub returns-in-Ok-Some-clause-heard : goal.returns-in-Ok-Some-clause-heard
 returns-in-Ok-Some-clause-heard g c =
     next_behind c.args.devices.now c.args.begun _ _ _ _ _ _ _ _ _ _ _ c.in-Ok-Some.head _ c.hear_behind.result c.requires.declared
-    (first_came _ _ _ _ _ _ c.new-bytes.result.items c.next.new.bytes.items c.without_feed-line.result.now _ c.new-bytes.ensures.items c.in-Ok-true.field-0-test
+    (first_came _ _ _ _ _ _ c.new-bytes.result.items c.hear_line.new.bytes.items c.without_feed-line.result.now _ c.new-bytes.ensures.items c.in-Ok-true.field-0-test
     c.in-Ok-true.ensures.heard (c.without_feed-line.ensures ∙ ap (λ it. take (length it - 1) it) c.deref.ensures.value)) (sym c.in-Ok-Some.ensures ∙ c.in-Ok-Some.field-0-is)
-    (sym c.may_stand.ensures ∙ c.if-not-may_stand.false) (omega (arith, c.len.ensures, c.next.new.bytes.ok.0)) c.hear_behind.ensures.heard
+    (sym c.may_stand.ensures ∙ c.if-not-may_stand.false) (omega (arith, c.len.ensures, c.hear_line.new.bytes.ok.0)) c.hear_behind.ensures.heard

@@ -9,25 +9,25 @@ loop-init g c = record {
   no_fault = refl;
 }
 
-pub next-requires-clause-count : goal.next-requires-clause-count
-next-requires-clause-count g c = omega (arith, c.loop.invariant.no_fault, c.requires.count)
+pub hear_line-requires-clause-count : goal.hear_line-requires-clause-count
+hear_line-requires-clause-count g c = omega (arith, c.loop.invariant.no_fault, c.requires.count)
 
-pub next-requires-clause-short : goal.next-requires-clause-short
-next-requires-clause-short g c = room_left _ _ _ _ _ _ _ _ _ c.loop.invariant.reading
+pub hear_line-requires-clause-short : goal.hear_line-requires-clause-short
+hear_line-requires-clause-short g c = room_left _ _ _ _ _ _ _ _ _ c.loop.invariant.reading
 
-pub next-requires-clause-known : goal.next-requires-clause-known
-next-requires-clause-known g c = c.loop.invariant.known
+pub hear_line-requires-clause-known : goal.hear_line-requires-clause-known
+hear_line-requires-clause-known g c = c.loop.invariant.known
 
 pub returns-in-Ok-false-clause-heard : goal.returns-in-Ok-false-clause-heard
 returns-in-Ok-false-clause-heard g c =
-    reads_end _ _ _ _ _ _ _ _ _ _ _ _ c.loop.text.items c.next.new.bytes.items _ c.loop.invariant.reading c.in-Ok-false.field-0-test c.in-Ok-false.ensures.heard c.loop-test.true
+    reads_end _ _ _ _ _ _ _ _ _ _ _ _ c.loop.text.items c.hear_line.new.bytes.items _ c.loop.invariant.reading c.in-Ok-false.field-0-test c.in-Ok-false.ensures.heard c.loop-test.true
 
 pub returns-in-Ok-false-clause-cause : goal.returns-in-Ok-false-clause-cause
 returns-in-Ok-false-clause-cause g c = c.in-Ok-false.ensures.cause ∙ c.loop.invariant.no_fault
 
 pub returns-in-Err-clause-heard : goal.returns-in-Err-clause-heard
 returns-in-Err-clause-heard g c =
-    reads_failed _ _ _ _ _ _ _ _ _ _ _ _ c.loop.text.items c.next.new.bytes.items c.in-Err.error c.loop.invariant.reading c.in-Err.ensures.heard c.loop-test.true
+    reads_failed _ _ _ _ _ _ _ _ _ _ _ _ c.loop.text.items c.hear_line.new.bytes.items c.in-Err.error c.loop.invariant.reading c.in-Err.ensures.heard c.loop-test.true
 
 pub returns-in-Err-clause-cause : goal.returns-in-Err-clause-cause
 returns-in-Err-clause-cause g c = cause_any Bool (Unit {0}) _ _ _ c.in-Err.error c.loop.invariant.no_fault c.in-Err.ensures.cause
@@ -44,7 +44,7 @@ returns-clause-cause g c = c.loop.invariant.no_fault
 
 pub loop-preserved : goal.loop-preserved
 loop-preserved g c = record {
-  reading = reads_line _ _ _ _ _ _ _ _ _ _ _ c.loop.text.items c.next.new.bytes.items _ c.loop.invariant.reading c.in-Ok-true.field-0-test c.in-Ok-true.ensures.heard;
+  reading = reads_line _ _ _ _ _ _ _ _ _ _ _ c.loop.text.items c.hear_line.new.bytes.items _ c.loop.invariant.reading c.in-Ok-true.field-0-test c.in-Ok-true.ensures.heard;
   known = c.in-Ok-true.ensures.known;
   no_fault = c.in-Ok-true.ensures.cause ∙ c.loop.invariant.no_fault;
 }
