@@ -46,7 +46,7 @@ abbrev bare_module : List ℕ → List ℕ → ClaimedModule
 bare_module name source = record { name = name; source = source; claims = [] }
 
 -- the items of modules of which the last one has a claim more
-items_claimed : (done : List ClaimedModule) (last : ClaimedModule) (definition certificate : List ℕ)
+pub items_claimed : (done : List ClaimedModule) (last : ClaimedModule) (definition certificate : List ℕ)
     → flat_map module_items (done ++ claimed last definition certificate ∷ [])
     ≡ flat_map module_items (done ++ last ∷ []) ++ Claims last.name definition certificate ∷ []
 items_claimed [] last definition certificate =

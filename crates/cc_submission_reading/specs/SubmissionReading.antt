@@ -47,9 +47,9 @@ HearsNextItem so_far old new left later before behind (Ok heard.End) =
 HearsNextItem so_far old new left later before behind (Ok (heard.Device device)) =
     HearsItem so_far old new left later before behind (Declares device)
 HearsNextItem so_far old new left later before behind (Ok (heard.Module name source)) =
-    HearsItem so_far old new left later before behind (Presents name source)
+    HearsItem so_far old new left later before behind (Presents name source.items)
 HearsNextItem so_far old new left later before behind (Ok (heard.Claim owner definition certificate)) =
-    HearsItem so_far old new left later before behind (Claims owner definition certificate)
+    HearsItem so_far old new left later before behind (Claims owner definition certificate.items)
 HearsNextItem so_far old new left later before behind (Err errors.BadLine) =
     (bad : Line) × Hears old new left later (bad ∷ []) × (GoesOn so_far (bad ∷ []) → ⊥)
     × (size (bad ∷ []) ≤ item_limit) × (behind ≡ before + 1)
@@ -85,8 +85,8 @@ HearsFirstLine old new left later before behind (Err errors.NoMemory) = (read : 
 abbrev pub IsItemHeard : Heard → Item → Type 0
 IsItemHeard heard.End item = ⊥
 IsItemHeard (heard.Device device) item = item ≡ Declares device
-IsItemHeard (heard.Module name source) item = item ≡ Presents name source
-IsItemHeard (heard.Claim owner definition certificate) item = item ≡ Claims owner definition certificate
+IsItemHeard (heard.Module name source) item = item ≡ Presents name source.items
+IsItemHeard (heard.Claim owner definition certificate) item = item ≡ Claims owner definition certificate.items
 
 -- What comes of reading the lines behind the one of a head, within so many bytes: the item with these bytes; or some
 -- lines, in which it stops. It serves the code alone.

@@ -1,7 +1,7 @@
-//! The items of a submission: what may be said next, what comes of reading it line by line, and what the first line of an
-//! item says.
+//! The items of a submission: what may be said next, and reading it line by line.
 #![tactic(auto)]
 
 pub mod heads;
 pub mod hearing;
+pub mod so_far;
 pub mod submission_reading_laws;
