@@ -1,0 +1,4 @@
+mod SaidMore
+mod Replies
+mod Turning
+mod Ending

@@ -1,0 +1,2 @@
+pub mod AnsweredSubmissions
+pub mod Turns
