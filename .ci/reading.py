@@ -1,5 +1,5 @@
 #!/usr/bin/env python3
-"""Which definitions the contracts of `capc`, `certify` and `capi` rest on: what has to be believed, and nothing else.
+"""Which definitions the contracts of `capc`, `certify`, `capi` and `vouch` rest on: what has to be believed, and nothing else.
 
 From the clauses of the function (`capc` of crates/cc_program/src/run.rt) each name is followed to the item that it stands for, from
 this item each name again, and so on. What is reached are items of the files in specs/, and types and traits of the program
@@ -27,6 +27,9 @@ PAGE = os.path.join(TOP, "docs", "reading.md")
 CAPC = ("crates/cc_program/src/run.rt", "capc")
 CERTIFY = ("crates/certify/src/run.rt", "certify")
 CAPI = ("crates/capi/src/run.rt", "capi")
+VOUCH = ("crates/vouch/src/run.rt", "vouch")
+# crates of inference, filling, comparison memory, solving and sessions: none of them may stand below `vouch`
+INFERENCE = "cc_subty cc_solve cc_known cc_type cc_infer cc_check cc_derive cc_module cc_judge cc_session cc_link cc_answers".split()
 NAME = r"[^\s(){}\[\],;.]+"
 NAME_OF_PATH = r"[^\s(){}\[\],;.:]+"
 # The tiers in which the contract of `capc` can be read: the name of the text of docs/statement, what it says, and what is
@@ -576,12 +579,14 @@ def count_of_names(reading):
 def page():
     """The readings of the three contracts and of the laws, and the text of the page."""
     sound, call = of_clauses(*CAPC, {"sound"}), of_clauses(*CAPC, {"words", "call"})
-    capc, certify, capi, laws = of_clauses(*CAPC), of_clauses(*CERTIFY), of_clauses(*CAPI), of_laws()
-    parts = {"sound": sound.specs(), "call": call.specs(), "certify": certify.specs(), "capi": capi.specs()}
+    capc, certify, capi, vouch, laws = of_clauses(*CAPC), of_clauses(*CERTIFY), of_clauses(*CAPI), of_clauses(*VOUCH), of_laws()
+    parts = {"sound": sound, "call": call, "certify": certify, "capi": capi, "vouch": vouch}
+    parts = {name: reading.specs() for name, reading in parts.items()}
     of_capc = capc.specs()
     of_certify = [path for path in certify.specs() if path not in of_capc]
     of_capi = [path for path in capi.specs() if path not in of_capc + of_certify]
-    others = [path for path in laws.specs() if path not in of_capc + of_certify + of_capi]
+    of_vouch = [path for path in vouch.specs() if path not in of_capc + of_certify + of_capi]
+    others = [path for path in laws.specs() if path not in of_capc + of_certify + of_capi + of_vouch]
     head = ["| File | Lines | Reached | For | What it has |", "|---|---|---|---|---|"]
 
     def row(reading):
@@ -593,9 +598,9 @@ def page():
         return of_file
 
     every = Reading()
-    every.reached = {**capi.reached, **certify.reached, **capc.reached}
-    types, library = every.types(), of_library((capc, certify, capi))
-    programs = {"capc": capc, "certify": certify, "capi": capi}
+    every.reached = {**vouch.reached, **capi.reached, **certify.reached, **capc.reached}
+    types, library = every.types(), of_library((capc, certify, capi, vouch))
+    programs = {"capc": capc, "certify": certify, "capi": capi, "vouch": vouch}
     count_of_types = {name: sum(map(len, reading.types().values())) for name, reading in programs.items()}
     out = [
         "# What has to be believed",
@@ -640,13 +645,20 @@ def page():
         f"The program that converses (`{CAPI[0]}`) rests on {counted(capi, capi.specs())}: on those above that are for it, and on these.",
         *table(of_capi, row(capi), head),
         "",
+        "## The contract of `vouch`",
+        "",
+        f"The program that judges modules with their certificates (`{VOUCH[0]}`) rests on {counted(vouch, vouch.specs())}: on those "
+        "above that are for it, and on these. No crate of inference, filling, solving, comparison memory or sessions stands below it, "
+        "which the script sees to.",
+        *table(of_vouch, row(vouch), head),
+        "",
         "## Types of the program",
         "",
         "These stand in the definitions above as what they are: a type with its variants and fields, or as its `impl Model` says, and a "
         f"trait with its clauses. The contract of `capc` rests on {count_of_types['capc']} of them, of {capc.lines_of_types()} lines "
         f"(its clause `sound` on {sum(map(len, sound.types().values()))}, of {sound.lines_of_types()} lines), that of `certify` on "
-        f"{count_of_types['certify']}, of {certify.lines_of_types()} lines, and that of `capi` on {count_of_types['capi']}, of "
-        f"{capi.lines_of_types()} lines. Blank lines are not counted.",
+        f"{count_of_types['certify']}, of {certify.lines_of_types()} lines, that of `capi` on {count_of_types['capi']}, of "
+        f"{capi.lines_of_types()} lines, and that of `vouch` on {count_of_types['vouch']}, of {vouch.lines_of_types()} lines. Blank lines are not counted.",
         "",
         "| File | Lines | Types and traits |",
         "|---|---|---|",
@@ -656,7 +668,7 @@ def page():
         "",
         "These are the kit's, of its standard library and of its crates, and are followed no further: `rt lemma` with the whole "
         f"name of one shows its definition. The contract of `capc` rests on {count_of_names(capc)} (its clause `sound` on {count_of_names(sound)}), that "
-        f"of `certify` on {count_of_names(certify)}, that of `capi` on {count_of_names(capi)}. Modules with `::` are those of types and traits that the program's own ones name.",
+        f"of `certify` on {count_of_names(certify)}, that of `capi` on {count_of_names(capi)}, that of `vouch` on {count_of_names(vouch)}. Modules with `::` are those of types and traits that the program's own ones name.",
         "",
         "| Module | Names | Which |",
         "|---|---|---|",
@@ -668,7 +680,19 @@ def page():
         f"{counted(laws, others)}, worked examples among them.",
         *table(others, row(laws), head),
     ]
-    return (capc, certify, capi, laws), "\n".join(out) + "\n"
+    return (capc, certify, capi, vouch, laws), "\n".join(out) + "\n"
+
+
+def below(name):
+    """The crates that stand below the crate, by crates.txt."""
+    lines = [line.partition(":") for line in read("crates.txt").splitlines() if line and not line.startswith("#")]
+    uses_of = {crate.split()[0]: rest.split() for crate, _, rest in lines}
+    found, waiting = set(), [name]
+    while waiting:
+        new = set(uses_of.get(waiting.pop(), ())) - found
+        found |= new
+        waiting += new
+    return found
 
 
 def misplaced(contracts):
@@ -693,12 +717,15 @@ def main():
         with open(PAGE, "w", encoding="utf-8") as file:
             file.write(text)
     else:
-        for path in misplaced(readings[:3]):
+        for path in misplaced(readings[:4]):
             print(f"{path} has to be believed, and is a file of laws or examples, or one that serves the code or the proofs")
+        inferring = sorted(below("vouch") & set(INFERENCE))
+        if inferring:
+            print(f"below vouch, which infers nothing, stand {', '.join(inferring)}")
         is_written = os.path.exists(PAGE) and read("docs/reading.md") == text
         if not is_written:
             print("docs/reading.md is not what `.ci/reading.py --write` writes")
-        sys.exit(0 if is_written and not misplaced(readings[:3]) else 1)
+        sys.exit(0 if is_written and not inferring and not misplaced(readings[:4]) else 1)
 
 
 if __name__ == "__main__":
