@@ -14,6 +14,7 @@ use crate::task::Task;
 use cc_device::{Devices, End, Event};
 use cc_machine::{Machine, Program};
 use std::alloc::{AllocError, Global};
+use std::collections::VecDeque;
 
 /// What is known of an interleaved run: its events in order, each with the number of its task, and of each task its end
 /// and how many steps it took.
@@ -47,8 +48,8 @@ fn has_ended(tasks: &[Task], number: u32) -> bool
 }
 
 // The place in the order of the first number whose task has not come to its end, while turns are left.
-fn next_place(tasks: &[Task], order: &[u32], left: u32) -> Option<usize>
-    ensures { MatchOption result (0 < left → HaveEnded tasks.now order.now) (λ place. (0 < left) × IsNext tasks.now order.now place) }
+fn next_place(tasks: &[Task], order: &VecDeque<u32>, left: u32) -> Option<usize>
+    ensures { MatchOption result (0 < left → HaveEnded tasks.now order.now.items) (λ place. (0 < left) × IsNext tasks.now order.now.items place) }
 {
     if left == 0 {
         return None;
@@ -117,8 +118,9 @@ pub fn run_tasks<'a>(
     ensures soundly { OnOk result (∥ RunsSoundly fuel schedule.now (world_in (map (λ program. program.now) programs.now) devices.old) ∥₁) }
 {
     let mut tasks = load(alloc, programs)?;
-    let mut order = Vec::new(alloc);
-    order.extend_from_slice(schedule)?;
+    let mut numbers = Vec::new(alloc);
+    numbers.extend_from_slice(schedule)?;
+    let mut order = VecDeque::from_vec(numbers);
     let mut trace = Vec::new(alloc);
     let mut left = fuel;
     while let Some(place) = next_place(&tasks, &order, left) {

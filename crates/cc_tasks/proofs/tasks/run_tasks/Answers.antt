@@ -13,8 +13,8 @@ use Rattle.cc_tasks.proofs.tasks.run_tasks.Goals as goal
 
 pub loop-place-init : goal.loop-place-init
 loop-place-init c = record {
-  stands = stands_at_start c.args.fuel c.args.schedule.now c.extend_from_slice.new.self.items (map (λ program. program.now) c.args.programs.now) c.args.devices.now c.in_ok-tasks.tasks.items (map told_event c.new-trace.result.items)
-      c.in_ok-tasks.ensures (c.in_ok-extend_from_slice.ensures.items ∙ ap (λ xs. xs ++ c.args.schedule.now) c.new-order.ensures.items) (ap (map told_event) c.new-trace.ensures.items);
+  stands = stands_at_start c.args.fuel c.args.schedule.now c.from_vec-order.result.items (map (λ program. program.now) c.args.programs.now) c.args.devices.now c.in_ok-tasks.tasks.items (map told_event c.new-trace.result.items)
+      c.in_ok-tasks.ensures (c.from_vec-order.ensures.items ∙ c.in_ok-extend_from_slice.ensures.items ∙ ap (λ xs. xs ++ c.args.schedule.now) c.new-numbers.ensures.items) (ap (map told_event) c.new-trace.ensures.items);
   ready = all_begin c.args.devices.now c.args.fuel c.in_ok-tasks.tasks.items (map (λ program. program.now) c.args.programs.now) c.in_ok-tasks.ensures c.requires.positions (omega arith) c.requires.fits;
   shapes = λ number. refl;
 }
@@ -27,8 +27,7 @@ loop-place-preserved c =
     let whole = interleave c.args.fuel c.args.schedule.now (world_in (map (λ program. program.now) c.args.programs.now) c.args.devices.now) in
     let some = c.in-Some.ensures.0 in
     let next : IsNext c.loop-place.tasks.items c.loop-place.order.items c.in-Some.place =
-    subst (λ ts. IsNext ts c.loop-place.order.items c.in-Some.place) c.deref.ensures.value
-    (subst (λ ns. IsNext c.deref.result.now ns c.in-Some.place) c.deref-in-loop-place.ensures.value c.in-Some.ensures.1) in
+    subst (λ ts. IsNext ts c.loop-place.order.items c.in-Some.place) c.deref.ensures.value c.in-Some.ensures.1 in
     let there : slice_index c.loop-place.order.items c.in-Some.place ≡ c.index-number.result.now =
     sym (c.index-number.ensures ∙ get_or_default_zero c.loop-place.order.items c.in-Some.place c.index-number.result.now next.within) in
     record {
@@ -45,7 +44,7 @@ returns-clause-report c =
     let whole = interleave c.args.fuel c.args.schedule.now (world_in (map (λ program. program.now) c.args.programs.now) c.args.devices.now) in
     report_told whole c.loop-place.left c.loop-place.order.items c.loop-place.tasks.items c.loop-place.devices (map told_event c.loop-place.trace.items) c.loop-place.invariant.stands
     (λ left.
-    subst (λ ts. HaveEnded ts c.loop-place.order.items) c.deref.ensures.value (subst (HaveEnded c.deref.result.now) c.deref-in-loop-place.ensures.value (c.in_default.ensures left)))
+    subst (λ ts. HaveEnded ts c.loop-place.order.items) c.deref.ensures.value (c.in_default.ensures left))
     c.in_ok-ends.ends.items c.loop-place.invariant.ready (subst (λ ts. AllZip IsEndOf ts c.in_ok-ends.ends.items) c.deref-2.ensures.value c.in_ok-ends.ensures)
 
 pub returns-clause-last : goal.returns-clause-last
@@ -53,7 +52,7 @@ returns-clause-last c =
     let whole = interleave c.args.fuel c.args.schedule.now (world_in (map (λ program. program.now) c.args.programs.now) c.args.devices.now) in
     last_devices whole c.loop-place.left c.loop-place.order.items c.loop-place.tasks.items c.loop-place.devices (map told_event c.loop-place.trace.items) c.loop-place.invariant.stands
     (λ left.
-    subst (λ ts. HaveEnded ts c.loop-place.order.items) c.deref.ensures.value (subst (HaveEnded c.deref.result.now) c.deref-in-loop-place.ensures.value (c.in_default.ensures left)))
+    subst (λ ts. HaveEnded ts c.loop-place.order.items) c.deref.ensures.value (c.in_default.ensures left))
 
 pub returns-clause-promises : goal.returns-clause-promises
 returns-clause-promises c =
@@ -61,7 +60,7 @@ returns-clause-promises c =
     runs_entries (map (λ program. program.now) c.args.programs.now) c.args.devices.now c.args.schedule.now c.args.fuel _
     (report_told whole c.loop-place.left c.loop-place.order.items c.loop-place.tasks.items c.loop-place.devices (map told_event c.loop-place.trace.items) c.loop-place.invariant.stands
     (λ left.
-    subst (λ ts. HaveEnded ts c.loop-place.order.items) c.deref.ensures.value (subst (HaveEnded c.deref.result.now) c.deref-in-loop-place.ensures.value (c.in_default.ensures left)))
+    subst (λ ts. HaveEnded ts c.loop-place.order.items) c.deref.ensures.value (c.in_default.ensures left))
     c.in_ok-ends.ends.items c.loop-place.invariant.ready (subst (λ ts. AllZip IsEndOf ts c.in_ok-ends.ends.items) c.deref-2.ensures.value c.in_ok-ends.ensures))
 
 pub returns-clause-soundly : goal.returns-clause-soundly
