@@ -1,4 +1,5 @@
 pub mod Answering
+pub mod AskedSteps
 pub mod FinalStates
 pub mod Following
 pub mod FreeOperands

@@ -153,8 +153,8 @@ impl<'a> Parts<'a> {
         }
     }
 
-    // What the operation asks in the environment.
-    fn asked(
+    /// What the operation asks in the environment.
+    pub fn asked(
         &self,
         environment: usize,
         operation: Op,

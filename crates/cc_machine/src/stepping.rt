@@ -89,6 +89,35 @@ impl<'a> Parts<'a> {
         }
     }
 
+    // One step on the devices where a term of the program runs.
+    fn step_code(
+        &mut self,
+        devices: &mut Devices,
+        node: &'a Node,
+        environment: usize,
+    ) -> Result<Option<Event>, AllocError>
+        requires linked { IsLinked self.old }
+        requires room { HasRoom self.old 1 }
+        requires focus { self.old.focus ≡ focuses.Code node environment }
+        requires operands { HasFreeOperands (term_in self.old environment node.now) }
+        requires contents { (position : ℕ) → HoldsFreeContent (lookup (views.configuration_of self.old).store position) }
+        ensures moves { IfOk result (λ event. GoesWith (move (state_in self.old devices.old)) self.old (option_map event_of event) self.new devices.new) }
+        ensures kept { OnErr result (self.new ≡ self.old) }
+        ensures devices { OnErr result (devices.new ≡ devices.old) }
+        ensures no_memory { (IsWriting (term_in self.old environment node.now) → ⊥) → IsOk result }
+    {
+        match &node.form {
+            Form::Operate(operation, receiver, argument) => {
+                match self.asked(environment, *operation, *receiver, *argument) {
+                    Some(wanted) => self.operate(devices, wanted),
+                    // An operation that asks nothing is stuck.
+                    None => Ok(None),
+                }
+            }
+            _ => Ok(self.advance_code(node, environment)),
+        }
+    }
+
     /// One step on the devices. Fails only for want of memory, and then the parts are as before.
     pub fn step(&mut self, devices: &mut Devices) -> Result<Option<Event>, AllocError>
         requires linked { IsLinked self.old }
@@ -100,9 +129,14 @@ impl<'a> Parts<'a> {
         ensures devices { OnErr result (devices.new ≡ devices.old) }
         ensures no_memory { (IsWriting (views.configuration_of self.old).term → ⊥) → IsOk result }
     {
-        match self.wanted() {
-            Some(wanted) => self.operate(devices, wanted),
-            None => Ok(self.advance()),
+        match self.focus {
+            Focus::Code(node, environment) => self.step_code(devices, node, environment),
+            Focus::Position(_) => Ok(self.answered()),
+            Focus::Small(_) => Ok(self.answered()),
+            Focus::Apply(function, argument) => {
+                self.apply_at(function, argument);
+                Ok(None)
+            }
         }
     }
 }
