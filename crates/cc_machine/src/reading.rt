@@ -90,6 +90,96 @@ fn literal_in_cell<'a>(cell: Cell<'a>) -> Option<ShownLit<'a>>
     }
 }
 
+// The number that the literal that was computed is, if it is one.
+fn number_of_small(small: Small) -> Option<i64>
+    ensures { result ≡ number_in (Some (small_literal small)) }
+{
+    match small {
+        Small::Unit => None,
+        Small::Truth(_) => None,
+        Small::Number(number) => Some(number),
+    }
+}
+
+// The number that the literal is, if it is one.
+fn number_of_literal(literal: &Lit) -> Option<i64>
+    ensures { result ≡ number_in (Some (literal_of literal.now)) }
+{
+    match literal {
+        Lit::Unit => None,
+        Lit::Bool(_) => None,
+        Lit::Int(number) => Some(*number),
+        Lit::Str(_) => None,
+    }
+}
+
+// The number that the term is, if it is one.
+fn number_of_node(node: &Node) -> Option<i64>
+    ensures { result ≡ number_in (literal_of_term (term_of node.now)) }
+{
+    match &node.form {
+        Form::Lit(literal) => number_of_literal(literal),
+        _ => None,
+    }
+}
+
+// The number in the cell, if there is one.
+fn number_in_cell<'a>(cell: Cell<'a>) -> Option<i64>
+    ensures { (links : List Link) → result ≡ number_in (literal_in (Some (cell_in links cell.entry))) }
+{
+    match cell {
+        Cell::Small(small) => number_of_small(small),
+        Cell::Code(node, _) => number_of_node(node),
+        Cell::Device(_, _) => None,
+        Cell::Label(_) => None,
+    }
+}
+
+// The truth value that the literal that was computed is, if it is one.
+fn truth_of_small(small: Small) -> Option<bool>
+    ensures { result ≡ truth_in (Some (small_literal small)) }
+{
+    match small {
+        Small::Unit => None,
+        Small::Truth(truth) => Some(truth),
+        Small::Number(_) => None,
+    }
+}
+
+// The truth value that the literal is, if it is one.
+fn truth_of_literal(literal: &Lit) -> Option<bool>
+    ensures { result ≡ truth_in (Some (literal_of literal.now)) }
+{
+    match literal {
+        Lit::Unit => None,
+        Lit::Bool(truth) => Some(*truth),
+        Lit::Int(_) => None,
+        Lit::Str(_) => None,
+    }
+}
+
+// The truth value that the term is, if it is one.
+fn truth_of_node(node: &Node) -> Option<bool>
+    ensures { result ≡ truth_in (literal_of_term (term_of node.now)) }
+{
+    match &node.form {
+        Form::Lit(literal) => truth_of_literal(literal),
+        _ => None,
+    }
+}
+
+// The truth value in the cell, if there is one.
+fn truth_in_cell<'a>(cell: Cell<'a>) -> Option<bool>
+    ensures { (links : List Link) → result ≡ truth_in (literal_in (Some (cell_in links cell.entry))) }
+{
+    match cell {
+        Cell::Small(small) => truth_of_small(small),
+        Cell::Code(node, _) => truth_of_node(node),
+        Cell::Device(_, _) => None,
+        Cell::Label(_) => None,
+    }
+}
+
 // The cell at the index, if there is one.
 fn own_cell<'a>(cells: &[Cell<'a>], index: usize) -> Option<Cell<'a>>
     ensures { result ≡ slice_get cells.now index }
@@ -138,8 +228,8 @@ impl<'a> Parts<'a> {
     pub fn number_at(&self, environment: usize, variable: Var) -> Option<i64>
         ensures { result ≡ number_in (literal_in (stores.cell_at (configuration_of self.now).store (resolved (follow self.now.links.items environment) variable))) }
     {
-        match self.literal_at(environment, variable) {
-            Some(literal) => number_of(literal),
+        match self.cell_of(environment, variable) {
+            Some(cell) => number_in_cell(cell),
             None => None,
         }
     }
@@ -148,33 +238,9 @@ impl<'a> Parts<'a> {
     pub fn truth_at(&self, environment: usize, variable: Var) -> Option<bool>
         ensures { result ≡ truth_in (literal_in (stores.cell_at (configuration_of self.now).store (resolved (follow self.now.links.items environment) variable))) }
     {
-        match self.literal_at(environment, variable) {
-            Some(literal) => truth_of(literal),
+        match self.cell_of(environment, variable) {
+            Some(cell) => truth_in_cell(cell),
             None => None,
         }
-    }
-}
-
-// The number that the literal is, if it is one.
-fn number_of(literal: ShownLit) -> Option<i64>
-    ensures { result ≡ number_in (Some (shown_literal literal.entry)) }
-{
-    match literal {
-        ShownLit::Int(number) => Some(number),
-        ShownLit::Unit => None,
-        ShownLit::Bool(_) => None,
-        ShownLit::Str(_) => None,
-    }
-}
-
-// The truth value that the literal is, if it is one.
-fn truth_of(literal: ShownLit) -> Option<bool>
-    ensures { result ≡ truth_in (Some (shown_literal literal.entry)) }
-{
-    match literal {
-        ShownLit::Bool(truth) => Some(truth),
-        ShownLit::Unit => None,
-        ShownLit::Int(_) => None,
-        ShownLit::Str(_) => None,
     }
 }
