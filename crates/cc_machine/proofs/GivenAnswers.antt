@@ -16,8 +16,6 @@ use Rattle.cc_machine.specs.Asking.{Question, question_in, resumed_with, IsAnswe
 use Rattle.cc_machine.specs.declared.parts.Parts.{Parts}
 use Rattle.cc_machine.specs.Lines.{GoesAs, Goes}
 use Rattle.cc_machine.specs.Parts.{configuration_of}
-use Rattle.cc_machine.specs.Reserving.{HoldsTheSame}
-use Rattle.cc_machine.proofs.Keeping.{same_held}
 
 step_held : (held configuration : Configuration) → StandsFor held configuration → step held ≡ erased_outcome (step configuration)
 step_held held c stands = sym (ap step stands) ∙ term-erased c.store c.stack c.labels_made c.term
@@ -93,12 +91,12 @@ advances_soundly held event held' is sound =
     ∥∥₁_elim sound (hlevel) (λ s. let next = alike.advances s.0 s.2 in ∣ (next.0, (alike.keeps s.0 next.0 s.2 s.1 next.1).sound, next.2) ∣₁)
 
 -- the same after room was made
-module _ {before reserved after : Parts} (event : Option Event) (same : HoldsTheSame before reserved) (goes : Goes (step (configuration_of reserved)) reserved event after)
+module _ (before : Parts) {ready after : Parts} (event : Option Event) (same : configuration_of ready ≡ configuration_of before) (goes : Goes (step (configuration_of ready)) ready event after)
     (sound : ∥ StandsSoundly (configuration_of before) ∥₁) (running : step (configuration_of before) ≡ Final → ⊥) where
   pub advanced_next : step (configuration_of before) ≡ Next event (configuration_of after)
   advanced_next =
       advances_exactly (configuration_of before) event (configuration_of after) sound running
-      (subst (λ h. GoesAs (step h) event (configuration_of after)) (same_held same) goes.follows)
+      (subst (λ h. GoesAs (step h) event (configuration_of after)) same goes.follows)
 
   pub advanced_stands : ∥ StandsSoundly (configuration_of after) ∥₁
   advanced_stands = advances_soundly (configuration_of before) event (configuration_of after) advanced_next sound

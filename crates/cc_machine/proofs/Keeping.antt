@@ -1,5 +1,5 @@
 -- What a step of a machine keeps, after room was made for it.
-use Rattle.std.proofs.Common.{◌≡◌, ℕ, zero, suc, ◌-◌, Result, Ok, Err, OnErr, Option, length, sym, ap, subst, arith}
+use Rattle.std.proofs.Common.{◌≡◌, ◌<◌, ◌-◌, ℕ, suc, Result, Ok, Err, OnErr, Option, length, sym, ap, subst, arith}
 use Rattle.cc_device.specs.Devices.{Devices}
 use Rattle.cc_device.specs.Events.{Event}
 use Rattle.cc_machine.specs.Standing.{StandsSoundly, with_devices, StepsAlike, KeepsShapes}
@@ -41,24 +41,27 @@ module _ {before after : Parts} (same : HoldsTheSame before after) where
   pub same_sound : ∥ StandsSoundly (configuration_of before) ∥₁ → ∥ StandsSoundly (configuration_of after) ∥₁
   same_sound sound = subst (λ h. ∥ StandsSoundly h ∥₁) (sym same_held) sound
 
-  pub same_fits : (devices : Devices) → HasShapesOfCells (configuration_of before).store devices → HasShapesOfCells (configuration_of after).store devices
-  same_fits devices fits = subst (λ h. HasShapesOfCells h.store devices) (sym same_held) fits
+-- the room for one step, and what is left after it
+pub room_for_one : {parts : Parts} (spare : ℕ) → HasRoom parts spare → 0 < spare → HasRoom parts 1
+room_for_one {parts} spare room some = record {
+  links = let h = room.links in omega arith;
+  cells = let h = room.cells in omega arith;
+  frames = let h = room.frames in omega arith;
+  positions = let h = room.positions in omega arith;
+}
 
--- the room that is left after a step
-pub room_after : {reserved after : Parts} (spare left : ℕ) → HasRoom reserved spare → HasRoom reserved 1 → UsesOne reserved after → left ≡ spare - 1 → HasRoom after left
-room_after {reserved} {after} zero left all one uses is =
-    let none : left ≡ 0 = omega arith in subst (HasRoom after) (sym none) (uses.room 0 one)
-room_after {reserved} {after} (suc spare) left all one uses is =
-    let fewer : left ≡ spare = omega arith in subst (HasRoom after) (sym fewer) (uses.room spare all)
+pub room_after : {ready after : Parts} (spare left : ℕ) → HasRoom ready spare → UsesOne ready after → 0 < spare → left ≡ spare - 1 → HasRoom after left
+room_after {ready} {after} spare left room uses some is =
+    let one : spare ≡ suc left = omega arith in uses.room left (subst (HasRoom ready) one room)
 
 -- a step of a machine
-module _ {before reserved after : Parts} (devices devices' : Devices) (event : Option Event) (same : HoldsTheSame before reserved)
-    (goes : GoesWith (move (state_in reserved devices)) reserved event after devices') (sound : ∥ StandsSoundly (configuration_of before) ∥₁)
+module _ (before : Parts) {ready after : Parts} (devices devices' : Devices) (event : Option Event) (same : configuration_of ready ≡ configuration_of before)
+    (goes : GoesWith (move (state_in ready devices)) ready event after devices') (sound : ∥ StandsSoundly (configuration_of before) ∥₁)
     (fits : HasShapesOfCells (configuration_of before).store devices) (running : step (configuration_of before) ≡ Final → ⊥) where
   pub held_moves : move (with_devices (configuration_of before) devices) ≡ Moves event (with_devices (configuration_of after) devices')
   held_moves =
       moves_exactly (configuration_of before) devices event (state_in after devices') fits sound running
-      (subst (λ h. MovesAs (move (with_devices h devices)) event (state_in after devices')) (same_held same) goes.moves)
+      (subst (λ h. MovesAs (move (with_devices h devices)) event (state_in after devices')) same goes.moves)
 
   pub held_steps : StepsAlike (configuration_of before) devices event (configuration_of after) devices'
   held_steps = steps_alike (configuration_of before) devices event (configuration_of after) devices' fits held_moves

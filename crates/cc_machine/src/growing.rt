@@ -22,6 +22,16 @@ impl<'a> Parts<'a> {
         self.frames.reserve(steps)
     }
 
+    /// How many of so many steps there are positions for, and at least one.
+    pub fn fitting(&self, steps: u32) -> u32
+        requires { length (loaded_cells self.now) + length self.now.cells.items < 4294967295 }
+        ensures positions { length (loaded_cells self.now) + length self.now.cells.items + result < 4294967296 }
+        ensures some { 0 < result }
+    {
+        let held = self.program.count() + self.cells.len() as u32;
+        steps.min(4294967295 - held).max(1)
+    }
+
     /// Runs the body of a binder next. The binder stands for the position, or for none.
     pub fn enter(&mut self, body: &'a Node, environment: usize, position: Option<u32>)
         requires { vec_len self.old.links < vec_capacity self.old.links }

@@ -68,6 +68,23 @@ impl<'a> Machine<'a> {
         Ok(())
     }
 
+    /// Where there is memory for no step, takes it for so many, or for as many of them as there are positions for. Fails
+    /// only for want of memory. Nothing else changes.
+    pub fn make_room(&mut self, steps: u32) -> Result<(), AllocError>
+        requires { count_cells self.old < 4294967295 }
+        ensures held { held_by self.new ≡ held_by self.old }
+        ensures some { OnOk result (0 < spare_of self.new) }
+        ensures spare { spare_of self.old ≤ spare_of self.new }
+        ensures no_memory { 0 < spare_of self.old → IsOk result }
+    {
+        if self.spare == 0 {
+            let taken = self.parts.fitting(steps);
+            self.parts.reserve(taken as usize)?;
+            self.spare = taken;
+        }
+        Ok(())
+    }
+
     /// Whether the machine is at its end.
     pub fn is_final(&self) -> bool
         ensures { IsTrue result ↔ (table.step (held_by self.now) ≡ table.Final) }
@@ -100,9 +117,9 @@ impl<'a> Machine<'a> {
         ensures spare { OnOk result (spare_of self.old ≤ spare_of self.new + 1) }
         ensures no_memory { 0 < spare_of self.old → (IsWriting (held_by self.old).term → ⊥) → IsOk result }
     {
-        self.parts.reserve(1)?;
+        self.make_room(1)?;
         let event = self.parts.step(devices)?;
-        self.spare = self.spare.saturating_sub(1);
+        self.spare -= 1;
         Ok(event)
     }
 
@@ -126,10 +143,9 @@ impl<'a> Machine<'a> {
         ensures spare { OnOk result (spare_of self.old ≤ spare_of self.new + 1) }
         ensures no_memory { 0 < spare_of self.old → IsOk result }
     {
-        self.parts.reserve(1)?;
-        let left = self.spare.saturating_sub(1);
+        self.make_room(1)?;
         let event = self.parts.advance();
-        self.spare = left;
+        self.spare -= 1;
         Ok(event)
     }
 

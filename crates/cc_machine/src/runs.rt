@@ -59,6 +59,7 @@ impl<'a> Machine<'a> {
         let mut trace = Vec::new(alloc);
         let mut steps = 0;
         while self.goes_on(steps, fuel) {
+            self.make_room((fuel - steps).min(1024))?;
             match self.step(devices)? {
                 Some(event) => trace.push(event)?,
                 None => {}
