@@ -19,11 +19,10 @@ use cc_print::Names;
 use std::alloc::{AllocError, Global};
 
 /// Adds the text of a number.
-pub fn put_integer(alloc: Global, out: &mut String, number: i64) -> Result<(), AllocError>
+pub fn put_integer(out: &mut String, number: i64) -> Result<(), AllocError>
     ensures { OnOk result (string_bytes out.new ≡ string_bytes out.old ++ signed_decimal number) }
 {
-    let text = format!(in alloc; "{number}")?;
-    put(out, text.as_str())
+    write!(out, "{number}")
 }
 
 /// Adds a text in quotes.
@@ -36,13 +35,13 @@ pub fn put_quoted(out: &mut String, text: &str) -> Result<(), AllocError>
 }
 
 /// Adds the text of a literal.
-pub fn put_literal(alloc: Global, out: &mut String, literal: &Lit) -> Result<(), AllocError>
+pub fn put_literal(out: &mut String, literal: &Lit) -> Result<(), AllocError>
     ensures { OnOk result (string_bytes out.new ≡ string_bytes out.old ++ plain.literal_text (literal_of literal.now)) }
 {
     match literal {
         Lit::Unit => put(out, "unit"),
         Lit::Bool(truth) => put(out, if *truth { "true" } else { "false" }),
-        Lit::Int(number) => put_integer(alloc, out, *number),
+        Lit::Int(number) => put_integer(out, *number),
         Lit::Str(text) => put_quoted(out, text.as_str()),
     }
 }
@@ -358,7 +357,7 @@ pub(crate) fn put_term(
     names.locals = depth;
     match &node.form {
         Form::Var(variable) => put_variable(alloc, out, names, *variable),
-        Form::Lit(literal) => put_literal(alloc, out, literal),
+        Form::Lit(literal) => put_literal(out, literal),
         Form::Fun(takes, body) => {
             put_function(alloc, out, names, takes)?;
             put_term(alloc, out, names, deeper(depth)?, body)

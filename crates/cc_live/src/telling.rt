@@ -43,13 +43,13 @@ fn put_text(out: &mut String, text: &str) -> Result<(), AllocError>
 }
 
 // Adds an argument. A text stands without its quotes.
-fn put_argument(alloc: Global, out: &mut String, literal: ShownLit) -> Result<(), AllocError>
+fn put_argument(out: &mut String, literal: ShownLit) -> Result<(), AllocError>
     ensures { OnOk result (string_bytes out.new ≡ string_bytes out.old ++ operand_text (shown_literal literal.entry)) }
 {
     match literal {
         ShownLit::Unit => put(out, "unit"),
         ShownLit::Bool(truth) => put(out, if truth { "true" } else { "false" }),
-        ShownLit::Int(number) => put_integer(alloc, out, number),
+        ShownLit::Int(number) => put_integer(out, number),
         ShownLit::Str(text) => put_text(out, text.as_str()),
     }
 }
@@ -66,7 +66,7 @@ fn put_asked_argument(
     match wanted.argument {
         Some(literal) => {
             put_operation(alloc, out, names, wanted.device, wanted.operation)?;
-            put_argument(alloc, out, literal)
+            put_argument(out, literal)
         }
         None => {
             put_position(alloc, out, names, "_", wanted.device)?;

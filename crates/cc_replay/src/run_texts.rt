@@ -100,23 +100,22 @@ fn put_text(out: &mut String, text: &str) -> Result<(), AllocError>
 }
 
 // Adds what a device took or answered.
-fn put_operand(alloc: Global, out: &mut String, literal: &Lit) -> Result<(), AllocError>
+fn put_operand(out: &mut String, literal: &Lit) -> Result<(), AllocError>
     ensures { OnOk result (string_bytes out.new ≡ string_bytes out.old ++ plain.operand_text (literal_of literal.now)) }
 {
     match literal {
         Lit::Unit => put(out, "unit"),
         Lit::Bool(truth) => put(out, if *truth { "true" } else { "false" }),
-        Lit::Int(number) => put_integer(alloc, out, *number),
+        Lit::Int(number) => put_integer(out, *number),
         Lit::Str(text) => put_text(out, text.as_str()),
     }
 }
 
 // Adds a word and the label of a boundary.
-fn put_label(alloc: Global, out: &mut String, word: &str, label: u32) -> Result<(), AllocError>
+fn put_label(out: &mut String, word: &str, label: u32) -> Result<(), AllocError>
     ensures { OnOk result (string_bytes out.new ≡ string_bytes out.old ++ word.now ++ decimal label) }
 {
-    let text = format!(in alloc; "{word}{label}")?;
-    put(out, text.as_str())
+    write!(out, "{word}{label}")
 }
 
 /// Adds an event. Fails only for want of memory.
@@ -131,22 +130,22 @@ pub fn put_event(
     match event {
         Event::Device { device, op, lit } => {
             put_operation(alloc, out, names, *device, *op)?;
-            put_operand(alloc, out, lit)
+            put_operand(out, lit)
         }
-        Event::Enter(label) => put_label(alloc, out, "enter ", *label),
-        Event::Ended(label) => put_label(alloc, out, "leave ", *label),
-        Event::Exited(label) => put_label(alloc, out, "exit ", *label),
+        Event::Enter(label) => put_label(out, "enter ", *label),
+        Event::Ended(label) => put_label(out, "leave ", *label),
+        Event::Exited(label) => put_label(out, "exit ", *label),
     }
 }
 
 // Adds a literal that is shown.
-fn put_shown_literal(alloc: Global, out: &mut String, literal: ShownLit) -> Result<(), AllocError>
+fn put_shown_literal(out: &mut String, literal: ShownLit) -> Result<(), AllocError>
     ensures { OnOk result (string_bytes out.new ≡ string_bytes out.old ++ literal_text (shown_literal literal.entry)) }
 {
     match literal {
         ShownLit::Unit => put(out, "unit"),
         ShownLit::Bool(truth) => put(out, if truth { "true" } else { "false" }),
-        ShownLit::Int(number) => put_integer(alloc, out, number),
+        ShownLit::Int(number) => put_integer(out, number),
         ShownLit::Str(text) => put_quoted(out, text.as_str()),
     }
 }
@@ -156,7 +155,7 @@ fn put_shown(alloc: Global, out: &mut String, names: &Names, shown: Shown) -> Re
     ensures { OnOk result (string_bytes out.new ≡ string_bytes out.old ++ plain.shown_text names.now.names.items (shown_of shown.entry)) }
 {
     match shown {
-        Shown::Lit(literal) => put_shown_literal(alloc, out, literal),
+        Shown::Lit(literal) => put_shown_literal(out, literal),
         Shown::Function => put(out, "<function>"),
         Shown::TypeFunction => put(out, "<type function>"),
         Shown::Box => put(out, "<box>"),
@@ -166,7 +165,7 @@ fn put_shown(alloc: Global, out: &mut String, names: &Names, shown: Shown) -> Re
             put(out, ">")
         }
         Shown::Label(label) => {
-            put_label(alloc, out, "<exit ", label)?;
+            put_label(out, "<exit ", label)?;
             put(out, ">")
         }
     }

@@ -24,11 +24,10 @@ use cc_tasks::TaskReport;
 use std::alloc::{AllocError, Global};
 
 // Adds the front of a line about a task.
-fn put_task(alloc: Global, out: &mut String, task: usize) -> Result<(), AllocError>
+fn put_task(out: &mut String, task: usize) -> Result<(), AllocError>
     ensures { OnOk result (string_bytes out.new ≡ string_bytes out.old ++ (codes "  " ++ decimal task ++ codes " ")) }
 {
-    let text = format!(in alloc; "  {task} ")?;
-    put(out, text.as_str())
+    write!(out, "  {task} ")
 }
 
 // Adds the line about what a task may operate.
@@ -41,7 +40,7 @@ fn put_task_authority(
 ) -> Result<(), AllocError>
     ensures { OnOk result (string_bytes out.new ≡ string_bytes out.old ++ inner_line (plain.of_task task (authority_text names.now.names.items authority.now))) }
 {
-    put_task(alloc, out, task)?;
+    put_task(out, task)?;
     put_authority(alloc, out, names, authority)?;
     put(out, "\n")
 }
@@ -87,7 +86,7 @@ fn put_task_event(
 ) -> Result<(), AllocError>
     ensures { OnOk result (string_bytes out.new ≡ string_bytes out.old ++ inner_line (plain.task_event_text names.now.names.items (told_event one.now))) }
 {
-    put_task(alloc, out, one.0 as usize)?;
+    put_task(out, one.0 as usize)?;
     put_event(alloc, out, names, &one.1)?;
     put(out, "\n")
 }
@@ -138,7 +137,7 @@ fn put_task_end(
 ) -> Result<(), AllocError>
     ensures { OnOk result (string_bytes out.new ≡ string_bytes out.old ++ inner_line (plain.of_task task (plain.task_end_text names.now.names.items (told_end one.now)))) }
 {
-    put_task(alloc, out, task)?;
+    put_task(out, task)?;
     put_end(alloc, out, names, one.0, one.1)?;
     put(out, "\n")
 }
