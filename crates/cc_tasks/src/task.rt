@@ -25,6 +25,7 @@ impl<'a> Task<'a> {
         ensures step { IfOk result (λ event. TakesStep self.old devices.old (option_map event_of event) self.new devices.new) }
         ensures shapes { KeepsShapes devices.old devices.new }
     {
+        self.machine.make_room(64)?;
         let event = self.machine.step(devices)?;
         self.steps += 1;
         Ok(event)
